@@ -1,8 +1,8 @@
 //! The quantities as types of their own, and the one answer for want of memory.
 
-use std::alloc::AllocError;
-
 ghost use Rattle.std.specs.Prelude.{◌≡◌};
+
+use std::alloc::AllocError;
 
 /// A time or a slew in whole femtoseconds.
 #[derive(Debug, Clone, Copy, PartialEq, Eq, PartialOrd, Ord, Hash, Default, Drop)]
