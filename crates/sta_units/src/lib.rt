@@ -2,7 +2,9 @@
 #![tactic(auto)]
 
 mod copies;
+mod numbers;
 mod units;
 
 pub use copies::Again;
+pub use numbers::{LIM, rnd, root};
 pub use units::{Af, Fs, Memory, Mo, Unit};

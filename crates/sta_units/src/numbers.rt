@@ -1,0 +1,63 @@
+//! Rounded division and whole square roots.
+
+ghost use Rattle.std.specs.Prelude.{◌≡◌, ◌+◌, ◌*◌, ◌^◌, ◌<◌, ◌≤◌, pos, ◌≤ℤ◌, unsigned_abs};
+ghost use Rattle.sta_units.specs.Numbers.{rounded, root_of};
+
+/// The greatest absolute value of a computed quantity, in its own unit.
+pub const LIM: i64 = 1_000_000_000_000;
+
+/// `n / d` to the nearest whole number, halves upward: `floor((2n + d) / (2d))`.
+/// `d` is from 1 to `2^125`, and `n` within `2^125` of 0. Takes no memory.
+pub fn rnd(n: i128, d: i128) -> i128
+    requires positive { pos 1 ≤ℤ d }
+    requires divisor { d ≤ℤ pos (2 ^ 125) }
+    requires dividend { unsigned_abs n ≤ 2 ^ 125 }
+    ensures value { result ≡ rounded n d }
+    ensures bound { unsigned_abs result ≤ unsigned_abs n }
+{
+    (2 * n + d).div_euclid(2 * d)
+}
+
+/// The greatest `r` with `r * r <= n`. Takes no memory.
+pub fn root(n: u128) -> u64
+    ensures value { result ≡ root_of n }
+    ensures below { result * result ≤ n }
+    ensures greatest { n < (result + 1) * (result + 1) }
+{
+    let mut low: u128 = 0;
+    let mut high: u128 = 1 << 64;
+    while high - low > 1 {
+        let middle = (low + high) / 2;
+        if middle * middle <= n {
+            low = middle;
+        } else {
+            high = middle;
+        }
+    }
+    low as u64
+}
+
+#[cfg(test)]
+mod tests {
+    use super::*;
+
+    #[test]
+    fn rounds_halves_upward(rt: HostRuntime) {
+        assert_eq!(rt; rnd(5, 2), 3);
+        assert_eq!(rt; rnd(-5, 2), -2);
+        assert_eq!(rt; rnd(-1, 2), 0);
+        assert_eq!(rt; rnd(7, 5), 1);
+    }
+
+    #[test]
+    fn roots_are_whole(rt: HostRuntime) {
+        for (n, want) in [
+            (0, 0),
+            (24, 4),
+            (25, 5),
+            (2_500_000_000 + 1_400_000_000, 62_449),
+        ] {
+            assert_eq!(rt; root(n), want, "at {n}");
+        }
+    }
+}
