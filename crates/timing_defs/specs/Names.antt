@@ -1,0 +1,16 @@
+-- Names: the identifiers of a netlist (IEEE 1364, "Identifiers"), as lists of bytes.
+use Rattle.std.specs.Prelude.{ℕ, List, Bool, ◌==◌, ◌&&◌, not, nat_le, length}
+use Rattle.std.specs.List.{list_all}
+use Rattle.std.specs.Cmp.Lexicographic.{pointwise}
+
+-- A printable byte of ASCII that is no blank.
+abbrev pub is_graphic : ℕ → Bool
+is_graphic byte = nat_le 33 byte && nat_le byte 126
+
+-- The bytes of a name: at least one, all graphic.
+abbrev pub is_name : List ℕ → Bool
+is_name bytes = not (length bytes == 0) && list_all is_graphic bytes
+
+-- Two names are the same where their bytes are.
+abbrev pub same : List ℕ → List ℕ → Bool
+same = pointwise ◌==◌

@@ -1,0 +1,97 @@
+//! Constraints: clocks, delays and slews at ports, loads, exceptions and derates.
+
+use crate::items::Items;
+use crate::kinds::{Split, Tran};
+use crate::names::Name;
+use sta_units::{Af, Fs};
+
+/// A clock. Its period, its rise and fall within a period and its uncertainties are in fs. `port`
+/// is none for a clock without a port.
+#[derive(Debug, Clone, Drop)]
+pub struct Clock {
+    pub name: Name,
+    pub port: Option<Name>,
+    pub period: Fs,
+    pub rise: Fs,
+    pub fall: Fs,
+    pub unc_setup: Fs,
+    pub unc_hold: Fs,
+}
+
+/// An input or output delay in fs at a port, for a split and a transition. `clock` is the place of
+/// its clock in the list of clocks, from 0.
+#[derive(Debug, Clone, Drop)]
+pub struct PortDelay {
+    pub port: Name,
+    pub split: Split,
+    pub tran: Tran,
+    pub clock: u32,
+    pub delay: Fs,
+}
+
+/// The slew in fs of an input port, for a split and a transition.
+#[derive(Debug, Clone, Drop)]
+pub struct PortSlew {
+    pub port: Name,
+    pub split: Split,
+    pub tran: Tran,
+    pub slew: Fs,
+}
+
+/// The load in aF of a port, for a split.
+#[derive(Debug, Clone, Drop)]
+pub struct PortLoad {
+    pub port: Name,
+    pub split: Split,
+    pub load: Af,
+}
+
+/// What an exception names: a clock, a port, an instance pin (`instance:pin`), an instance, or a
+/// word of which the kind is not written.
+#[derive(Debug, Clone, Drop)]
+pub enum Object {
+    Clock(Name),
+    Port(Name),
+    Pin(Name),
+    Cell(Name),
+    Any(Name),
+}
+
+/// What an exception does: it removes the test of a kind, or sets the number of cycles of a kind.
+#[derive(Debug, Clone, Copy, PartialEq, Eq, Drop)]
+pub enum Effect {
+    FalseSetup,
+    FalseHold,
+    CyclesSetup(u32),
+    CyclesHold(u32),
+}
+
+/// An exception for the paths from one of `from` to one of `to`; none stands for all.
+#[derive(Debug, Clone, Drop)]
+pub struct Exception {
+    pub from: Option<Items<Object>>,
+    pub to: Option<Items<Object>>,
+    pub effect: Effect,
+}
+
+/// Factors of delays in millionths, per split, for cell and register arcs and for net arcs. They
+/// are from 0 to 10,000,000; 1,000,000 changes nothing.
+#[derive(Debug, Clone, Copy, PartialEq, Eq, Drop)]
+pub struct Derates {
+    pub early_cell: u32,
+    pub late_cell: u32,
+    pub early_net: u32,
+    pub late_net: u32,
+}
+
+/// The constraints of a design, each list in the order of the text.
+#[derive(Debug, Clone, Drop)]
+pub struct Constraints {
+    pub clocks: Items<Clock>,
+    pub inputs: Items<PortDelay>,
+    pub outputs: Items<PortDelay>,
+    pub slews: Items<PortSlew>,
+    pub loads: Items<PortLoad>,
+    pub exceptions: Items<Exception>,
+    pub derates: Derates,
+}
