@@ -3,8 +3,10 @@
 
 mod copies;
 mod numbers;
+mod printing;
 mod units;
 
 pub use copies::Again;
 pub use numbers::{LIM, rnd, root};
+pub use printing::print_ps;
 pub use units::{Af, Fs, Memory, Mo, Unit};
