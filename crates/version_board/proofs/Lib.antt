@@ -1,0 +1,4 @@
+pub mod ViewLists
+pub mod Lifted
+pub mod TurnsKept
+pub mod Steps

@@ -1,0 +1,30 @@
+-- The rule of the board, between any two steps.
+use Rattle.std.specs.Prelude.{◌≡◌, ℕ, true, false, List, [], ◌∷◌, Option, Some, None, length, slice_index}
+use Rattle.atomic_table.specs.Table.{State}
+use Rattle.version_board.specs.declared.views.View.{View}
+use Rattle.version_board.specs.Turns.{Turns}
+
+pub record Orderly {A E O : Type 0} (s : State (Option A) (View E O)) : Type 0 where
+  pub wide : length s.words ≡ 3
+  pub deep : length s.homes ≡ 1
+  pub turns : Turns (slice_index s.words 1) (slice_index s.words 0) s.homes s.views
+
+-- the first seat of a board for `all` seats, from the number f over the origin o
+abbrev pub opened : {E O : Type 0} → ℕ → O → ℕ → View E O
+opened f o all = record {
+  number = 1;
+  turn = None;
+  inside = false;
+  marked = false;
+  spent = false;
+  held = [];
+  seen = [];
+  mine = [];
+  looks = [];
+  origin = Some o;
+  first = f;
+  parts = all;
+  maker = true;
+  made = 1;
+  olds = [];
+}

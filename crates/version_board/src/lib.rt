@@ -1,0 +1,9 @@
+//! A board of versions that threads share: a ticket lock over atomic words, with the history of what
+//! was published.
+#![tactic(auto)]
+
+mod plays;
+mod turns;
+mod views;
+
+pub use views::{Old, Stands, View};
