@@ -1,0 +1,17 @@
+-- Faults that are planned by the numbers of calls, counted from 1.
+use Rattle.std.specs.Prelude.{◌==◌, Bool, cond}
+use Rattle.std.specs.List.{list_any}
+use Rattle.sta_outside.specs.Shelf.{raised}
+use Rattle.sta_outside.specs.declared.plan.Plan.{Plan}
+
+-- whether the next call is one that fails
+abbrev pub next_fails : Plan → Bool
+next_fails p = list_any (λ n. n == raised p.calls) p.fails.items
+
+-- the plan with one more fault
+abbrev pub with_fault : Plan → Plan
+with_fault p = record { fails = p.fails; calls = p.calls; faults = raised p.faults }
+
+-- the plan after the next call has begun
+abbrev pub after_call : Plan → Plan
+after_call p = record { fails = p.fails; calls = raised p.calls; faults = cond (next_fails p) (raised p.faults) p.faults }

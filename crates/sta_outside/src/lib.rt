@@ -1,0 +1,16 @@
+//! What the server asks of the outside: a shelf of named documents, a sink for its output, and
+//! a gate that tests hold its threads at.
+#![tactic(auto)]
+
+mod gate;
+mod mem_shelf;
+mod mem_sink;
+mod plan;
+mod shelf;
+mod sink;
+
+pub use gate::{Gate, NoGate, Point};
+pub use mem_shelf::MemShelf;
+pub use mem_sink::MemSink;
+pub use shelf::{DOCUMENT_LIMIT, Fetch, Shelf};
+pub use sink::{PutFault, Sink};
