@@ -1,0 +1,185 @@
+//! A list in chunks, which a table shares with its copies.
+
+ghost use Rattle.std.specs.Prelude.{◌≡◌, ◌<◌, ◌≤◌, ◌/◌, [], ◌∷◌, ◌++◌, length, slice_get, slice_set, IfOk, OnOk, OnErr, flat_map};
+ghost use Rattle.std.specs.Arc.{arc_value};
+ghost use Rattle.cow_table.specs.Pieces.{IsCut};
+
+use crate::chunks::{CHUNK, Chunk, push_in, set_in};
+use sta_units::{Again, Memory};
+use std::alloc::Global;
+use std::marker::Model;
+use std::sync::Arc;
+
+/// A list whose copies share what they have in common: a copy costs one step for each 256 items,
+/// and the first write to a chunk that is shared copies that chunk alone.
+#[derive(Debug, Drop)]
+pub struct CowTable<T> {
+    chunks: Vec<Arc<Chunk<T>>>,
+    len: usize,
+    alloc: Global,
+}
+
+impl<T> Model for CowTable<T> {
+    ghost use Rattle.std.specs.Prelude.{List, ◌≡◌, length, flat_map};
+    ghost use Rattle.std.specs.Coded.{coded_list};
+    ghost use Rattle.std.specs.Arc.{arc_value};
+    ghost use Rattle.cow_table.specs.Pieces.{IsCut};
+
+    ghost Value = { List T };
+
+    ghost coded = { coded_list T.code };
+
+    ghost view = { λ t. flat_map arc_value t.chunks.items };
+
+    ghost invariant = { λ t. IsCut arc_value t.chunks.items × (t.len ≡ length (flat_map arc_value t.chunks.items)) };
+}
+
+impl<T> CowTable<T> {
+    /// An empty table, which takes no memory; its growth takes it from `alloc`.
+    pub fn new(alloc: Global) -> CowTable<T>
+        ensures { result ≡ [] }
+    {
+        CowTable {
+            chunks: Vec::new(alloc),
+            len: 0,
+            alloc,
+        }
+    }
+
+    /// The number of items.
+    pub fn len(&self) -> usize
+        ensures { result ≡ length self.now }
+    {
+        self.len
+    }
+
+    /// The item at `i`, which is below the number of items.
+    pub fn get(&self, i: usize) -> &T
+        requires { i < length self.now }
+        ensures { slice_get self.now i ≡ Some result.now }
+    {
+        item_in(self.chunks.as_slice(), i)
+    }
+}
+
+impl<T: Drop> CowTable<T> {
+    /// A copy, which shares each chunk until one of its owners writes it; a later change of the
+    /// table or of the copy leaves the other as it is.
+    pub fn copy(&self) -> Result<CowTable<T>, Memory>
+        ensures { IfOk result (λ table. table ≡ self.now) }
+    {
+        let chunks = self.chunks.clone()?;
+        Ok(CowTable {
+            chunks,
+            len: self.len,
+            alloc: self.alloc,
+        })
+    }
+}
+
+impl<T: Again + Drop> CowTable<T> {
+    /// Writes `value` at `i`, which is below the number of items; a refusal leaves the table as it
+    /// was. No copy of the table changes.
+    pub fn set(&mut self, i: usize, value: T) -> Result<(), Memory>
+        requires { i < length self.old }
+        ensures ok { OnOk result (self.new ≡ slice_set self.old i value) }
+        ensures err { OnErr result (self.new ≡ self.old) }
+    {
+        set_at(self.chunks.as_mut_slice(), i, value)
+    }
+
+    /// Adds `value` at the end; a refusal leaves the table as it was. No copy of the table changes.
+    pub fn push(&mut self, value: T) -> Result<(), Memory>
+        ensures ok { OnOk result (self.new ≡ self.old ++ value ∷ []) }
+        ensures err { OnErr result (self.new ≡ self.old) }
+    {
+        let Some(len) = self.len.checked_add(1) else {
+            return Err(Memory);
+        };
+        push_at(&mut self.chunks, self.alloc, self.len, value)?;
+        self.len = len;
+        Ok(())
+    }
+}
+
+/// The item at `i` of the chunks.
+fn item_in<T>(chunks: &[Arc<Chunk<T>>], i: usize) -> &T
+    requires cut { IsCut arc_value chunks.now }
+    requires within { i < length (flat_map arc_value chunks.now) }
+    ensures { slice_get (flat_map arc_value chunks.now) i ≡ Some result.now }
+{
+    chunks[i / CHUNK].get(i % CHUNK)
+}
+
+/// Writes `value` at `i` of the chunks; a refusal leaves the items as they were.
+fn set_at<T: Again + Drop>(chunks: &mut [Arc<Chunk<T>>], i: usize, value: T) -> Result<(), Memory>
+    requires cut { IsCut arc_value chunks.old }
+    requires within { i < length (flat_map arc_value chunks.old) }
+    ensures cut { IsCut arc_value chunks.new }
+    ensures ok { OnOk result (flat_map arc_value chunks.new ≡ slice_set (flat_map arc_value chunks.old) i value) }
+    ensures err { OnErr result (flat_map arc_value chunks.new ≡ flat_map arc_value chunks.old) }
+{
+    set_in(&mut chunks[i / CHUNK], i % CHUNK, value)
+}
+
+/// Adds `value` after the `len` items of the chunks; a refusal leaves the items as they were.
+fn push_at<T: Again + Drop>(
+    chunks: &mut Vec<Arc<Chunk<T>>>,
+    alloc: Global,
+    len: usize,
+    value: T,
+) -> Result<(), Memory>
+    requires cut { IsCut arc_value chunks.old.items }
+    requires counted { len ≡ length (flat_map arc_value chunks.old.items) }
+    ensures cut { IsCut arc_value chunks.new.items }
+    ensures ok { OnOk result (flat_map arc_value chunks.new.items ≡ flat_map arc_value chunks.old.items ++ value ∷ []) }
+    ensures err { OnErr result (flat_map arc_value chunks.new.items ≡ flat_map arc_value chunks.old.items) }
+{
+    if len / CHUNK < chunks.len() {
+        push_last(chunks.as_mut_slice(), len, value)
+    } else {
+        begin(chunks, alloc, len, value)
+    }
+}
+
+/// Adds `value` to the last chunk, which has room.
+fn push_last<T: Again + Drop>(
+    chunks: &mut [Arc<Chunk<T>>],
+    len: usize,
+    value: T,
+) -> Result<(), Memory>
+    requires cut { IsCut arc_value chunks.old }
+    requires counted { len ≡ length (flat_map arc_value chunks.old) }
+    requires room { len / 256 < length chunks.old }
+    ensures cut { IsCut arc_value chunks.new }
+    ensures ok { OnOk result (flat_map arc_value chunks.new ≡ flat_map arc_value chunks.old ++ value ∷ []) }
+    ensures err { OnErr result (flat_map arc_value chunks.new ≡ flat_map arc_value chunks.old) }
+{
+    push_in(&mut chunks[len / CHUNK], value)
+}
+
+/// Begins a chunk with `value`, where every chunk is full.
+fn begin<T: Drop>(
+    chunks: &mut Vec<Arc<Chunk<T>>>,
+    alloc: Global,
+    len: usize,
+    value: T,
+) -> Result<(), Memory>
+    requires cut { IsCut arc_value chunks.old.items }
+    requires counted { len ≡ length (flat_map arc_value chunks.old.items) }
+    requires full { length chunks.old.items ≤ len / 256 }
+    ensures cut { IsCut arc_value chunks.new.items }
+    ensures ok { OnOk result (flat_map arc_value chunks.new.items ≡ flat_map arc_value chunks.old.items ++ value ∷ []) }
+    ensures err { OnErr result (flat_map arc_value chunks.new.items ≡ flat_map arc_value chunks.old.items) }
+{
+    let chunk = chunk_of(alloc, value)?;
+    chunks.push(chunk).map_err(|_| Memory)
+}
+
+/// A chunk of one item, with one owner.
+fn chunk_of<T: Drop>(alloc: Global, first: T) -> Result<Arc<Chunk<T>>, Memory>
+    ensures { IfOk result (λ chunk. arc_value chunk ≡ first ∷ []) }
+{
+    let chunk = Chunk::of(alloc, first)?;
+    Arc::new(alloc, chunk).map_err(|_| Memory)
+}
