@@ -1,3 +1,4 @@
+pub mod Codes
 pub mod Names
 pub mod formers
 pub mod Clocking

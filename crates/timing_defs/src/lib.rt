@@ -3,26 +3,40 @@
 //! resistances whole milliohms (mΩ).
 #![tactic(auto)]
 
+mod codes;
 mod constraints;
 mod design;
 mod edge_times;
+mod edits;
+mod faults;
 mod items;
 mod kinds;
+mod liberty_tree;
 mod library;
 mod names;
 mod netlist;
 mod parasitics;
+mod reports;
 mod rows;
+mod scripts;
+mod texts;
 
+pub use codes::{Code, ReadFault};
 pub use constraints::{
     Clock, Constraints, Derates, Effect, Exception, Object, PortDelay, PortLoad, PortSlew,
 };
 pub use design::Design;
 pub use edge_times::{EdgeTime, EdgeTimes};
+pub use edits::{Eco, Edit, Entry};
+pub use faults::{Fault, Large, Place, QueryFault};
 pub use items::Items;
 pub use kinds::{ArcKind, Dir, Kind, Split, Tran};
+pub use liberty_tree::{Item, Lexeme, Tree};
 pub use library::{Cell, CellArc, CellPin, CellTest, Library, Table, Units};
 pub use names::{Name, same_name};
 pub use netlist::{Conn, Inst, Module, Port};
 pub use parasitics::{NetRc, Parasitics, RcCap, RcNode, RcRes};
+pub use reports::{EndRow, Query, Report};
 pub use rows::{BackRow, Capture, Launch, NodeRow, Path, PathNode, PinCap, Rows};
+pub use scripts::{Answer, Command, Row, Script, Totals, Transcript};
+pub use texts::{Sort, Style};
