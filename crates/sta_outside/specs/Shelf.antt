@@ -15,6 +15,10 @@ held (d ∷ ds) name = cond (bytes_eq d.0 name) (Some d.1) (held ds name)
 abbrev pub document_limit : ℕ
 document_limit = 67108864
 
+-- the map of a shelf that does not tell its documents
+abbrev pub untold : Option (List (List ℕ × List ℕ))
+untold = None
+
 -- where the map is told, it has these bytes under the name
 abbrev pub Told : Option (List (List ℕ × List ℕ)) → List ℕ → List ℕ → Type 0
 Told None name bytes = ⊤

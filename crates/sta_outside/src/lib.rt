@@ -2,15 +2,19 @@
 //! a gate that tests hold its threads at.
 #![tactic(auto)]
 
+mod file_shelf;
 mod gate;
 mod mem_shelf;
 mod mem_sink;
 mod plan;
 mod shelf;
 mod sink;
+mod std_sink;
 
+pub use file_shelf::FileShelf;
 pub use gate::{Gate, NoGate, Point};
 pub use mem_shelf::MemShelf;
 pub use mem_sink::MemSink;
 pub use shelf::{DOCUMENT_LIMIT, Fetch, Shelf};
 pub use sink::{PutFault, Sink};
+pub use std_sink::StdSink;

@@ -1,0 +1,2 @@
+-- Lemmas on writing in pieces.
+pub mod Streams
