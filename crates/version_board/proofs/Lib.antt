@@ -1,4 +1,6 @@
 pub mod ViewLists
 pub mod Lifted
+pub mod Logs
 pub mod TurnsKept
+pub mod HistoryKept
 pub mod Steps

@@ -1,3 +1,4 @@
 pub mod Turns
+pub mod History
 pub mod Steps
 pub mod Orderly

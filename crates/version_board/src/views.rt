@@ -84,10 +84,10 @@ impl<T: Stands> TableRule<
     View<<T as Stands>::Entry, <T as Stands>::Origin>,
     (Snapshot<T>, u64),
 > for Rule<T> {
-    ghost use Rattle.std.specs.Arc.{arc_value};
+    ghost use Rattle.version_board.specs.History.{shared};
     ghost use Rattle.version_board.specs.Orderly.{Orderly, opened};
 
-    ghost holds = { λ key. Orderly };
+    ghost holds = { λ key. Orderly (shared T.entries T.from T.origin T.by) (T.from key.0.value) (T.origin key.0.value) };
 
     ghost first = { λ key. opened (T.from key.0.value) (T.origin key.0.value) key.1 };
 }
