@@ -1,2 +1,4 @@
 pub mod Rounding
 pub mod Roots
+pub mod Digits
+pub mod Scaling
