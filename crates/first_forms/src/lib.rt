@@ -1,0 +1,11 @@
+//! Readers of the program's first forms of input, which are small parts of the formats: the words
+//! of its command line, a constraints text with no constraints, scripts of one question, libraries
+//! of one cell, and netlists with plain names. Each gives the value of a text, or none where the
+//! text is not of the form.
+#![tactic(auto)]
+
+mod blanks;
+mod words;
+
+pub use blanks::{first_constraints, is_blank};
+pub use words::{Run, first_words};
