@@ -5,6 +5,7 @@ use Rattle.std.specs.Result.{OnOk, OnErr}
 use Rattle.std.proofs.Math.Nat.{mod-lt, div-add-mod}
 use Rattle.std.proofs.Common.{arith, sym, ap, ◌∙◌, subst, append-nil, append_assoc, length-append}
 use Rattle.std.proofs.lemmas.List.{set-append_left, set-append_right, length-set}
+use Rattle.std.proofs.lemmas.Result.{on_ok_weaker, on_err_weaker}
 use Rattle.cow_table.specs.Pieces.{IsCut}
 
 get_left : {A : Type 0} (xs ys : List A) (i : ℕ) → i < length xs → slice_get (xs ++ ys) i ≡ slice_get xs i
@@ -16,6 +17,11 @@ get_right : {A : Type 0} (xs ys : List A) (n i : ℕ) → n ≡ length xs + i �
 get_right [] ys n i e = let same : n ≡ i = omega arith in ap (λ m. slice_get ys m) same
 get_right (x ∷ xs) ys zero i e = absurd (omega arith)
 get_right (x ∷ xs) ys (suc n) i e = get_right xs ys n i (omega arith)
+
+-- what holds after a call whether or not it was refused
+both : {T E P : Type 0} (r : Result T E) → OnOk r P → OnErr r P → P
+both (Ok x) p q = p
+both (Err e) p q = q
 
 module _ {X A : Type 0} (f : X → List A) where
   cut-cons : (x : X) (xs : List X) → length (f x) ≡ 256 → IsCut f xs → IsCut f (x ∷ xs)
@@ -126,7 +132,7 @@ module _ {X A : Type 0} (f : X → List A) where
       ap (λ n. slice_get (flat_map f xs) n) (sym (div-add-mod i 256))
       ∙ item xs (i / 256) (i % 256) x cut (in_bounds xs i cut within) (in_piece xs i x cut within e) e
 
-  pub put_at : (xs : List X) (i : ℕ) (x y : X) (v : A) → IsCut f xs → i < length (flat_map f xs) → x ≡ get_or xs (i / 256) x → f y ≡ set (f x) (i % 256) v
+  put_at : (xs : List X) (i : ℕ) (x y : X) (v : A) → IsCut f xs → i < length (flat_map f xs) → x ≡ get_or xs (i / 256) x → f y ≡ set (f x) (i % 256) v
       → IsCut f (set xs (i / 256) y) × (flat_map f (set xs (i / 256) y) ≡ set (flat_map f xs) i v)
   put_at xs i x y v cut within e new = (
     put_cut xs (i / 256) x y cut e (ap length new ∙ length-set (f x) (i % 256) v),
@@ -134,17 +140,17 @@ module _ {X A : Type 0} (f : X → List A) where
         ∙ ap (λ n. set (flat_map f xs) n v) (div-add-mod i 256),
   )
 
-  pub kept_at : (xs : List X) (k : ℕ) (x y : X) → IsCut f xs → x ≡ get_or xs k x → f y ≡ f x
+  kept_at : (xs : List X) (k : ℕ) (x y : X) → IsCut f xs → x ≡ get_or xs k x → f y ≡ f x
       → IsCut f (set xs k y) × (flat_map f (set xs k y) ≡ flat_map f xs)
   kept_at xs k x y cut e same = (put_cut xs k x y cut e (ap length same), kept xs k x y e same)
 
-  pub grown_at : (xs : List X) (n : ℕ) (x y : X) (v : A) → IsCut f xs → n ≡ length (flat_map f xs) → n / 256 < length xs → x ≡ get_or xs (n / 256) x → f y ≡ f x ++ v ∷ []
+  grown_at : (xs : List X) (n : ℕ) (x y : X) (v : A) → IsCut f xs → n ≡ length (flat_map f xs) → n / 256 < length xs → x ≡ get_or xs (n / 256) x → f y ≡ f x ++ v ∷ []
       → IsCut f (set xs (n / 256) y) × (flat_map f (set xs (n / 256) y) ≡ flat_map f xs ++ v ∷ [])
   grown_at xs n x y v cut counted low e new =
       let part : n % 256 < 256 = mod-lt n (omega arith) in
       grown xs (n / 256) x y v cut low (omega (arith, counted, part, div-add-mod n 256)) e new
 
-  pub begun_at : (xs : List X) (n : ℕ) (y : X) (v : A) → IsCut f xs → n ≡ length (flat_map f xs) → length xs ≤ n / 256 → f y ≡ v ∷ []
+  begun_at : (xs : List X) (n : ℕ) (y : X) (v : A) → IsCut f xs → n ≡ length (flat_map f xs) → length xs ≤ n / 256 → f y ≡ v ∷ []
       → IsCut f (xs ++ y ∷ []) × (flat_map f (xs ++ y ∷ []) ≡ flat_map f xs ++ v ∷ [])
   begun_at xs n y v cut counted full new =
       begun xs y v cut (omega (arith, counted, full, div-add-mod n 256)) new
@@ -168,7 +174,30 @@ module _ {X A : Type 0} (f : X → List A) where
       let first : f y ≡ f x = z.0 in
       ((ap length first ∙ cut.0, rest.0), ap (λ l. l ++ flat_map f (b ∷ bs)) first ∙ ap (λ l. f x ++ l) rest.1)
 
--- what holds after a call whether or not it was refused
-pub both : {T E P : Type 0} (r : Result T E) → OnOk r P → OnErr r P → P
-both (Ok x) p q = p
-both (Err e) p q = q
+  -- the pieces and their items after a write that may be refused
+  pub record IsWritten {T E : Type 0} (r : Result T E) (xs ys : List X) (items : List A) : Type 0 where
+    pub cut : IsCut f ys
+    pub ok : OnOk r (flat_map f ys ≡ items)
+    pub err : OnErr r (flat_map f ys ≡ flat_map f xs)
+
+  pub set_or_kept : {T E : Type 0} (r : Result T E) (xs : List X) (i : ℕ) (x y : X) (v : A) → IsCut f xs → i < length (flat_map f xs) → x ≡ get_or xs (i / 256) x
+      → OnOk r (f y ≡ set (f x) (i % 256) v) → OnErr r (f y ≡ f x) → IsWritten r xs (set xs (i / 256) y) (set (flat_map f xs) i v)
+  set_or_kept r xs i x y v cut within e ok err =
+      let new = λ (h : f y ≡ set (f x) (i % 256) v). put_at xs i x y v cut within e h in
+      let same = λ (h : f y ≡ f x). kept_at xs (i / 256) x y cut e h in
+      record {
+        cut = both r (on_ok_weaker r (λ h. (new h).0) ok) (on_err_weaker r (λ h. (same h).0) err);
+        ok = on_ok_weaker r (λ h. (new h).1) ok;
+        err = on_err_weaker r (λ h. (same h).1) err;
+      }
+
+  pub grown_or_kept : {T E : Type 0} (r : Result T E) (xs : List X) (n : ℕ) (x y : X) (v : A) → IsCut f xs → n ≡ length (flat_map f xs) → n / 256 < length xs → x ≡ get_or xs (n / 256) x
+      → OnOk r (f y ≡ f x ++ v ∷ []) → OnErr r (f y ≡ f x) → IsWritten r xs (set xs (n / 256) y) (flat_map f xs ++ v ∷ [])
+  grown_or_kept r xs n x y v cut counted room e ok err =
+      let new = λ (h : f y ≡ f x ++ v ∷ []). grown_at xs n x y v cut counted room e h in
+      let same = λ (h : f y ≡ f x). kept_at xs (n / 256) x y cut e h in
+      record {
+        cut = both r (on_ok_weaker r (λ h. (new h).0) ok) (on_err_weaker r (λ h. (same h).0) err);
+        ok = on_ok_weaker r (λ h. (new h).1) ok;
+        err = on_err_weaker r (λ h. (same h).1) err;
+      }
