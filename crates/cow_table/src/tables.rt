@@ -68,7 +68,7 @@ impl<T: Drop> CowTable<T> {
     pub fn copy(&self) -> Result<CowTable<T>, Memory>
         ensures { IfOk result (λ table. table ≡ self.now) }
     {
-        let chunks = self.chunks.clone()?;
+        let chunks = shared(&self.chunks)?;
         Ok(CowTable {
             chunks,
             len: self.len,
@@ -106,6 +106,16 @@ impl<T: Drop> Again for CowTable<T> {
     fn again(&self, _alloc: Global) -> Result<CowTable<T>, Memory> {
         self.copy()
     }
+}
+
+/// The same chunks, each with one owner more.
+fn shared<T: Drop>(chunks: &Vec<Arc<Chunk<T>>>) -> Result<Vec<Arc<Chunk<T>>>, Memory>
+    requires { IsCut arc_value chunks.now.items }
+    ensures cut { IfOk result (λ copies. IsCut arc_value copies.items) }
+    ensures items { IfOk result (λ copies. flat_map arc_value copies.items ≡ flat_map arc_value chunks.now.items) }
+{
+    let copies = chunks.clone()?;
+    Ok(copies)
 }
 
 /// The item at `i` of the chunks.
