@@ -1,14 +1,14 @@
 -- Each step keeps what the rule says of tickets, turns and the slot.
-use Rattle.std.proofs.Common.{◌≡◌, ◌≢◌, ℕ, ◌+◌, ◌^◌, ◌<◌, true, false, List, length, set, sym, ap, ◌∙◌, subst, ⊎_elim, inl, inr, arith, Some, None}
+use Rattle.std.proofs.Common.{◌≡◌, ◌≢◌, ℕ, ◌+◌, ◌^◌, ◌<◌, true, false, List, [], ◌∷◌, ◌++◌, length, set, sym, ap, ◌∙◌, subst, ⊎_elim, inl, inr, arith, Some, None}
 use mathlib.Core.Logic.{dite}
 use mathlib.Core.Option.{none, some, some-injective}
 use native.Mathlib.Decide.{ℕ_discrete}
 use lib.ListN.{get_elem?}
-use Rattle.atomic_table.proofs.Lists.{set_here, set_else}
+use Rattle.atomic_table.proofs.Lists.{set_here, set_else, at_longer}
 use Rattle.version_board.specs.declared.views.View.{View}
 use Rattle.version_board.specs.Turns.{Homes, Sits, SomeInside, Turns}
 use Rattle.version_board.specs.Steps.{waiting}
-use Rattle.version_board.proofs.ViewLists.{each_set, pairs_set, set_there}
+use Rattle.version_board.proofs.ViewLists.{each_more, each_set, pairs_set, set_there}
 
 module _ {E O : Type 0} where
   -- the two have drawn one ticket
@@ -97,4 +97,18 @@ module _ {A E O : Type 0} where
         out = each_set (λ _ u. u.inside ≡ true → get_elem? (set homes 0 (some (Some a))) 0 ≡ some none) views id w (λ e. let h : false ≡ true = sym inside ∙ e in absurd cc)
             (λ j u other at_j e. absurd (other_out j u other at_j e));
         head = inl (a, set_here homes 0 (some (Some a)) (omega arith));
+      }
+
+  -- a seat that has no turn comes in
+  pub comes_in : (serving ticket : ℕ) (homes : Homes A) (views : List (View E O)) → Turns serving ticket homes views → (w : View E O) → w.turn ≡ None → w.inside ≡ false
+      → Turns serving ticket homes (views ++ w ∷ [])
+  comes_in serving ticket homes views r w idle outside = let none_drawn : (t : ℕ) → w.turn ≡ Some t → ⊥ = λ t e. let h : None ≡ Some t = sym idle ∙ e in cc in
+      let not_in : w.inside ≡ true → ⊥ = λ e. let h : false ≡ true = sym outside ∙ e in cc in record {
+        low = r.low;
+        high = r.high;
+        sits = each_more (λ _ u. Sits serving ticket u) views w (record { waits = λ t e. absurd (none_drawn t e); served = λ e. absurd (not_in e) }) r.sits;
+        apart = λ i j b c t at_i at_j on_b on_c. each_more (λ k u. u.turn ≡ Some t → k ≡ j) views w (λ e. absurd (none_drawn t e))
+            (λ k u at_k on_u. each_more (λ l z. z.turn ≡ Some t → k ≡ l) views w (λ e. absurd (none_drawn t e)) (λ l z at_l on_z. r.apart k l u z t at_k at_l on_u on_z) j c at_j on_c) i b at_i on_b;
+        out = each_more (λ _ u. u.inside ≡ true → get_elem? homes 0 ≡ some none) views w (λ e. absurd (not_in e)) r.out;
+        head = ⊎_elim (λ (h : (a : A) × (get_elem? homes 0 ≡ some (some (Some a)))). inl h) (λ (h : SomeInside views). inr (h.0, h.1, at_longer views (w ∷ []) h.0 h.1 h.2, h.3)) r.head;
       }

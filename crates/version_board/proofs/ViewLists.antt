@@ -1,6 +1,6 @@
 -- Facts of a list of views, after one of them has changed.
-use Rattle.std.proofs.Common.{◌≡◌, ◌≢◌, ℕ, zero, suc, ◌<◌, List, [], ◌∷◌, length, get_or, set, sym, refl, subst, ⊎_elim, arith}
-use mathlib.Core.Option.{some, some-ne-none}
+use Rattle.std.proofs.Common.{◌≡◌, ◌≢◌, ℕ, zero, suc, ◌<◌, List, [], ◌∷◌, ◌++◌, length, get_or, set, sym, refl, subst, ⊎_elim, arith}
+use mathlib.Core.Option.{some, some-injective, some-ne-none}
 use lib.ListN.{get_elem?}
 use lib.Seq.{set-get_or}
 use Rattle.atomic_table.specs.Table.{State, stepped, keeps}
@@ -32,6 +32,15 @@ module _ {V : Type 0} where
   pairs_set R vs me w turn here old i j v u at_i at_j = each_set (λ (k : ℕ) (d : V). R d u → k ≡ j) vs me w
       (each_set (λ (k : ℕ) (d : V). R w d → me ≡ k) vs me w (λ _ c. me) (λ k d other at r. absurd (here k d other at r)) j u at_j)
       (λ k d other at. each_set (λ (l : ℕ) (f : V). R d f → k ≡ l) vs me w (λ r. absurd (here k d other at (turn d w r))) (λ l f _ at_l. old k l d f at at_l) j u at_j) i v at_i
+
+-- a fact of each view, after w came
+pub each_more : {V : Type 0} (K : ℕ → V → Type 0) (vs : List V) (w : V) → K (length vs) w → ((j : ℕ) (d : V) → get_elem? vs j ≡ some d → K j d)
+    → (j : ℕ) (d : V) → get_elem? (vs ++ w ∷ []) j ≡ some d → K j d
+each_more K [] w here old zero d e = subst (K zero) (some-injective w d e) here
+each_more K [] w here old (suc j) d e = absurd (some-ne-none d (sym e))
+each_more K (x ∷ xs) w here old zero d e = old zero d e
+each_more {V} K (x ∷ xs) w here old (suc j) d e = let H : ℕ → V → Type 0 = λ k u. K (suc k) u in let here' : K (suc (length xs)) w = subst (λ n. K n w) (omega arith) here in
+    each_more H xs w here' (λ k u at. old (suc k) u at) j d e
 
 -- a step that changes nothing
 pub unmoved : {S V : Type 0} (R : State S V → Type 0) (s : State S V) (i id : ℕ) (c : List (ℕ × S)) (v : V) → get_elem? s.views id ≡ some v → R s

@@ -1,4 +1,5 @@
 pub mod Turns
 pub mod History
+pub mod Seats
 pub mod Steps
 pub mod Orderly

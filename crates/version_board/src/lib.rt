@@ -3,6 +3,7 @@
 #![tactic(auto)]
 
 mod plays;
+mod seats;
 mod turns;
 mod views;
 

@@ -87,7 +87,7 @@ impl<T: Stands> TableRule<
     ghost use Rattle.version_board.specs.History.{shared};
     ghost use Rattle.version_board.specs.Orderly.{Orderly, opened};
 
-    ghost holds = { λ key. Orderly (shared T.entries T.from T.origin T.by) (T.from key.0.value) (T.origin key.0.value) };
+    ghost holds = { λ key. Orderly (shared T.entries T.from T.origin T.by) (T.from key.0.value) (T.origin key.0.value) key.1 };
 
     ghost first = { λ key. opened (T.from key.0.value) (T.origin key.0.value) key.1 };
 }

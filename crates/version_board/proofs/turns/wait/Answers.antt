@@ -4,7 +4,7 @@ use Rattle.version_board.proofs.Steps.{looks}
 use Rattle.version_board.proofs.turns.wait.Goals as goal
 
 pub load-requires : goal.load-requires
-load-requires g c = (search rules, search rules, looks _ _ _ _ _ _ c.args.ticket (search rules) (search rules) (search rules))
+load-requires g c = (search rules, search rules, looks _ _ _ _ _ _ _ c.args.ticket (search rules) (search rules) (search rules))
 
 pub exchange-requires : goal.exchange-requires
 exchange-requires g c = let on : c.loop.place.me.0.turn ≡ Some c.load.result = search rules in let t = c.load.ensures.2.0 on in
