@@ -90,3 +90,14 @@ impl EdgeTimes {
         }
     }
 }
+
+impl Clone for EdgeTimes {
+    ghost use Rattle.std.specs.Prelude.{◌≡◌};
+
+    ghost is_clone = { λ x y. y ≡ x };
+
+    fn clone(&self) -> Result<EdgeTimes, AllocError> {
+        let times = SmallVec::from_slice(*self.times.allocator(), self.times.as_slice())?;
+        Ok(EdgeTimes { times })
+    }
+}

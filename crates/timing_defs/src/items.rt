@@ -3,7 +3,7 @@
 ghost use Rattle.std.specs.Prelude.{◌≡◌, [], ◌∷◌, ◌++◌, ◌<◌, ◌↔◌, length, slice_get, IsTrue, IfOk, OnOk, OnErr, OnSome};
 ghost use Rattle.std.specs.Option.{option_copied};
 
-use sta_units::{Again, Memory};
+use sta_units::Memory;
 use std::alloc::{AllocError, Global};
 use std::marker::Model;
 
@@ -32,6 +32,15 @@ impl<T> Items<T> {
         Items {
             items: Vec::new(alloc),
         }
+    }
+
+    /// The empty list, with room for that many elements.
+    pub fn with_room(alloc: Global, room: usize) -> Result<Items<T>, Memory>
+        ensures { IfOk result (λ made. made ≡ []) }
+    {
+        Ok(Items {
+            items: Vec::with_capacity(alloc, room)?,
+        })
     }
 
     /// The list of a vector's elements. Takes no memory.
@@ -86,6 +95,17 @@ impl<T: Drop> Items<T> {
             Ok(()) => Ok(()),
             Err(_) => Err(Memory),
         }
+    }
+}
+
+impl<T: Copy> Items<T> {
+    /// The list of a copy of these elements.
+    pub fn from_slice(alloc: Global, items: &[T]) -> Result<Items<T>, Memory>
+        ensures { IfOk result (λ made. made ≡ items.now) }
+    {
+        Ok(Items {
+            items: Vec::from_slice(alloc, items)?,
+        })
     }
 }
 

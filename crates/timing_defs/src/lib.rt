@@ -5,6 +5,7 @@
 
 mod codes;
 mod constraints;
+mod copies;
 mod design;
 mod edge_times;
 mod edits;

@@ -4,7 +4,7 @@ ghost use Rattle.std.specs.Prelude.{◌≡◌, ◌↔◌, true, false, IsTrue, I
 ghost use Rattle.std.specs.List.{list_all};
 ghost use Rattle.timing_defs.specs.Names.{is_graphic, is_name};
 
-use sta_units::{Again, Memory};
+use sta_units::Memory;
 use std::alloc::{AllocError, Global};
 use std::cmp::Ordering;
 use std::hash::{Hash, Hasher};
@@ -85,6 +85,16 @@ impl Name {
     {
         let Name { bytes } = self;
         bytes
+    }
+}
+
+impl Name {
+    /// A copy of the name.
+    pub fn copied(&self, alloc: Global) -> Result<Name, Memory>
+        ensures { IfOk result (λ copy. copy ≡ self.now) }
+    {
+        let bytes = Vec::from_slice(alloc, self.bytes.as_slice())?;
+        Ok(Name { bytes })
     }
 }
 

@@ -35,7 +35,7 @@ pub struct Capture {
 
 /// The row of a node (a pin with a transition): its slews in fs, none where nothing reaches it,
 /// and its arrivals per launch edge, of both splits.
-#[derive(Debug, Drop)]
+#[derive(Debug, Clone, Drop)]
 pub struct NodeRow {
     pub early_slew: Option<Fs>,
     pub late_slew: Option<Fs>,
@@ -44,7 +44,7 @@ pub struct NodeRow {
 }
 
 /// The required times of a node per launch edge, of both splits.
-#[derive(Debug, Drop)]
+#[derive(Debug, Clone, Drop)]
 pub struct BackRow {
     pub early: EdgeTimes,
     pub late: EdgeTimes,

@@ -1,0 +1,432 @@
+//! Copies of the types that a store keeps, each equal to what it was made of.
+
+ghost use Rattle.std.specs.Prelude.{◌≡◌, take, IfOk};
+
+use crate::constraints::{
+    Clock, Constraints, Derates, Effect, Exception, Object, PortDelay, PortLoad, PortSlew,
+};
+use crate::design::Design;
+use crate::edge_times::{EdgeTime, EdgeTimes};
+use crate::edits::{Eco, Edit, Entry};
+use crate::items::Items;
+use crate::kinds::{ArcKind, Dir, Kind, Split, Tran};
+use crate::library::{Cell, CellArc, CellPin, CellTest, Library, Table};
+use crate::names::Name;
+use crate::netlist::{Conn, Inst, Module, Port};
+use crate::parasitics::{NetRc, Parasitics, RcCap, RcNode, RcRes};
+use crate::rows::{BackRow, NodeRow, PinCap};
+use sta_units::{Again, Memory};
+use std::alloc::Global;
+
+impl<T: Again + Drop> Again for Items<T> {
+    fn again(&self, alloc: Global) -> Result<Items<T>, Memory> {
+        let mut copy = Items::with_room(alloc, self.len())?;
+        for item in self.as_slice() {
+            copy.push(item.again(alloc)?)?;
+        }
+        Ok(copy)
+    }
+}
+
+impl Again for Name {
+    fn again(&self, alloc: Global) -> Result<Name, Memory> {
+        self.copied(alloc)
+    }
+}
+
+impl Again for EdgeTimes {
+    fn again(&self, alloc: Global) -> Result<EdgeTimes, Memory> {
+        EdgeTimes::from_slice(alloc, self.as_slice())
+    }
+}
+
+impl Again for ArcKind {
+    fn again(&self, _alloc: Global) -> Result<ArcKind, Memory> {
+        Ok(*self)
+    }
+}
+
+impl Again for Dir {
+    fn again(&self, _alloc: Global) -> Result<Dir, Memory> {
+        Ok(*self)
+    }
+}
+
+impl Again for Kind {
+    fn again(&self, _alloc: Global) -> Result<Kind, Memory> {
+        Ok(*self)
+    }
+}
+
+impl Again for Split {
+    fn again(&self, _alloc: Global) -> Result<Split, Memory> {
+        Ok(*self)
+    }
+}
+
+impl Again for Tran {
+    fn again(&self, _alloc: Global) -> Result<Tran, Memory> {
+        Ok(*self)
+    }
+}
+
+impl Again for EdgeTime {
+    fn again(&self, _alloc: Global) -> Result<EdgeTime, Memory> {
+        Ok(*self)
+    }
+}
+
+impl Again for Effect {
+    fn again(&self, _alloc: Global) -> Result<Effect, Memory> {
+        Ok(*self)
+    }
+}
+
+impl Again for Derates {
+    fn again(&self, _alloc: Global) -> Result<Derates, Memory> {
+        Ok(*self)
+    }
+}
+
+impl Again for Table {
+    fn again(&self, alloc: Global) -> Result<Table, Memory> {
+        Ok(Table {
+            xs: Items::from_slice(alloc, self.xs.as_slice())?,
+            ys: Items::from_slice(alloc, self.ys.as_slice())?,
+            vals: Items::from_slice(alloc, self.vals.as_slice())?,
+        })
+    }
+}
+
+impl Again for CellPin {
+    fn again(&self, alloc: Global) -> Result<CellPin, Memory> {
+        Ok(CellPin {
+            name: self.name.again(alloc)?,
+            dir: self.dir.again(alloc)?,
+            cap: self.cap.again(alloc)?,
+        })
+    }
+}
+
+impl Again for CellArc {
+    fn again(&self, alloc: Global) -> Result<CellArc, Memory> {
+        Ok(CellArc {
+            from: self.from.again(alloc)?,
+            from_tran: self.from_tran.again(alloc)?,
+            to: self.to.again(alloc)?,
+            to_tran: self.to_tran.again(alloc)?,
+            kind: self.kind.again(alloc)?,
+            delay: self.delay.again(alloc)?,
+            slew: self.slew.again(alloc)?,
+        })
+    }
+}
+
+impl Again for CellTest {
+    fn again(&self, alloc: Global) -> Result<CellTest, Memory> {
+        Ok(CellTest {
+            pin: self.pin.again(alloc)?,
+            tran: self.tran.again(alloc)?,
+            clock: self.clock.again(alloc)?,
+            active: self.active.again(alloc)?,
+            kind: self.kind.again(alloc)?,
+            need: self.need.again(alloc)?,
+        })
+    }
+}
+
+impl Again for Cell {
+    fn again(&self, alloc: Global) -> Result<Cell, Memory> {
+        Ok(Cell {
+            name: self.name.again(alloc)?,
+            pins: self.pins.again(alloc)?,
+            arcs: self.arcs.again(alloc)?,
+            tests: self.tests.again(alloc)?,
+        })
+    }
+}
+
+impl Again for Library {
+    fn again(&self, alloc: Global) -> Result<Library, Memory> {
+        Ok(Library {
+            cells: self.cells.again(alloc)?,
+        })
+    }
+}
+
+impl Again for Port {
+    fn again(&self, alloc: Global) -> Result<Port, Memory> {
+        Ok(Port {
+            name: self.name.again(alloc)?,
+            dir: self.dir.again(alloc)?,
+        })
+    }
+}
+
+impl Again for Conn {
+    fn again(&self, alloc: Global) -> Result<Conn, Memory> {
+        Ok(Conn {
+            pin: self.pin.again(alloc)?,
+            net: self.net.again(alloc)?,
+        })
+    }
+}
+
+impl Again for Inst {
+    fn again(&self, alloc: Global) -> Result<Inst, Memory> {
+        Ok(Inst {
+            name: self.name.again(alloc)?,
+            cell: self.cell.again(alloc)?,
+            conns: self.conns.again(alloc)?,
+        })
+    }
+}
+
+impl Again for Module {
+    fn again(&self, alloc: Global) -> Result<Module, Memory> {
+        Ok(Module {
+            name: self.name.again(alloc)?,
+            ports: self.ports.again(alloc)?,
+            nets: self.nets.again(alloc)?,
+            insts: self.insts.again(alloc)?,
+        })
+    }
+}
+
+impl Again for Clock {
+    fn again(&self, alloc: Global) -> Result<Clock, Memory> {
+        Ok(Clock {
+            name: self.name.again(alloc)?,
+            port: self.port.again(alloc)?,
+            period: self.period.again(alloc)?,
+            rise: self.rise.again(alloc)?,
+            fall: self.fall.again(alloc)?,
+            unc_setup: self.unc_setup.again(alloc)?,
+            unc_hold: self.unc_hold.again(alloc)?,
+        })
+    }
+}
+
+impl Again for PortDelay {
+    fn again(&self, alloc: Global) -> Result<PortDelay, Memory> {
+        Ok(PortDelay {
+            port: self.port.again(alloc)?,
+            split: self.split.again(alloc)?,
+            tran: self.tran.again(alloc)?,
+            clock: self.clock.again(alloc)?,
+            delay: self.delay.again(alloc)?,
+        })
+    }
+}
+
+impl Again for PortSlew {
+    fn again(&self, alloc: Global) -> Result<PortSlew, Memory> {
+        Ok(PortSlew {
+            port: self.port.again(alloc)?,
+            split: self.split.again(alloc)?,
+            tran: self.tran.again(alloc)?,
+            slew: self.slew.again(alloc)?,
+        })
+    }
+}
+
+impl Again for PortLoad {
+    fn again(&self, alloc: Global) -> Result<PortLoad, Memory> {
+        Ok(PortLoad {
+            port: self.port.again(alloc)?,
+            split: self.split.again(alloc)?,
+            load: self.load.again(alloc)?,
+        })
+    }
+}
+
+impl Again for Exception {
+    fn again(&self, alloc: Global) -> Result<Exception, Memory> {
+        Ok(Exception {
+            from: self.from.again(alloc)?,
+            to: self.to.again(alloc)?,
+            effect: self.effect.again(alloc)?,
+        })
+    }
+}
+
+impl Again for Constraints {
+    fn again(&self, alloc: Global) -> Result<Constraints, Memory> {
+        Ok(Constraints {
+            clocks: self.clocks.again(alloc)?,
+            inputs: self.inputs.again(alloc)?,
+            outputs: self.outputs.again(alloc)?,
+            slews: self.slews.again(alloc)?,
+            loads: self.loads.again(alloc)?,
+            exceptions: self.exceptions.again(alloc)?,
+            derates: self.derates.again(alloc)?,
+        })
+    }
+}
+
+impl Again for RcCap {
+    fn again(&self, alloc: Global) -> Result<RcCap, Memory> {
+        Ok(RcCap {
+            node: self.node.again(alloc)?,
+            cap: self.cap.again(alloc)?,
+        })
+    }
+}
+
+impl Again for RcRes {
+    fn again(&self, alloc: Global) -> Result<RcRes, Memory> {
+        Ok(RcRes {
+            a: self.a.again(alloc)?,
+            b: self.b.again(alloc)?,
+            res: self.res.again(alloc)?,
+        })
+    }
+}
+
+impl Again for NetRc {
+    fn again(&self, alloc: Global) -> Result<NetRc, Memory> {
+        Ok(NetRc {
+            net: self.net.again(alloc)?,
+            caps: self.caps.again(alloc)?,
+            ress: self.ress.again(alloc)?,
+            lump: self.lump.again(alloc)?,
+        })
+    }
+}
+
+impl Again for Parasitics {
+    fn again(&self, alloc: Global) -> Result<Parasitics, Memory> {
+        Ok(Parasitics {
+            nets: self.nets.again(alloc)?,
+        })
+    }
+}
+
+impl Again for Design {
+    fn again(&self, alloc: Global) -> Result<Design, Memory> {
+        Ok(Design {
+            early: self.early.again(alloc)?,
+            late: self.late.again(alloc)?,
+            ports: self.ports.again(alloc)?,
+            nets: self.nets.again(alloc)?,
+            insts: self.insts.again(alloc)?,
+            constraints: self.constraints.again(alloc)?,
+            rcs: self.rcs.again(alloc)?,
+        })
+    }
+}
+
+impl Again for PinCap {
+    fn again(&self, alloc: Global) -> Result<PinCap, Memory> {
+        Ok(PinCap {
+            pin: self.pin.again(alloc)?,
+            cap: self.cap.again(alloc)?,
+        })
+    }
+}
+
+impl Again for NodeRow {
+    fn again(&self, alloc: Global) -> Result<NodeRow, Memory> {
+        Ok(NodeRow {
+            early_slew: self.early_slew.again(alloc)?,
+            late_slew: self.late_slew.again(alloc)?,
+            early: self.early.again(alloc)?,
+            late: self.late.again(alloc)?,
+        })
+    }
+}
+
+impl Again for BackRow {
+    fn again(&self, alloc: Global) -> Result<BackRow, Memory> {
+        Ok(BackRow {
+            early: self.early.again(alloc)?,
+            late: self.late.again(alloc)?,
+        })
+    }
+}
+
+impl Again for Eco {
+    fn again(&self, alloc: Global) -> Result<Eco, Memory> {
+        Ok(Eco {
+            edits: self.edits.again(alloc)?,
+        })
+    }
+}
+
+impl Again for Entry {
+    fn again(&self, alloc: Global) -> Result<Entry, Memory> {
+        Ok(Entry {
+            session: self.session.again(alloc)?,
+            eco: self.eco.again(alloc)?,
+        })
+    }
+}
+
+impl Again for Object {
+    fn again(&self, alloc: Global) -> Result<Object, Memory> {
+        Ok(match self {
+            Object::Clock(name) => Object::Clock(name.again(alloc)?),
+            Object::Port(name) => Object::Port(name.again(alloc)?),
+            Object::Pin(name) => Object::Pin(name.again(alloc)?),
+            Object::Cell(name) => Object::Cell(name.again(alloc)?),
+            Object::Any(name) => Object::Any(name.again(alloc)?),
+        })
+    }
+}
+
+impl Again for RcNode {
+    fn again(&self, alloc: Global) -> Result<RcNode, Memory> {
+        Ok(match self {
+            RcNode::Pin(name) => RcNode::Pin(name.again(alloc)?),
+            RcNode::Inner(number) => RcNode::Inner(*number),
+        })
+    }
+}
+
+impl Again for Edit {
+    fn again(&self, alloc: Global) -> Result<Edit, Memory> {
+        Ok(match self {
+            Edit::Repower { inst, cell } => Edit::Repower {
+                inst: inst.again(alloc)?,
+                cell: cell.again(alloc)?,
+            },
+            Edit::InsertGate { inst, cell } => Edit::InsertGate {
+                inst: inst.again(alloc)?,
+                cell: cell.again(alloc)?,
+            },
+            Edit::RemoveGate { inst } => Edit::RemoveGate {
+                inst: inst.again(alloc)?,
+            },
+            Edit::InsertNet { net } => Edit::InsertNet {
+                net: net.again(alloc)?,
+            },
+            Edit::RemoveNet { net } => Edit::RemoveNet {
+                net: net.again(alloc)?,
+            },
+            Edit::Connect { pin, net } => Edit::Connect {
+                pin: pin.again(alloc)?,
+                net: net.again(alloc)?,
+            },
+            Edit::Disconnect { pin } => Edit::Disconnect {
+                pin: pin.again(alloc)?,
+            },
+            Edit::InsertBuffer {
+                net,
+                inst,
+                fresh,
+                cell,
+                sinks,
+            } => Edit::InsertBuffer {
+                net: net.again(alloc)?,
+                inst: inst.again(alloc)?,
+                fresh: fresh.again(alloc)?,
+                cell: cell.again(alloc)?,
+                sinks: sinks.again(alloc)?,
+            },
+            Edit::SetParasitics { net, rc } => Edit::SetParasitics {
+                net: net.again(alloc)?,
+                rc: rc.again(alloc)?,
+            },
+        })
+    }
+}
