@@ -2,7 +2,7 @@
 use Rattle.std.proofs.Common.{◌≡◌, ℕ, ◌+◌, ◌-◌, ◌*◌, ◌/◌, ◌<◌, ◌≤◌, ℤ, pos, negsuc, ◌+ℤ◌, ◌*ℤ◌, ◌≤ℤ◌, unsigned_abs, inl, inr, arith}
 use Rattle.std.proofs.lemmas.Nat.{div_below, mul-le}
 use Rattle.std.proofs.lemmas.Bool.{cases_lt}
-use Rattle.std.proofs.lemmas.Int.{ints}
+use Rattle.std.proofs.lemmas.Int.{ints, to_z-of_z}
 use Rattle.sta_units.specs.Numbers.{rounded}
 
 -- at most 2a + d over 2d is at most a
@@ -27,3 +27,6 @@ bound_by (negsuc a) d h = elim (cases_lt d (2 * a + 2)) [
 pub rounded-bound : (n d : ℤ) → pos 1 ≤ℤ d → unsigned_abs (rounded n d) ≤ unsigned_abs n
 rounded-bound n (pos d) h = bound_by n d (omega (arith, ints))
 rounded-bound n (negsuc d) h = absurd (omega (arith, ints))
+
+-- for sums, products and rounded quotients of signed numbers
+pub ruleset signed_steps = (to_z-of_z, rounded-bound, ints)

@@ -2,13 +2,16 @@
 #![tactic(auto)]
 
 mod copies;
+mod counting;
 mod decimals;
 mod numbers;
 mod printing;
+mod steps;
 mod units;
 
 pub use copies::Again;
 pub use decimals::{DecFault, decimal};
 pub use numbers::{LIM, rnd, root};
 pub use printing::print_ps;
+pub use steps::Steps;
 pub use units::{Af, Fs, Memory, Mo, Unit};
