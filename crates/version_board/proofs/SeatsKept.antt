@@ -85,14 +85,17 @@ module _ {E O : Type 0} where
   alone_holds : (n : ℕ) (w : View E O) → w.spent ≡ false → w.olds ≡ [] → holders n w ≡ cond (w.number == n) 1 0
   alone_holds n w live bare = ap (count_by (λ t. t.number == n)) (told_live w live ∙ ap (λ ts. itself w ∷ ts) bare) ∙ omega (arith, sum_by-cons (λ (t : Old E). cond (t.number == n) 1 0) (itself w) [])
 
-  joined_told : (v w : View E O) → v.spent ≡ false → w.spent ≡ false → told (joined v w) ≡ itself v ∷ (told w ++ v.olds)
-  joined_told v w live live' = told_live (joined v w) live ∙ ap (λ ts. itself v ∷ (ts ++ v.olds)) (sym (told_live w live'))
+  pub joined_told : (v w : View E O) → v.spent ≡ false → w.spent ≡ false → told (joined v w) ≡ told v ++ told w
+  joined_told v w live live' = told_live (joined v w) live ∙ (λ i. sym (told_live v live) i ++ sym (told_live w live') i)
 
   joined_holds : (n : ℕ) (v w : View E O) → v.spent ≡ false → w.spent ≡ false → holders n (joined v w) ≡ holders n v + holders n w
-  joined_holds n v w live live' = let f : Old E → ℕ = λ t. cond (t.number == n) 1 0 in
-      let a : sum_by f (told (joined v w)) ≡ sum_by f (itself v ∷ (told w ++ v.olds)) = ap (sum_by f) (joined_told v w live live') in
-      let b = sum_by-cons f (itself v) (told w ++ v.olds) in let c = sum_by-append f (told w) v.olds in
-      let d : sum_by f (told v) ≡ sum_by f (itself v ∷ v.olds) = ap (sum_by f) (told_live v live) in let e = sum_by-cons f (itself v) v.olds in omega (arith, a, b, c, d, e)
+  joined_holds n v w live live' = ap (count_by (λ t. t.number == n)) (joined_told v w live live') ∙ sum_by-append (λ (t : Old E). cond (t.number == n) 1 0) (told v) (told w)
+
+  hits : (n : ℕ) (w : View E O) → w.number ≡ n → ◌≡◌ {A = ℕ} (cond (w.number == n) 1 0) 1
+  hits n w e = ap (λ b. let k : ℕ = cond b 1 0 in k) (eq-eqb w.number n e)
+
+  misses : (n : ℕ) (w : View E O) → w.number ≢ n → ◌≡◌ {A = ℕ} (cond (w.number == n) 1 0) 0
+  misses n w e = ap (λ b. let k : ℕ = cond b 1 0 in k) (ne_eqb w.number n e)
 
 module _ {A E O : Type 0} (m : Meaning A E O) (f : ℕ) (o : O) where
   -- a new seat, which has seen a beginning and added nothing
@@ -101,9 +104,7 @@ module _ {A E O : Type 0} (m : Meaning A E O) (f : ℕ) (o : O) where
       → History m f o serving log (seats + 1) homes (views ++ w ∷ [])
   added serving log seats homes views r w live number bare mine looks outside origin first seen = let holds : (n : ℕ) → holders n w ≡ cond (w.number == n) 1 0 = λ n. alone_holds n w live bare in
       let sum : (n : ℕ) → sum_by (holders n) (views ++ w ∷ []) ≡ sum_by (holders n) views + cond (w.number == n) 1 0 =
-          λ n. let t = sum_by-append (holders n) views (w ∷ []) in let u = sum_by-cons (holders n) w [] in let h = holds n in omega (arith, t, u, h) in
-      let hit : (n : ℕ) → w.number ≡ n → cond (w.number == n) 1 0 ≡ 1 = λ n e. ap (λ b. let k : ℕ = cond b 1 0 in k) (eq-eqb w.number n e) in
-      let miss : (n : ℕ) → w.number ≢ n → cond (w.number == n) 1 0 ≡ 0 = λ n e. ap (λ b. let k : ℕ = cond b 1 0 in k) (ne_eqb w.number n e) in record {
+      λ n. let t = sum_by-append (holders n) views (w ∷ []) in let u = sum_by-cons (holders n) w [] in let h = holds n in omega (arith, t, u, h) in record {
         room = ⊎_elim (λ (h : length log ≤ serving). inl h) (λ (h : (length log ≤ serving + 1) × SomeMarked views). inr (h.0, (let k = h.1 in (k.0, k.1, at_longer views (w ∷ []) k.0 k.1 k.2, k.3, k.4)))) r.room;
         home = r.home;
         each = each_more (λ _ u. u.spent ≡ false → Knows f o log u) views w
@@ -115,10 +116,10 @@ module _ {A E O : Type 0} (m : Meaning A E O) (f : ℕ) (o : O) where
             (All-nil (Follows m.by log)))) r.follows;
         seen = let h = r.seen in (h.0, h.1, at_longer views (w ∷ []) h.0 h.1 h.2, h.3);
         numbers = record {
-          once = λ n lo hi. dite (ℕ_discrete w.number n) (λ e. let s = sum n in let one = hit n e in let none = r.numbers.no_other n (inr (omega arith)) in omega (arith, s, one, none))
-              (λ ne. let s = sum n in let zero_more = miss n ne in let one = r.numbers.once n lo (omega arith) in omega (arith, s, zero_more, one));
-          no_other = λ n out. let s = sum n in ⊎_elim (λ (e : n ≡ 0). let zero_more = miss n (λ c. omega arith) in let none = r.numbers.no_other n (inl e) in omega (arith, s, zero_more, none))
-              (λ (l : seats + 1 < n). let zero_more = miss n (λ c. omega arith) in let none = r.numbers.no_other n (inr (omega arith)) in omega (arith, s, zero_more, none)) out;
+          once = λ n lo hi. dite (ℕ_discrete w.number n) (λ e. let s = sum n in let one = hits n w e in let none = r.numbers.no_other n (inr (omega arith)) in omega (arith, s, one, none))
+              (λ ne. let s = sum n in let zero_more = misses n w ne in let one = r.numbers.once n lo (omega arith) in omega (arith, s, zero_more, one));
+          no_other = λ n out. let s = sum n in ⊎_elim (λ (e : n ≡ 0). let zero_more = misses n w (λ c. omega arith) in let none = r.numbers.no_other n (inl e) in omega (arith, s, zero_more, none))
+              (λ (l : seats + 1 < n). let zero_more = misses n w (λ c. omega arith) in let none = r.numbers.no_other n (inr (omega arith)) in omega (arith, s, zero_more, none)) out;
         };
         whose = All-weaker (λ e. (0 < m.by e) × (m.by e ≤ seats)) (λ e. (0 < m.by e) × (m.by e ≤ seats + 1)) (λ e h. let k = h.1 in (h.0, omega arith)) log r.whose;
       }
@@ -138,16 +139,14 @@ module _ {A E O : Type 0} (m : Meaning A E O) (f : ℕ) (o : O) where
             (λ j u _ at_j. each_set (λ _ x. x.spent ≡ false → Knows f o log x) views id z (λ _. let k = r.each id v at live in record { looks = k.looks; origin = k.origin; first = k.first; held = k.held }) (λ k x _ at_k. r.each k x at_k) j u at_j);
         follows = each_set (λ _ u. All P (told u)) mid other spent (All-nil P)
             (λ j u _ at_j. each_set (λ _ x. All P (told x)) views id z
-            (let first : All P (itself v ∷ v.olds) = subst (All P) (told_live v live) (r.follows id v at) in
-            subst (All P) (sym (joined_told v w live live')) (All-cons P (itself v) (told w ++ v.olds) (All-head P (itself v) v.olds first) (All-append P (told w) v.olds (r.follows other w at_w) (All-tail P (itself v) v.olds first))))
+            (subst (All P) (sym (joined_told v w live live')) (All-append P (told v) (told w) (r.follows id v at) (r.follows other w at_w)))
             (λ k x _ at_k. r.follows k x at_k) j u at_j);
         seen = let h = r.seen in dite (ℕ_discrete h.0 id)
             (λ e. let it : h.1 ≡ v = some-injective h.1 v (sym h.2 ∙ (ap (get_elem? views) e ∙ at)) in
-            let k : HasSeen log (itself v ∷ v.olds) = subst (HasSeen log) (ap (λ (x : View E O). told x) it ∙ told_live v live) h.3 in
-            (id, z, here, subst (HasSeen log) (sym (joined_told v w live live')) (⊎_elim (λ (s : v.seen ≡ log). inl s) (λ (t : HasSeen log v.olds). inr (seen_right log (told w) v.olds t)) k)))
+            (id, z, here, subst (HasSeen log) (sym (joined_told v w live live')) (seen_left log (told v) (told w) (subst (HasSeen log) (ap (λ (x : View E O). told x) it) h.3))))
             (λ ne. dite (ℕ_discrete h.0 other)
             (λ e. let it : h.1 ≡ w = some-injective h.1 w (sym h.2 ∙ (ap (get_elem? views) e ∙ at_w)) in
-            (id, z, here, subst (HasSeen log) (sym (joined_told v w live live')) (inr (seen_left log (told w) v.olds (subst (HasSeen log) (ap (λ (x : View E O). told x) it) h.3)))))
+            (id, z, here, subst (HasSeen log) (sym (joined_told v w live live')) (seen_right log (told v) (told w) (subst (HasSeen log) (ap (λ (x : View E O). told x) it) h.3))))
             (λ ne'. (h.0, h.1, set_else mid other h.0 spent ne' ∙ (set_else views id h.0 z ne ∙ h.2), h.3)));
         numbers = record { once = λ n lo hi. sum n ∙ r.numbers.once n lo hi; no_other = λ n out. sum n ∙ r.numbers.no_other n out };
         whose = r.whose;

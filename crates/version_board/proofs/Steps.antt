@@ -136,16 +136,16 @@ module _ {A E O : Type 0} (m : Meaning A E O) (f : ℕ) (o : O) (whole : ℕ) wh
   splits id v live idle maker parts s r at = let serving = get_or s.words 1 0 in let ticket = get_or s.words 0 0 in let follows = follows_of m f o serving r.log r.seats s.homes s.views r.history id v at live in
       let knows = r.history.each id v at live in let made : v.made ≡ r.seats = r.seated.made id v at maker in let w = stays v in
       let history = changed m f o serving serving r.log r.seats s.homes s.homes s.views r.history id v w at live live refl refl (λ k. record { looks = k.looks; origin = k.origin; first = k.first; held = k.held }) (λ k. k) (λ k. k)
-          (⊎_elim (λ (h : length r.log ≤ serving). inl h) (λ (h : (length r.log ≤ serving + 1) × SomeMarked s.views). inr (h.0, marked_set s.views id v w at (λ a b. (a, b)) h.1)) r.history.room) r.history.home in
+      (⊎_elim (λ (h : length r.log ≤ serving). inl h) (λ (h : (length r.log ≤ serving + 1) × SomeMarked s.views). inr (h.0, marked_set s.views id v w at (λ a b. (a, b)) h.1)) r.history.room) r.history.home in
       kept s.words s.homes (set s.views id w ++ comes v ∷ []) r.log (r.seats + 1) serving ticket r.wide r.deep r.small refl refl r.counted
-          (comes_in serving ticket s.homes (set s.views id w) (rests serving ticket s.homes s.views r.turns id v w at refl refl) (comes v) refl refl)
-          (added m f o serving r.log r.seats s.homes (set s.views id w) history (comes v) live (ap (λ n. n + 1) made) refl refl refl refl knows.origin knows.first follows.0)
-          (made_seats whole r.seats s.views r.seated id v at live maker parts)
+      (comes_in serving ticket s.homes (set s.views id w) (rests serving ticket s.homes s.views r.turns id v w at refl refl) (comes v) refl refl)
+      (added m f o serving r.log r.seats s.homes (set s.views id w) history (comes v) live (ap (λ n. n + 1) made) refl refl refl refl knows.origin knows.first follows.0)
+      (made_seats whole r.seats s.views r.seated id v at live maker parts)
 
   pub joins : (id other : ℕ) (v w : View E O) → v.spent ≡ false → w.spent ≡ false → w.turn ≡ None → w.inside ≡ false → Joins Law id v other w (joined v w) spent
   joins id other v w live live' idle outside s r at apart there = let serving = get_or s.words 1 0 in let ticket = get_or s.words 0 0 in let mid = set s.views id (joined v w) in
       let at' : get_elem? s.views other ≡ some w = sym (set_else s.views id other (joined v w) apart) ∙ there in
       kept s.words s.homes (set mid other spent) r.log r.seats serving ticket r.wide r.deep r.small refl refl r.counted
-          (rests serving ticket s.homes mid (rests serving ticket s.homes s.views r.turns id v (joined v w) at refl refl) other w spent there (sym idle) (sym outside))
-          (taken_in m f o serving r.log r.seats s.homes s.views r.history id other v w apart at at' live live' outside)
-          (joined_seats whole r.seats s.views r.seated id other v w apart at at' live live' outside)
+      (rests serving ticket s.homes mid (rests serving ticket s.homes s.views r.turns id v (joined v w) at refl refl) other w spent there (sym idle) (sym outside))
+      (taken_in m f o serving r.log r.seats s.homes s.views r.history id other v w apart at at' live live' outside)
+      (joined_seats whole r.seats s.views r.seated id other v w apart at at' live live' outside)

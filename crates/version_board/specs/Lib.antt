@@ -3,3 +3,5 @@ pub mod History
 pub mod Seats
 pub mod Steps
 pub mod Orderly
+pub mod Callers
+pub mod Returns

@@ -40,7 +40,7 @@ module _ {E O : Type 0} where
 
   -- the seat v after it took in w
   abbrev pub joined : View E O → View E O → View E O
-  joined v w = record v { parts = v.parts + w.parts; maker = false; olds = itself w ∷ (w.olds ++ v.olds) }
+  joined v w = record v { parts = v.parts + w.parts; maker = false; olds = v.olds ++ itself w ∷ w.olds }
 
   -- what is left of w
   abbrev pub spent : View E O

@@ -2,9 +2,11 @@
 //! was published.
 #![tactic(auto)]
 
+mod boards;
 mod plays;
 mod seats;
 mod turns;
 mod views;
 
+pub use boards::{Begun, Board, Seat, Unpublished};
 pub use views::{Old, Stands, View};

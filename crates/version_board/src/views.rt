@@ -1,7 +1,8 @@
 //! What stands on the board, what each seat knows of it, and the rule between any two steps.
 ghost use Rattle.std.specs.Prelude.{◌≡◌, ℕ, ◌+◌, List, length};
 
-use atomic_table::{Seat, Shared, TableRule};
+use atomic_table::{Seat, Shared, Table, TableRule};
+use std::alloc::Global;
 use std::collections::LinkedList;
 use std::marker::PhantomData;
 use std::snapshot::Snapshot;
@@ -102,3 +103,12 @@ pub type Row<T> = Shared<
 
 /// A seat at the table.
 pub type Place<T> = Seat<Option<Arc<T>>, View<<T as Stands>::Entry, <T as Stands>::Origin>>;
+
+/// The table of a board.
+pub type Shelf<T> = Table<
+    Option<Arc<T>>,
+    View<<T as Stands>::Entry, <T as Stands>::Origin>,
+    (Snapshot<T>, u64),
+    Rule<T>,
+    Global,
+>;
