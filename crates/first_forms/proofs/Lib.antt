@@ -1,1 +1,2 @@
+pub mod TokensLemmas
 pub mod WordsLemmas

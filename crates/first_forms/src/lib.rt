@@ -5,7 +5,10 @@
 #![tactic(auto)]
 
 mod blanks;
+mod scripts;
+mod tokens;
 mod words;
 
 pub use blanks::{first_constraints, is_blank};
+pub use scripts::first_script;
 pub use words::{Run, first_words};

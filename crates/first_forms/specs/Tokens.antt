@@ -1,0 +1,52 @@
+-- How the texts of the first forms are cut into tokens. A token is the bytes that it is made of;
+-- a string keeps its quotes. Line ends are tokens in a script alone.
+use Rattle.std.specs.Prelude.{ℕ, zero, suc, ◌+◌, ◌-◌, List, [], ◌∷◌, Bool, ◌==◌, ◌&&◌, ◌||◌, not, nat_le, nat_lt, length, take, if◌then◌else◌}
+use Rattle.std.specs.List.{prefix_len}
+use Rattle.first_forms.specs.Blanks.{is_white}
+use Rattle.first_forms.specs.declared.tokens.Form.{Form}
+use Rattle.first_forms.specs.declared.tokens.Form.TheVariants.{Liberty, Netlist, Script}
+
+abbrev pub is_letter : ℕ → Bool
+is_letter byte = (nat_le 65 byte && nat_le byte 90) || (nat_le 97 byte && nat_le byte 122)
+
+abbrev pub is_digit : ℕ → Bool
+is_digit byte = nat_le 48 byte && nat_le byte 57
+
+-- letters, digits and the underscore
+abbrev pub is_plain : ℕ → Bool
+is_plain byte = is_letter byte || is_digit byte || byte == 95
+
+-- a point or a sign, as in a number
+abbrev pub is_of_number : ℕ → Bool
+is_of_number byte = byte == 46 || byte == 45 || byte == 43
+
+abbrev pub is_space : Form → ℕ → Bool
+is_space Liberty byte = is_white byte
+is_space Netlist byte = is_white byte
+is_space Script byte = byte == 32 || byte == 9
+
+abbrev pub is_word_byte : Form → ℕ → Bool
+is_word_byte Liberty byte = is_plain byte || is_of_number byte
+is_word_byte Netlist byte = is_plain byte
+is_word_byte Script byte = not (byte == 32 || byte == 9 || byte == 10)
+
+abbrev pub is_inside : ℕ → Bool
+is_inside byte = not (byte == 34)
+
+-- the length of a string behind its first quote; that quote alone where no other follows
+abbrev pub string_len : List ℕ → ℕ
+string_len bytes = (if nat_lt (prefix_len is_inside bytes) (length bytes) then prefix_len is_inside bytes + 1 else 0)
+
+-- how many bytes behind its first byte belong to a token: a word, a string or a mark
+abbrev pub more_of : Form → ℕ → List ℕ → ℕ
+more_of form byte bytes =
+    (if is_word_byte form byte then prefix_len (is_word_byte form) bytes else
+    (if byte == 34 then string_len bytes else 0))
+
+-- the tokens of a text whose first `skip` bytes belong to a token before
+unfoldable pub tokens : Form → ℕ → List ℕ → List (List ℕ)
+tokens form skip [] = []
+tokens form (suc n) (byte ∷ bytes) = tokens form n bytes
+tokens form zero (byte ∷ bytes) =
+    (if is_space form byte then tokens form 0 bytes else
+    take (more_of form byte bytes + 1) (byte ∷ bytes) ∷ tokens form (more_of form byte bytes) bytes)
