@@ -1,7 +1,7 @@
 //! Shelves of documents by name.
 
-ghost use Rattle.std.specs.Prelude.{◌≡◌, ℕ, ◌<◌, ◌≤◌, ◌^◌, List, ◌∷◌, []};
-ghost use Rattle.std.specs.Prelude.{IfOk, IfErr, OnOk, length, vec_len, map, zip, cond};
+ghost use Rattle.std.specs.Prelude.{◌≡◌, ℕ, ◌≤◌, List};
+ghost use Rattle.std.specs.Prelude.{IfOk, IfErr, OnOk, length};
 ghost use Rattle.std.specs.declared.option.Option.{Option};
 ghost use Rattle.std.specs.declared.option.Option.TheVariants.{Some};
 ghost use Rattle.sta_outside.specs.Shelf.{Told, HasCause, document_limit};
