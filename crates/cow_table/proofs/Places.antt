@@ -150,16 +150,11 @@ module _ {X A : Type 0} (f : X → List A) where
       let part : n % 256 < 256 = mod-lt n (omega arith) in
       grown xs (n / 256) x y v cut low (omega (arith, counted, part, div-add-mod n 256)) e new
 
-  begun_at : (xs : List X) (n : ℕ) (y : X) (v : A) → IsCut f xs → n ≡ length (flat_map f xs) → length xs ≤ n / 256 → f y ≡ v ∷ []
-      → IsCut f (xs ++ y ∷ []) × (flat_map f (xs ++ y ∷ []) ≡ flat_map f xs ++ v ∷ [])
-  begun_at xs n y v cut counted full new =
-      begun xs y v cut (omega (arith, counted, full, div-add-mod n 256)) new
-
   -- the pieces after a push that may be refused
-  pub begun_or_kept : (xs ys : List X) (n : ℕ) (y : X) (v : A) (b : Bool) → IsCut f xs → n ≡ length (flat_map f xs) → length xs ≤ n / 256 → f y ≡ v ∷ []
+  pub begun_or_kept : (xs ys : List X) (y : X) (v : A) (b : Bool) → IsCut f xs → 256 * length xs ≤ length (flat_map f xs) → f y ≡ v ∷ []
       → ys ≡ cond b (xs ++ y ∷ []) xs → IsCut f ys
-  begun_or_kept xs ys n y v true cut counted full new e = subst (IsCut f) (sym e) (begun_at xs n y v cut counted full new).0
-  begun_or_kept xs ys n y v false cut counted full new e = subst (IsCut f) (sym e) cut
+  begun_or_kept xs ys y v true cut full new e = subst (IsCut f) (sym e) (begun xs y v cut full new).0
+  begun_or_kept xs ys y v false cut full new e = subst (IsCut f) (sym e) cut
 
   -- copies of the pieces keep the items
   pub copied : (xs ys : List X) → AllZip (λ x y. f y ≡ f x) xs ys → IsCut f xs → IsCut f ys × (flat_map f ys ≡ flat_map f xs)

@@ -1,6 +1,6 @@
 //! A list in chunks, which a table shares with its copies.
 
-ghost use Rattle.std.specs.Prelude.{◌≡◌, ◌<◌, ◌≤◌, ◌/◌, [], ◌∷◌, ◌++◌, length, slice_get, slice_set, IfOk, OnOk, OnErr, flat_map};
+ghost use Rattle.std.specs.Prelude.{◌≡◌, ◌<◌, ◌≤◌, ◌*◌, ◌/◌, [], ◌∷◌, ◌++◌, length, slice_get, slice_set, IfOk, OnOk, OnErr, flat_map};
 ghost use Rattle.std.specs.Arc.{arc_value};
 ghost use Rattle.cow_table.specs.Pieces.{IsCut};
 
@@ -154,7 +154,7 @@ fn push_at<T: Again + Drop>(
     if len / CHUNK < chunks.len() {
         push_last(chunks.as_mut_slice(), len, value)
     } else {
-        begin(chunks, alloc, len, value)
+        begin(chunks, alloc, value)
     }
 }
 
@@ -175,15 +175,9 @@ fn push_last<T: Again + Drop>(
 }
 
 /// Begins a chunk with `value`, where every chunk is full.
-fn begin<T: Drop>(
-    chunks: &mut Vec<Arc<Chunk<T>>>,
-    alloc: Global,
-    len: usize,
-    value: T,
-) -> Result<(), Memory>
+fn begin<T: Drop>(chunks: &mut Vec<Arc<Chunk<T>>>, alloc: Global, value: T) -> Result<(), Memory>
     requires cut { IsCut arc_value chunks.old.items }
-    requires counted { len ≡ length (flat_map arc_value chunks.old.items) }
-    requires full { length chunks.old.items ≤ len / 256 }
+    requires full { 256 * length chunks.old.items ≤ length (flat_map arc_value chunks.old.items) }
     ensures cut { IsCut arc_value chunks.new.items }
     ensures ok { OnOk result (flat_map arc_value chunks.new.items ≡ flat_map arc_value chunks.old.items ++ value ∷ []) }
     ensures err { OnErr result (flat_map arc_value chunks.new.items ≡ flat_map arc_value chunks.old.items) }
