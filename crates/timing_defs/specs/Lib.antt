@@ -6,3 +6,13 @@ pub mod Lookup
 pub mod Netlist
 pub mod Rows
 pub mod Wires
+pub mod Paths
+pub mod Range
+pub mod Required
+pub mod Rules
+pub mod Tests
+pub mod Checks
+pub mod Edits
+pub mod Output
+pub mod Reports
+pub mod Sessions
