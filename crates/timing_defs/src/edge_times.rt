@@ -101,3 +101,25 @@ impl Clone for EdgeTimes {
         Ok(EdgeTimes { times })
     }
 }
+
+impl PartialEq for EdgeTimes {
+    ghost use Rattle.std.proofs.Common.{rules};
+    ghost use Rattle.std.specs.Cmp.Lexicographic.{pointwise, lists_per};
+    ghost use Rattle.std.specs.Cmp.Rules.{comparing};
+
+    ghost eq = { pointwise ⟦<EdgeTime as PartialEq>⟧.eq };
+
+    ghost laws = { lists_per (Prim.search (comparing, rules)) };
+
+    fn eq(&self, other: &EdgeTimes) -> bool {
+        self.times.as_slice() == other.times.as_slice()
+    }
+}
+
+impl Eq for EdgeTimes {
+    ghost use Rattle.std.proofs.Common.{rules};
+    ghost use Rattle.std.specs.Cmp.Lexicographic.{lists_equiv};
+    ghost use Rattle.std.specs.Cmp.Rules.{comparing};
+
+    ghost laws = { lists_equiv (Prim.search (comparing, rules)) };
+}
