@@ -46,7 +46,7 @@ abbrev pub after_letter : List ℕ → List ℕ
 after_letter [] = []
 after_letter (c ∷ cs) = cs
 
--- the parts of a decimal; without an exponent its digits are none
+-- the parts of a decimal; `lowers` where the exponent has a minus; without an exponent its digits are none
 pub record Written : Type 0 where
   pub negative : Bool
   pub whole : List ℕ

@@ -1,6 +1,6 @@
 //! Decimal numbers in a text, as whole numbers of a unit.
 
-ghost use Rattle.std.specs.Prelude.{◌≡◌, ◌+◌, ◌*◌, ◌-◌, ◌^◌, ◌<◌, ◌≤◌, ◌++◌, ◌==◌, not, ◌&&◌, IsTrue, ℤ, pos, neg_ℤ, ◌*ℤ◌, ◌≤ℤ◌, unsigned_abs, length, take, drop, min, IfOk, IfSome, MatchOption, true, false, nat_lt, ◌||◌, if◌then◌else◌, ◌+ℤ◌, ◌-ℤ◌};
+ghost use Rattle.std.specs.Prelude.{◌≡◌, ◌+◌, ◌^◌, ◌<◌, ◌≤◌, ◌++◌, pos, neg_ℤ, ◌*ℤ◌, ◌≤ℤ◌, unsigned_abs, length, min, IfOk, IfSome, MatchOption, true, false, nat_lt, ◌||◌, if◌then◌else◌, ◌+ℤ◌, ◌-ℤ◌};
 ghost use Rattle.std.specs.List.{prefix_len, list_all};
 ghost use Rattle.std.specs.Char.{is_ascii_digit};
 ghost use Rattle.sta_units.specs.Numbers.{rounded, limit};
@@ -20,7 +20,8 @@ pub enum DecFault {
     OutOfUnitRange,
 }
 
-// The parts of a decimal: without an exponent its digits are none.
+// The parts of a decimal: its digits before and after the point, whether the exponent has a minus,
+// and the exponent's digits, which are none where there is no exponent.
 #[derive(Drop)]
 struct Written<'a> {
     negative: bool,
