@@ -5,3 +5,7 @@ pub mod TurnsKept
 pub mod HistoryKept
 pub mod SeatsKept
 pub mod Steps
+pub mod Opening
+pub mod Closing
+pub mod Gathering
+pub mod Making

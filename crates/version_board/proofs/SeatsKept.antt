@@ -1,21 +1,21 @@
 -- Each step keeps what the rule says of which seats there are, and a seat that is made or taken in keeps the history.
-use Rattle.std.proofs.Common.{◌≡◌, ◌≢◌, ◌⊎◌, ℕ, ◌+◌, ◌-◌, ◌<◌, ◌≤◌, ◌==◌, Bool, true, false, cond, List, [], ◌∷◌, ◌++◌, length, set, sym, refl, ap, ◌∙◌, subst, ⊎_elim, inl, inr, arith, Option, Some, None, eq-eqb, ne_eqb}
+use Rattle.std.proofs.Common.{◌≡◌, ◌≢◌, ℕ, ◌+◌, ◌-◌, ◌<◌, ◌≤◌, ◌==◌, Bool, true, false, cond, List, [], ◌∷◌, ◌++◌, length, set, sym, refl, ap, ◌∙◌, subst, ⊎_elim, inl, inr, arith, Some, eq-eqb, ne_eqb}
 use mathlib.Core.Logic.{dite}
 use mathlib.Core.Option.{some, some-injective}
 use mathlib.Core.List.{IsPrefix}
 use native.Mathlib.Decide.{ℕ_discrete}
 use lib.ListN.{get_elem?}
 use Rattle.std.specs.List.{All, count_by, sum_by}
-use Rattle.std.proofs.lemmas.List.Elements.{All-head, All-tail, All-cons, All-nil, All-append, All-weaker}
+use Rattle.std.proofs.lemmas.List.Elements.{All-cons, All-nil, All-append, All-weaker}
 use Rattle.std.proofs.lemmas.List.Sums.{sum_by-cons, sum_by-append}
 use Rattle.atomic_table.proofs.Lists.{set_else, at_longer}
 use Rattle.version_board.specs.declared.views.View.{View}
 use Rattle.version_board.specs.declared.views.Old.{Old}
 use Rattle.version_board.specs.Turns.{Homes}
-use Rattle.version_board.specs.History.{Meaning, own, Rising, itself, told, holders, SomeMarked, HasSeen, SomeSeen, Knows, Follows, Numbered, History}
+use Rattle.version_board.specs.History.{Meaning, Rising, itself, told, holders, SomeMarked, HasSeen, Knows, Follows, History}
 use Rattle.version_board.specs.Seats.{parts_of, Seats, stays, comes, joined, spent}
 use Rattle.version_board.proofs.ViewLists.{each_set, each_more, set_there}
-use Rattle.version_board.proofs.Logs.{sum_one, sum_two, sum_set, own_none, rising_within}
+use Rattle.version_board.proofs.Logs.{sum_two, sum_set, own_none}
 use Rattle.version_board.proofs.HistoryKept.{told_live, marked_set}
 
 module _ {E : Type 0} where

@@ -14,7 +14,7 @@ use Rattle.version_board.specs.Turns.{Homes, Turns}
 use Rattle.version_board.specs.History.{Meaning, Rising, SomeMarked, Fits, History}
 use Rattle.version_board.specs.Steps.{Sat, drew, looked, tallies, marks, left, waiting, entered, tallied, marked, away}
 use Rattle.version_board.specs.Seats.{Seats, stays, comes, joined, spent}
-use Rattle.version_board.specs.Orderly.{Orderly, opened}
+use Rattle.version_board.specs.Orderly.{Orderly}
 use Rattle.version_board.proofs.ViewLists.{unmoved}
 use Rattle.version_board.proofs.Logs.{prefix_self, last_same, rising_more}
 use Rattle.version_board.proofs.Lifted.{holds_one}

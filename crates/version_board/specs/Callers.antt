@@ -1,6 +1,5 @@
 -- What callers see of a board and its seats, and what a turn tells them.
-use Rattle.std.specs.Prelude.{◌≡◌, ℕ, ◌+◌, true, false, List, [], ◌∷◌, ◌++◌, length, Option, Some, None}
-use Rattle.std.specs.List.{All, Contains, filter}
+use Rattle.std.specs.Prelude.{◌≡◌, ℕ, ◌+◌, false, List, [], ◌∷◌, ◌++◌, length, Some, None}
 use mathlib.Core.List.{IsPrefix}
 use Rattle.atomic_table.specs.Seated.{TableId}
 use Rattle.version_board.specs.declared.views.View.{View}
@@ -29,10 +28,14 @@ IsResting me = (me.1 ≡ []) × (me.0.turn ≡ None) × (me.0.inside ≡ false) 
 abbrev pub meaning : {T E O : Type 0} → (T → List E) → (T → ℕ) → (T → O) → (E → ℕ) → Meaning T E O
 meaning entries from origin by = record { entries = entries; from = from; origin = origin; by = by }
 
+-- the seat is at this board, and knows that its history begins at f over the origin o
+abbrev pub SitsAt : {E O : Type 0} → TableId → ℕ → O → Sitting E O → Type 0
+SitsAt id f o s = (s.board ≡ id) × (s.view.first ≡ f) × (s.view.origin ≡ Some o)
+
 module _ {T E O : Type 0} where
   -- the seat is one of the board
   abbrev pub IsSeatOf : Meaning T E O → Standing T → Sitting E O → Type 0
-  IsSeatOf m b s = (s.board ≡ b.id) × (s.view.first ≡ m.from b.opening) × (s.view.origin ≡ Some (m.origin b.opening))
+  IsSeatOf m b s = SitsAt b.id (m.from b.opening) (m.origin b.opening) s
 
   -- the value stands for the list, with the board's origin and first number
   abbrev pub StandsFor : Meaning T E O → Standing T → List E → T → Type 0

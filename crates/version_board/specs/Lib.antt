@@ -3,5 +3,7 @@ pub mod History
 pub mod Seats
 pub mod Steps
 pub mod Orderly
+pub mod Closed
 pub mod Callers
 pub mod Returns
+pub mod Gathered

@@ -1,12 +1,18 @@
 //! The board and its seats, as callers use them.
-ghost use Rattle.std.specs.Prelude.{◌≡◌, ◌≢◌, ℕ, ◌+◌, ◌^◌, ◌<◌, ◌≤◌, true, false, List, [], ◌∷◌, length, Some, None, IfOk, IfErr, IfSome, slice_get};
+ghost use Rattle.std.specs.Prelude.{◌≡◌, ◌≢◌, ℕ, ◌+◌, ◌^◌, ◌<◌, ◌≤◌, true, false, List, [], ◌∷◌, length, map, reverse, Some, None, IfOk, IfErr, IfSome, All, slice_get};
 ghost use Rattle.std.specs.Arc.{arc_value};
-ghost use Rattle.version_board.specs.Callers.{meaning, IsSeatOf, IsResting, IsSame, IsNew, IsSized, StandsFor, Continues, Looks, Publishes};
+ghost use Rattle.version_board.specs.Callers.{meaning, IsSeatOf, IsResting, IsSame, IsNew, IsSized, SitsAt, StandsFor, Continues, Looks, Publishes, AgreesWith, number};
+ghost use Rattle.std.specs.List.{Contains};
+ghost use Rattle.version_board.specs.Gathered.{tells};
+ghost use Rattle.version_board.specs.History.{told};
+ghost use Rattle.version_board.specs.Orderly.{opened};
 ghost use Rattle.version_board.specs.Returns.{Refuses};
 
+use crate::seats::{finish, join_seat, lay, split_seat};
 use crate::turns::{add, draw, leave, tally, wait};
 use crate::views::{Place, Row, Shelf, Stands};
 use sta_units::Memory;
+use std::alloc::Global;
 use std::marker::Model;
 use std::sync::{Arc, Wait};
 
@@ -33,13 +39,14 @@ pub struct Board<T: Stands> {
 }
 
 impl<T: Stands> Model for Board<T> {
+    ghost use Rattle.std.specs.Prelude.{◌<◌};
     ghost use Rattle.version_board.specs.Callers.{Standing, IsSized};
 
     ghost Value = { Standing T };
 
     ghost view = { λ b. record { id = b.table.shared.table_id; opening = b.table.shared.key.0.value; seats = b.table.shared.key.1 } };
 
-    ghost invariant = { λ b. IsSized b.table.shared.table_id };
+    ghost invariant = { λ b. IsSized b.table.shared.table_id × (0 < b.table.shared.key.1) };
 }
 
 /// A new board with its seats.
@@ -58,7 +65,96 @@ pub enum Unpublished<T: Drop> {
     Memory { back: Arc<T> },
 }
 
+fn seated<T: Stands>(place: Place<T>) -> Seat<T>
+    requires { IsResting place.me }
+    ensures { (result.board ≡ place.table_id) × (result.view ≡ place.me.0) }
+{
+    Seat { place }
+}
+
+impl<T: Stands> Seat<T> {
+    fn into_place(self) -> Place<T>
+        ensures { (result.table_id ≡ self.board) × (result.me.0 ≡ self.view) × IsResting result.me }
+    {
+        self.place
+    }
+}
+
+/// One seat that took in all these.
+fn gather<T: Stands>(row: &Row<T>, mut seats: Vec<Seat<T>>) -> Place<T>
+    requires table { row.now.table_id.words ≡ 3 }
+    requires seats { (0 < length seats.items) × All (λ s. s.board ≡ row.now.table_id) seats.items }
+    ensures table { result.table_id ≡ row.now.table_id }
+    ensures whole { (result.me.0.spent ≡ false) × (result.me.0.turn ≡ None) × (result.me.0.parts ≡ length seats.items) }
+    ensures seats { map tells seats.items ≡ reverse (told result.me.0) }
+{
+    let mut whole = seats.pop().unwrap().into_place();
+    while let Some(seat) = seats.pop() {
+        join_seat(row, &mut whole, seat.into_place());
+    }
+    whole
+}
+
+/// The seats of a board, of which this place is the first, and made the others.
+fn seat_all<T: Stands>(
+    alloc: Global,
+    row: &Row<T>,
+    mut place: Place<T>,
+    seats: u32,
+) -> Result<Vec<Seat<T>>, Memory>
+    requires table { (place.table_id ≡ row.now.table_id) × (row.now.table_id.words ≡ 3) }
+    requires place { (0 < seats) × (place.me ≡ (opened (T.from row.now.key.0.value) (T.origin row.now.key.0.value) seats, [])) }
+    ensures seats { IfOk result (λ l. (length l.items ≡ seats) × All (SitsAt row.now.table_id (T.from row.now.key.0.value) (T.origin row.now.key.0.value)) l.items) }
+    ensures new { IfOk result (λ l. (k : ℕ) → k < seats → IfSome (slice_get l.items k) (IsNew (k + 1))) }
+{
+    let mut list = Vec::with_capacity(alloc, seats as usize)?;
+    for _made in 1..seats {
+        let next = split_seat(row, &mut place);
+        list.push_reserved(seated(place));
+        place = next;
+    }
+    list.push_reserved(seated(place));
+    Ok(list)
+}
+
 impl<T: Stands> Board<T> {
+    /// A board with its seats, which have the numbers from 1. The value stands for the empty list from
+    /// `first`, and there are 1 to 16 seats.
+    pub fn begin(alloc: Global, first: u64, value: Arc<T>, seats: u32) -> Result<Begun<T>, Memory>
+        requires seats { (1 ≤ seats) × (seats ≤ 16) }
+        requires first { first ≤ 2 ^ 62 }
+        requires value { (T.entries (arc_value value) ≡ []) × (T.from (arc_value value) ≡ first) }
+        ensures board { IfOk result (λ b. (b.board.opening ≡ arc_value value) × (b.board.seats ≡ seats)) }
+        ensures seats { IfOk result (λ b. (length b.seats.items ≡ seats) × All (IsSeatOf (meaning T.entries T.from T.origin T.by) b.board) b.seats.items) }
+        ensures new { IfOk result (λ b. (k : ℕ) → k < seats → IfSome (slice_get b.seats.items k) (IsNew (k + 1))) }
+    {
+        let (table, place) = lay(alloc, first, value, seats)?;
+        let list = seat_all(alloc, &table.shared, place, seats)?;
+        Ok(Begun {
+            board: Board { table },
+            seats: list,
+        })
+    }
+
+    fn into_table(self) -> Shelf<T>
+        ensures { (result.shared.table_id ≡ self.id) × (result.shared.key.0.value ≡ self.opening) × (result.shared.key.1 ≡ self.seats) × IsSized result.shared.table_id × (0 < result.shared.key.1) }
+    {
+        self.table
+    }
+
+    /// Takes the board and all its seats back, and gives the last value.
+    pub fn close(self, seats: Vec<Seat<T>>) -> Arc<T>
+        requires all { length seats.items ≡ self.seats }
+        requires seats { All (IsSeatOf (meaning T.entries T.from T.origin T.by) self) seats.items }
+        ensures value { (T.from (arc_value result) ≡ T.from self.opening) × (T.origin (arc_value result) ≡ T.origin self.opening) }
+        ensures seats { All (AgreesWith T.by (T.entries (arc_value result))) seats.items }
+        ensures entries { All (λ e. Contains (map number seats.items) (T.by e)) (T.entries (arc_value result)) }
+    {
+        let table = self.into_table();
+        let whole = gather(&table.shared, seats);
+        finish(table, whole)
+    }
+
     fn row(&self) -> &Row<T>
         ensures { (result.now.table_id ≡ self.now.id) × (result.now.key.0.value ≡ self.now.opening) × (result.now.key.1 ≡ self.now.seats) × IsSized result.now.table_id }
     {
