@@ -5,6 +5,9 @@
 mod boards;
 mod plays;
 mod seats;
+mod sharing;
+#[cfg(test)]
+mod tests;
 mod turns;
 mod views;
 

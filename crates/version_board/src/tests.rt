@@ -1,0 +1,261 @@
+//! A board of logs: two threads, the answers of one turn after another, and a first number above 0.
+ghost use Rattle.std.specs.Prelude.{◌≡◌, ℕ, ◌+◌, ◌^◌, ◌<◌, ◌≤◌, List, [], ◌∷◌, ◌++◌, length, Some, IfOk, IfSome, IsTrue};
+ghost use Rattle.std.specs.Arc.{arc_value};
+ghost use Rattle.version_board.specs.Callers.{meaning, IsSeatOf, IsSame, IsNew};
+
+use crate::{Begun, Board, Seat, Stands, Unpublished};
+use sta_units::Memory;
+use std::alloc::{AllocError, Global};
+use std::sync::{Arc, Wait};
+use std::test::Fail;
+use std::thread::{Threads, join};
+
+#[derive(Debug, Clone, Copy, PartialEq, Eq, Drop)]
+struct Note {
+    seat: u64,
+    number: u64,
+}
+
+/// A list of notes from a first number.
+#[derive(Drop)]
+struct Log {
+    first: u64,
+    notes: Vec<Note>,
+    ghost within: { first + length notes.items < 2 ^ 63 },
+}
+
+impl Stands for Log {
+    type Entry = Note;
+
+    type Origin = ();
+
+    ghost entries = { λ l. l.notes.items };
+
+    ghost from = { λ l. l.first };
+
+    ghost origin = { λ _. tt };
+
+    ghost by = { λ n. n.seat };
+
+    fn first(&self) -> u64 {
+        self.first
+    }
+
+    fn count(&self) -> u64 {
+        self.first + self.notes.len() as u64
+    }
+}
+
+fn empty(alloc: Global, first: u64) -> Result<Arc<Log>, AllocError>
+    requires { first ≤ 2 ^ 62 }
+    ensures { IfOk result (λ a. ((arc_value a).notes.items ≡ []) × ((arc_value a).first ≡ first)) }
+{
+    let log = Log {
+        first,
+        notes: Vec::new(alloc),
+    };
+    Ok(Arc::new(alloc, log)?)
+}
+
+/// The log with one more note.
+fn longer(alloc: Global, base: &Log, note: Note) -> Result<Arc<Log>, AllocError>
+    ensures { IfOk result (λ a. ((arc_value a).notes.items ≡ base.now.notes.items ++ note ∷ []) × ((arc_value a).first ≡ base.now.first)) }
+{
+    if base.count() >= 1 << 62 {
+        return Err(AllocError);
+    }
+    let mut notes = Vec::from_slice(alloc, base.notes.as_slice())?;
+    notes.push(note)?;
+    let log = Log {
+        first: base.first,
+        notes,
+    };
+    Ok(Arc::new(alloc, log)?)
+}
+
+/// Adds a note, and takes again where another was published since.
+fn add<R: Wait>(
+    rt: &R,
+    alloc: Global,
+    board: &Board<Log>,
+    seat: &mut Seat<Log>,
+    note: Note,
+) -> Result<u64, Memory>
+    requires { let l = ⟦<Log as Stands>⟧ in IsSeatOf (meaning l.entries l.from l.origin l.by) board.now seat.old × (note.seat ≡ seat.old.view.number) }
+    ensures seat { IsSame seat.old seat.new }
+    ensures mine { IfOk result (λ _. seat.new.view.mine ≡ seat.old.view.mine ++ note ∷ []) }
+{
+    for _ in rt.forever() {
+        let base = board.take(rt, seat)?;
+        let next = longer(alloc, &base, note)?;
+        match board.publish(rt, seat, base.count(), next) {
+            Ok(count) => return Ok(count),
+            Err(Unpublished::Moved { newest: _, back: _ }) => {}
+            Err(Unpublished::Memory { back: _ }) => return Err(Memory),
+        }
+    }
+    unreachable!()
+}
+
+/// Adds so many notes, and says whether all of them stand on the board.
+fn add_all<R: Wait>(
+    rt: &R,
+    alloc: Global,
+    board: &Board<Log>,
+    mut seat: Seat<Log>,
+    who: u64,
+    count: u64,
+) -> (Seat<Log>, bool)
+    requires { let l = ⟦<Log as Stands>⟧ in IsSeatOf (meaning l.entries l.from l.origin l.by) board.now seat × (seat.view.number ≡ who) }
+    ensures { let l = ⟦<Log as Stands>⟧ in IsSeatOf (meaning l.entries l.from l.origin l.by) board.now result.0 }
+{
+    for number in 0..count {
+        if add(rt, alloc, board, &mut seat, Note { seat: who, number }).is_err() {
+            return (seat, false);
+        }
+    }
+    (seat, true)
+}
+
+/// Two threads add so many notes each.
+fn add_beside<R: Threads + Wait + Sync>(
+    rt: &R,
+    alloc: Global,
+    board: &Board<Log>,
+    one: Seat<Log>,
+    two: Seat<Log>,
+    count: u64,
+) -> (Seat<Log>, Seat<Log>, bool)
+    requires one { let l = ⟦<Log as Stands>⟧ in IsSeatOf (meaning l.entries l.from l.origin l.by) board.now one × (one.view.number ≡ 1) }
+    requires two { let l = ⟦<Log as Stands>⟧ in IsSeatOf (meaning l.entries l.from l.origin l.by) board.now two × (two.view.number ≡ 2) }
+    ensures one { let l = ⟦<Log as Stands>⟧ in IsSeatOf (meaning l.entries l.from l.origin l.by) board.now result.0 }
+    ensures two { let l = ⟦<Log as Stands>⟧ in IsSeatOf (meaning l.entries l.from l.origin l.by) board.now result.1 }
+{
+    let (one, two) = join(
+        rt,
+        || -> (Seat<Log>, bool)
+            requires { IsSeatOf (meaning (λ (l : Log). l.notes.items) (λ (l : Log). l.first) (λ (l : Log). tt) (λ (n : Note). n.seat)) board.now one × (one.view.number ≡ 1) }
+            ensures { IsSeatOf (meaning (λ (l : Log). l.notes.items) (λ (l : Log). l.first) (λ (l : Log). tt) (λ (n : Note). n.seat)) board.entry.now result.0 }
+        { add_all(rt, alloc, board, one, 1, count) },
+        || -> (Seat<Log>, bool)
+            requires { IsSeatOf (meaning (λ (l : Log). l.notes.items) (λ (l : Log). l.first) (λ (l : Log). tt) (λ (n : Note). n.seat)) board.now two × (two.view.number ≡ 2) }
+            ensures { IsSeatOf (meaning (λ (l : Log). l.notes.items) (λ (l : Log). l.first) (λ (l : Log). tt) (λ (n : Note). n.seat)) board.entry.now result.0 }
+        { add_all(rt, alloc, board, two, 2, count) },
+    );
+    (one.0, two.0, one.1 && two.1)
+}
+
+/// A board from 0 with two seats.
+fn opened(alloc: Global) -> Result<(Board<Log>, Seat<Log>, Seat<Log>), Memory>
+    ensures board { IfOk result (λ t. (t.0.seats ≡ 2) × (t.0.opening.first ≡ 0)) }
+    ensures one { let l = ⟦<Log as Stands>⟧ in IfOk result (λ t. IsSeatOf (meaning l.entries l.from l.origin l.by) t.0 t.1 × IsNew 1 t.1) }
+    ensures two { let l = ⟦<Log as Stands>⟧ in IfOk result (λ t. IsSeatOf (meaning l.entries l.from l.origin l.by) t.0 t.2 × IsNew 2 t.2) }
+{
+    let value = empty(alloc, 0)?;
+    let Begun { board, mut seats } = Board::begin(alloc, 0, value, 2)?;
+    let two = seats.pop().unwrap();
+    let one = seats.pop().unwrap();
+    Ok((board, one, two))
+}
+
+fn closed(
+    alloc: Global,
+    board: Board<Log>,
+    one: Seat<Log>,
+    two: Seat<Log>,
+) -> Result<Arc<Log>, AllocError>
+    requires board { board.seats ≡ 2 }
+    requires seats { let l = ⟦<Log as Stands>⟧ in IsSeatOf (meaning l.entries l.from l.origin l.by) board one × IsSeatOf (meaning l.entries l.from l.origin l.by) board two }
+{
+    let mut seats = Vec::with_capacity(alloc, 2)?;
+    seats.push_reserved(one);
+    seats.push_reserved(two);
+    Ok(board.close(seats))
+}
+
+/// How many notes the seat has, if they stand in their order.
+fn in_order(notes: &[Note], seat: u64) -> Option<u64> {
+    let mut next: u64 = 0;
+    for note in notes {
+        if note.seat == seat {
+            if note.number != next {
+                return None;
+            }
+            next = next.wrapping_add(1);
+        }
+    }
+    Some(next)
+}
+
+#[test]
+fn two_threads_publish_a_thousand_notes_each(rt: HostRuntime) -> Result<(), Fail> {
+    let alloc = rt.alloc();
+    let (board, one, two) = opened(alloc)?;
+    let (one, two, added) = add_beside(&rt, alloc, &board, one, two, 1000);
+    assert!(rt; added);
+    let log = closed(alloc, board, one, two)?;
+    assert_eq!(rt; log.notes.len(), 2000);
+    assert_eq!(rt; in_order(log.notes.as_slice(), 1), Some(1000));
+    assert_eq!(rt; in_order(log.notes.as_slice(), 2), Some(1000));
+    Ok(())
+}
+
+/// Publishes a first note on the number 0.
+fn add_first<R: Wait>(
+    rt: &R,
+    alloc: Global,
+    board: &Board<Log>,
+    seat: &mut Seat<Log>,
+    who: u64,
+) -> Result<Result<u64, Unpublished<Log>>, AllocError>
+    requires { let l = ⟦<Log as Stands>⟧ in IsSeatOf (meaning l.entries l.from l.origin l.by) board.now seat.old × IsNew who seat.old × (board.now.opening.first ≡ 0) }
+    ensures { IsSame seat.old seat.new }
+{
+    let base = empty(alloc, 0)?;
+    let next = longer(
+        alloc,
+        &base,
+        Note {
+            seat: who,
+            number: 0,
+        },
+    )?;
+    Ok(board.publish(rt, seat, 0, next))
+}
+
+#[test]
+fn a_late_seat_is_given_the_version_that_came_first(rt: HostRuntime) -> Result<(), Fail> {
+    let alloc = rt.alloc();
+    let (board, mut one, mut two) = opened(alloc)?;
+    let first = Note { seat: 2, number: 0 };
+    let count = add_first(&rt, alloc, &board, &mut two, 2)?
+        .ok()
+        .ok_or("not published")?;
+    assert_eq!(rt; count, 1);
+    match add_first(&rt, alloc, &board, &mut one, 1)? {
+        Err(Unpublished::Moved { newest, back }) => {
+            assert_eq!(rt; newest.notes.as_slice(), [first].as_slice());
+            assert_eq!(rt;
+                back.notes.as_slice(),
+                [Note { seat: 1, number: 0 }].as_slice()
+            );
+        }
+        _ => return Err("not moved".into()),
+    }
+    let taken = board.take(&rt, &mut one)?;
+    assert_eq!(rt; taken.notes.as_slice(), [first].as_slice());
+    let last = closed(alloc, board, one, two)?;
+    assert_eq!(rt; last.notes.as_slice(), [first].as_slice());
+    Ok(())
+}
+
+#[test]
+fn a_board_from_five_counts_from_five(rt: HostRuntime) -> Result<(), Fail> {
+    let alloc = rt.alloc();
+    let value = empty(alloc, 5)?;
+    let Begun { board, mut seats } = Board::begin(alloc, 5, value, 1)?;
+    let mut seat = seats.pop().ok_or("no seat")?;
+    let count = add(&rt, alloc, &board, &mut seat, Note { seat: 1, number: 0 })?;
+    assert_eq!(rt; count, 6);
+    Ok(())
+}
