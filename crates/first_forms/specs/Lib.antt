@@ -1,4 +1,8 @@
 pub mod Blanks
+pub mod Liberty
+pub mod Modules
+pub mod NameSets
+pub mod Netlist
 pub mod Scripts
 pub mod Stops
 pub mod Tokens

@@ -1,7 +1,8 @@
 -- How the texts of the first forms are cut into tokens. A token is the bytes that it is made of;
 -- a string keeps its quotes. Line ends are tokens in a script alone.
-use Rattle.std.specs.Prelude.{ℕ, zero, suc, ◌+◌, ◌-◌, List, [], ◌∷◌, Bool, ◌==◌, ◌&&◌, ◌||◌, not, nat_le, nat_lt, length, take, if◌then◌else◌}
-use Rattle.std.specs.List.{prefix_len}
+use Rattle.std.specs.Prelude.{ℕ, zero, suc, ◌+◌, ◌-◌, List, [], ◌∷◌, Bool, ◌==◌, ◌&&◌, ◌||◌, not, nat_le, nat_lt, length, map, take, if◌then◌else◌}
+use denote.Ref.{Bor}
+use Rattle.std.specs.List.{list_all, prefix_len}
 use Rattle.first_forms.specs.Blanks.{is_white}
 use Rattle.first_forms.specs.declared.tokens.Form.{Form}
 use Rattle.first_forms.specs.declared.tokens.Form.TheVariants.{Liberty, Netlist, Script}
@@ -15,6 +16,10 @@ is_digit byte = nat_le 48 byte && nat_le byte 57
 -- letters, digits and the underscore
 abbrev pub is_plain : ℕ → Bool
 is_plain byte = is_letter byte || is_digit byte || byte == 95
+
+-- letters, digits and underscores, at least one
+abbrev pub is_plain_word : List ℕ → Bool
+is_plain_word word = not (length word == 0) && list_all is_plain word
 
 -- a point or a sign, as in a number
 abbrev pub is_of_number : ℕ → Bool
@@ -50,3 +55,7 @@ tokens form (suc n) (byte ∷ bytes) = tokens form n bytes
 tokens form zero (byte ∷ bytes) =
     (if is_space form byte then tokens form 0 bytes else
     take (more_of form byte bytes + 1) (byte ∷ bytes) ∷ tokens form (more_of form byte bytes) bytes)
+
+-- the tokens that references point to
+abbrev pub texts : List (Bor (List ℕ)) → List (List ℕ)
+texts found = map (λ (t : Bor (List ℕ)). t.now) found

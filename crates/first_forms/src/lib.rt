@@ -5,10 +5,16 @@
 #![tactic(auto)]
 
 mod blanks;
+mod liberty;
+mod modules;
+mod name_sets;
+mod netlist;
 mod scripts;
 mod tokens;
 mod words;
 
 pub use blanks::{first_constraints, is_blank};
+pub use liberty::first_library;
+pub use modules::first_module;
 pub use scripts::first_script;
 pub use words::{Run, first_words};

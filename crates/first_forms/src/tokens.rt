@@ -1,14 +1,16 @@
 //! Tokens of the first forms.
 
-ghost use Rattle.std.specs.Prelude.{◌≡◌, ◌<◌, ◌≤◌, ◌∷◌, [], false, length, MatchOption, take, drop};
-ghost use Rattle.std.specs.List.{prefix_len};
+ghost use Rattle.std.specs.Prelude.{◌≡◌, ◌<◌, ◌≤◌, ◌∷◌, [], true, length, MatchOption, IfOk};
+ghost use Rattle.std.specs.List.{list_all, prefix_len};
 ghost use Rattle.std.specs.Str.{bytes_eq};
 ghost use Rattle.first_forms.specs.Blanks.{is_white};
-ghost use Rattle.first_forms.specs.Tokens.{is_letter, is_plain, is_of_number, is_space, is_word_byte, is_inside, string_len, more_of, tokens};
+ghost use Rattle.first_forms.specs.Tokens.{is_letter, is_plain, is_plain_word, is_of_number, is_space, is_word_byte, is_inside, string_len, more_of, tokens};
 
 use crate::blanks::is_white;
 use sta_units::Memory;
+use std::alloc::Global;
 use std::marker::Model;
+use timing_defs::Name;
 
 /// How a text is cut into tokens: words, strings in quotes and marks of one byte. In a script a
 /// line feed is a token too.
@@ -55,6 +57,34 @@ pub(crate) fn is_plain(byte: u8) -> bool
     ensures { result ≡ is_plain byte }
 {
     is_letter(byte) || (b'0' <= byte && byte <= b'9') || byte == b'_'
+}
+
+fn all_plain(word: &[u8]) -> bool
+    ensures { result ≡ list_all is_plain word.now }
+{
+    word.iter().all(|byte| is_plain(*byte))
+}
+
+/// Whether the token is a word of letters, digits and underscores.
+pub(crate) fn is_plain_word(word: &[u8]) -> bool
+    ensures { result ≡ is_plain_word word.now }
+{
+    if word.is_empty() {
+        return false;
+    }
+    all_plain(word)
+}
+
+/// The name that is a copy of such a word.
+#[tactic(auto, using(crate::proofs::TokensLemmas::plain_is_name))]
+pub(crate) fn plain_name(alloc: Global, word: &[u8]) -> Result<Name, Memory>
+    requires { is_plain_word word.now ≡ true }
+    ensures { IfOk result (λ name. name ≡ word.now) }
+{
+    match Name::from_bytes(alloc, word)? {
+        Some(name) => Ok(name),
+        None => unreachable!(),
+    }
 }
 
 fn is_space(form: Form, byte: u8) -> bool
