@@ -1,5 +1,5 @@
 -- Facts of lists and tests that engines need and std lacks, over plain variables.
-use Rattle.std.specs.Prelude.{◌≡◌, ℕ, ◌+◌, ◌-◌, ◌<◌, ◌≤◌, zero, suc, Bool, true, false, ◌&&◌, ◌||◌, cond, List, [], ◌∷◌, ◌++◌, map, filter, take, drop, length}
+use Rattle.std.specs.Prelude.{◌≡◌, ℕ, ◌+◌, ◌-◌, ◌≤◌, Bool, true, false, ◌&&◌, ◌||◌, cond, List, [], ◌∷◌, ◌++◌, map, filter, take, drop}
 use Rattle.std.specs.List.{list_any, list_all, count_by, slice_range, All, Any}
 use Rattle.std.specs.Cmp.{both_ways}
 use Rattle.std.proofs.Common.{arith}

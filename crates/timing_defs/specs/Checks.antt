@@ -31,7 +31,7 @@ use Rattle.timing_defs.specs.Wires.{same_rc, each_with_rest, path_between, is_lu
 use Rattle.timing_defs.specs.Clocking.{cell_arcs, comb_joins, pins_before, sinks_on, is_network, is_clock_port}
 use Rattle.timing_defs.specs.Rules.{as_pin, is_clock_name}
 use Rattle.timing_defs.specs.Range.{is_origin}
-use Rattle.timing_defs.specs.Edits.{edited, inst_named}
+use Rattle.timing_defs.specs.Edits.{has_colon, edited, inst_named}
 
 abbrev pub is_before : List ℕ → List ℕ → Bool
 is_before a b = is_lt (slice_cmp nat_cmp a b)
@@ -152,7 +152,7 @@ is_any d dir name =
 abbrev pub dangling_object : Design → Dir → Object → Option (List ℕ)
 dangling_object d dir (clock_object name) = None
 dangling_object d dir (port_object name) = (if is_port d dir name then None else Some name)
-dangling_object d dir (pin_object name) = (if is_pin d name then None else Some name)
+dangling_object d dir (pin_object name) = (if has_colon name && is_pin d name then None else Some name)
 dangling_object d dir (cell_object name) = (if is_inst d name then None else Some name)
 dangling_object d dir (Any name) = (if is_any d dir name then None else Some name)
 
@@ -238,7 +238,8 @@ IsGraphFault d x = HasNoLoop d × Standing (data_fault d) x (IsOverflow d x)
 abbrev pub Faulty : Design → Fault → Type 0
 Faulty d x = Standing (net_fault d) x (IsGraphFault d x)
 
--- an ECO is accepted where its edits have no fault and nothing is faulty after them, and refused else
+-- an ECO is accepted where its edits have no fault and nothing is faulty after them; it is refused by the first fault
+-- of its edits, or by a fault of the design after them
 abbrev pub Accepts : Design → Eco → Design → Type 0
 Accepts d eco d2 = (edited d eco ≡ Ok d2) × ((x : Fault) → Faulty d2 x → ⊥)
 

@@ -76,11 +76,12 @@ abbrev pub pins_after : Design → Pin → List Pin
 pins_after d pin =
     (if is_driver pin then sinks_on d (net_of pin) else []) ++ option_map_or (comb_after d pin) pin.owner []
 
--- a clock's port reaches the pin in at most so many steps; the pin reaches a register's clock pin
+-- a clock's port reaches the pin in at most so many steps
 abbrev pub from_clock : Design → ℕ → Pin → Bool
 from_clock d zero pin = is_clock_port d pin
 from_clock d (suc n) pin = is_clock_port d pin || list_any (from_clock d n) (pins_before d pin)
 
+-- the pin reaches a register's clock pin in at most so many steps
 abbrev pub to_register : Design → ℕ → Pin → Bool
 to_register d zero pin = is_clock_pin d pin
 to_register d (suc n) pin = is_clock_pin d pin || list_any (to_register d n) (pins_after d pin)

@@ -1,7 +1,7 @@
 -- Edits of a design (engineering change orders): what each does, and its first fault. The checks of
 -- one edit are made in the order of their codes, and names and pins in the order written.
 
-use Rattle.std.specs.Prelude.{ℕ, nat_eq, Bool, true, false, not, ◌&&◌, ◌||◌, if◌then◌else◌, List, [], ◌∷◌, ◌++◌, map, filter, length, Option, Some, None, Result, Ok, Err, find, option_map, option_and_then, is_some, is_none}
+use Rattle.std.specs.Prelude.{ℕ, nat_eq, nat_lt, Bool, true, false, not, ◌&&◌, ◌||◌, if◌then◌else◌, List, [], ◌∷◌, ◌++◌, map, filter, length, Option, Some, None, Result, Ok, Err, find, option_map, option_and_then, is_some, is_none}
 use Rattle.std.specs.List.{list_any, list_all}
 use Rattle.std.specs.Option.{option_map_or}
 use Rattle.std.specs.Str.{bytes_eq}
@@ -96,9 +96,10 @@ need_net d net = unless (is_listed d.nets net) (UnknownNet net)
 abbrev pub need_cell : Design → List ℕ → Option Fault
 need_cell d cell = unless (is_some (cell_for d cell)) (UnknownCell cell)
 
--- of a pin word first its instance, and at its turn the pin; a port is no instance pin
+-- of a pin word first its instance, where it names one, and at its turn the pin; a port is no instance pin
 abbrev pub need_pin_inst : Design → List ℕ → Option Fault
-need_pin_inst d word = (if has_colon word then need_inst d (before_last word) else None)
+need_pin_inst d word =
+    (if has_colon word && nat_lt 0 (length (before_last word)) then need_inst d (before_last word) else None)
 
 abbrev pub word_direction : Design → List ℕ → Option Dir
 word_direction d word = (if has_colon word then inst_direction d (before_last word) (after_last word) else None)

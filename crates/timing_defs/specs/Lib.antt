@@ -1,4 +1,5 @@
 pub mod Codes
+pub mod Cones
 pub mod Names
 pub mod formers
 pub mod Clocking

@@ -120,7 +120,7 @@ abbrev pub slack_by : Kind → Test → ℤ → ℤ → ℤ → ℤ → ℤ
 slack_by Setup test sep unc credit length = test.early +ℤ sep -ℤ test.need -ℤ unc +ℤ credit -ℤ length
 slack_by Hold test sep unc credit length = length -ℤ test.late -ℤ sep -ℤ test.need -ℤ unc +ℤ credit
 
--- a path that is measured: its launch edge and its length
+-- the slack of a path by a test: `n` is its first node, `ms` are the others; its launch edge and its length
 abbrev pub slack_of : Design → Kind → Named → List Named → ℕ × Tran → ℤ → Test → ℤ
 slack_of d kind n ms edge length test =
     slack_by kind test
@@ -131,7 +131,7 @@ abbrev pub tests_path : Design → Kind → Named → List Named → ℕ × Tran
 tests_path d kind n ms edge test =
     is_tested d.constraints kind (launch_of d n ms edge) (capture_of d (last_of n ms) test)
 
--- one slack of a tested path: the test with its slack
+-- each test of the last node that is not removed, with the slack of the path by it
 abbrev pub slacks_from : Design → Kind → Named → List Named → ℕ × Tran → ℤ → List (Test × ℤ)
 slacks_from d kind n ms edge length =
     map (λ test. (test, slack_of d kind n ms edge length test))

@@ -30,8 +30,8 @@ use Rattle.timing_defs.specs.Required.{kind_of, arcs_out, required}
 abbrev pub within_some : Option ℤ → Bool
 within_some value = option_map_or is_within value true
 
-abbrev pub both_splits : (Split → Bool) → Bool
-both_splits test = test Early || test Late
+abbrev pub either_split : (Split → Bool) → Bool
+either_split test = test Early || test Late
 
 -- the nodes of a net with parasitics: those of its resistors, its capacitances and its pins
 abbrev pub rc_nodes : Design → Split → NetRc → List RcNode
@@ -50,11 +50,11 @@ net_wires_within d split net = option_map_or (λ name. option_map_or (wires_with
 
 -- a net's total resistance, total capacitance and wire delays are named by the net
 abbrev pub is_large_rc : Design → NetRc → Bool
-is_large_rc d rc = not (is_within (sum_of res_of rc.ress)) || both_splits (λ split. not (wires_within d split rc))
+is_large_rc d rc = not (is_within (sum_of res_of rc.ress)) || either_split (λ split. not (wires_within d split rc))
 
 abbrev pub is_net_origin : Design → List ℕ → Bool
 is_net_origin d net =
-    both_splits (λ split. not (is_within (net_load d split net))) || option_map_or (is_large_rc d) (rc_of d net) false
+    either_split (λ split. not (is_within (net_load d split net))) || option_map_or (is_large_rc d) (rc_of d net) false
 
 -- each slew and each delay of a cell arc as looked up, at this slew and the load
 abbrev pub looked_within : Design → Split → Node → Node → (CellArc → Table) → ℤ → Bool
@@ -190,7 +190,7 @@ is_back_origin d split node =
     is_need_origin d (kind_of split) node || list_any (is_required_origin d split node) (launch_edges d)
 
 abbrev pub is_node_origin : Design → Node → Bool
-is_node_origin d node = both_splits (λ split. is_forward_origin d split node || is_back_origin d split node)
+is_node_origin d node = either_split (λ split. is_forward_origin d split node || is_back_origin d split node)
 
 abbrev pub is_pin_origin : Design → List ℕ → Bool
 is_pin_origin d name = list_any (λ node. bytes_eq (name_of node.pin) name && is_node_origin d node) (nodes d)

@@ -104,7 +104,7 @@ IsReport d (Tns kind) r = (tns : ℤ) × IsTns d kind tns × (r ≡ fs_value (So
 IsReport d (Worst kind count) r = (rows : List EndRow) × AreWorst d kind count rows × (r ≡ Ends rows)
 
 -- a question is refused where its pin is not there, else where it is no endpoint, else where no test
--- of the kind at that register pin has a clock
+-- of the kind at that register pin has a network clock pin
 abbrev pub unknown_pin : Design → List ℕ → Option QueryFault
 unknown_pin d pin = (if is_some (pin_named d pin) then None else Some (UnknownPin pin))
 

@@ -1,6 +1,6 @@
 -- Exceptions: false paths and multicycles between what launches a path and what captures it (SDC).
 
-use Rattle.std.specs.Prelude.{ℕ, ℤ, pos, ◌+ℤ◌, ◌-ℤ◌, ◌*ℤ◌, nat_eq, Bool, true, false, not, ◌&&◌, ◌||◌, if◌then◌else◌, List, [], ◌∷◌, slice_get, Option, Some, None}
+use Rattle.std.specs.Prelude.{ℕ, ℤ, pos, ◌+ℤ◌, ◌-ℤ◌, ◌*ℤ◌, nat_eq, Bool, true, false, not, ◌&&◌, ◌||◌, if◌then◌else◌, List, [], ◌∷◌, slice_get, Option, Some, None, is_none}
 use Rattle.std.specs.List.{list_any}
 use Rattle.std.specs.Option.{option_map_or, unwrap_or}
 use Rattle.std.specs.Str.{bytes_eq}
@@ -53,7 +53,7 @@ is_object clocks e (Pin name) = bytes_eq e.pin name
 is_object clocks e (Cell name) = is_cell e name
 is_object clocks e (Any name) =
     (if is_clock_name clocks name then has_clock clocks e.clock name
-    else bytes_eq e.pin name || bytes_eq e.pin (as_pin name) || is_cell e name)
+    else (is_none e.cell && bytes_eq e.pin name) || bytes_eq e.pin (as_pin name) || is_cell e name)
 
 -- a list matches where one of its objects does, and an absent list always does
 abbrev pub is_among : List Clock → End → Option (List Object) → Bool

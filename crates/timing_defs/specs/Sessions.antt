@@ -139,11 +139,13 @@ AreLegal initial journal first session (script ∷ scripts) (t ∷ ts) =
     × AreLegal initial journal first (session + 1) scripts ts
 
 -- the whole output of a journal and transcripts: each is legal for its script, the entries of a
--- session are its accepted rows in order, and each entry names a session of the run
+-- session are its accepted rows in order, each entry names a session of the run, and all are accepted
+-- in turn
 abbrev pub IsWhole : Design → ℕ → List Script → List Entry → List Transcript → Type 0
 IsWhole initial first scripts journal ts =
     AreLegal initial journal first 1 scripts ts
     × ((entry : Entry) → Contains journal entry → (1 ≤ entry.session) × (entry.session ≤ length scripts))
+    × ((d : Design) × DesignAfter initial journal (length journal) d)
 
 -- the bytes of a run: journal, transcripts and the totals of the last design
 abbrev pub IsOutput : Design → ℕ → List Entry → List Transcript → List ℕ → Type 0

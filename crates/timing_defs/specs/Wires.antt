@@ -57,6 +57,7 @@ path_between ress from to = route (length ress) ress from to
 abbrev pub res_of : RcRes → ℤ
 res_of r = r.res.0
 
+-- a resistor is known by its two ends: a tree has no two between the same nodes
 abbrev pub same_res : RcRes → RcRes → Bool
 same_res r s = same_rc r.a s.a && same_rc r.b s.b
 

@@ -15,8 +15,7 @@ pub struct PinCap {
     pub cap: Af,
 }
 
-/// Where a path is launched: the launch pin, the instance of a register's clock pin (none for an
-/// input port), and the clock's place in the list of clocks.
+/// Where a path is launched: the launch pin, the instance of that pin (none for a port), and the clock's place in the list of clocks.
 #[derive(Debug, Clone, PartialEq, Eq, Drop)]
 pub struct Launch {
     pub pin: Name,
