@@ -1,5 +1,5 @@
 //! The board and its seats, as callers use them.
-ghost use Rattle.std.specs.Prelude.{◌≡◌, ◌≢◌, ℕ, ◌+◌, ◌^◌, ◌<◌, ◌≤◌, true, false, List, [], ◌∷◌, length, map, reverse, Some, None, IfOk, IfErr, IfSome, All, slice_get};
+ghost use Rattle.std.specs.Prelude.{◌≡◌, ℕ, ◌+◌, ◌^◌, ◌<◌, ◌≤◌, false, [], length, map, reverse, None, IfOk, IfErr, IfSome, All, slice_get};
 ghost use Rattle.std.specs.Arc.{arc_value};
 ghost use Rattle.version_board.specs.Callers.{meaning, IsSeatOf, IsResting, IsSame, IsNew, IsSized, SitsAt, StandsFor, Continues, Looks, Publishes, AgreesWith, number};
 ghost use Rattle.std.specs.List.{Contains};

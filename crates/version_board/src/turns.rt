@@ -1,6 +1,6 @@
 //! A turn on the board: draw a ticket, wait until it is served, lift the value, read the count, add an
 //! entry or not, lay a value back, leave.
-ghost use Rattle.std.specs.Prelude.{◌≡◌, ℕ, ◌+◌, true, false, [], ◌∷◌, ◌++◌, length, Some, None};
+ghost use Rattle.std.specs.Prelude.{◌≡◌, ◌+◌, true, false, [], ◌∷◌, ◌++◌, length, Some, None};
 ghost use Rattle.std.specs.Arc.{arc_value};
 ghost use mathlib.Core.List.{IsPrefix};
 ghost use Rattle.version_board.specs.History.{shared, Fits};
@@ -9,6 +9,7 @@ ghost use Rattle.version_board.specs.Steps.{waiting, entered, tallied, marked, a
 use crate::plays::{Draw, Leave, Look, Mark, Tally};
 use crate::views::{Place, Row, Stands};
 use std::sync::{Arc, Wait};
+use std::thread;
 
 /// Draws the next ticket. It waits for ever once 2^62 tickets were drawn.
 pub(crate) fn draw<T: Stands, R: Wait>(rt: &R, row: &Row<T>, place: &mut Place<T>) -> u64
@@ -43,6 +44,7 @@ pub(crate) fn wait<T: Stands, R: Wait>(
         if row.load::<Look<T>>(place, 1) == ticket {
             return row.exchange(place, 0, None).unwrap();
         }
+        thread::yield_now();
     }
     unreachable!()
 }
