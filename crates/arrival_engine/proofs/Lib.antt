@@ -1,0 +1,10 @@
+pub mod Drivers
+pub mod ListLaws
+pub mod Loading
+pub mod Naming
+pub mod Order
+pub mod Outputs
+pub mod PlainRows
+pub mod RangeLaws
+pub mod RowLaws
+pub mod Tables

@@ -1,0 +1,3 @@
+pub mod Constant
+pub mod Plain
+pub mod Shares
