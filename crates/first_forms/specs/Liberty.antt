@@ -1,14 +1,19 @@
 -- A library of one cell with one input, one output and one timing arc of scalar tables, in the
 -- Liberty format (Synopsys Liberty User Guide).
-use Rattle.std.specs.Prelude.{ℕ, ◌-◌, List, [], ◌∷◌, ◌++◌, Bool, ◌==◌, ◌&&◌, not, ℤ, pos, int_lt, length, take, get_or, codes, if◌then◌else◌, Option, Some, None, option_map, option_and_then}
+use Rattle.std.specs.Prelude.{ℕ, ◌-◌, List, [], ◌∷◌, ◌++◌, Bool, true, false, ◌==◌, ◌&&◌, not, ℤ, pos, int_lt, length, take, get_or, codes, if◌then◌else◌, Option, Some, None, option_map, option_and_then}
+use Rattle.std.specs.List.{list_all, list_any}
 use Rattle.std.specs.Result.{result_ok}
 use Rattle.std.specs.Str.{bytes_eq}
 use Rattle.sta_units.specs.Decimal.{decimal_of}
+use Rattle.sta_units.specs.Numbers.{is_within}
+use Rattle.timing_defs.specs.Lookup.{is_well_formed}
+use Rattle.timing_defs.specs.declared.kinds.Dir.{Dir}
 use Rattle.timing_defs.specs.declared.kinds.Dir.TheVariants.{Input, Output}
 use Rattle.timing_defs.specs.declared.kinds.Tran.{Tran}
 use Rattle.timing_defs.specs.declared.kinds.Tran.TheVariants.{Rise, Fall}
 use Rattle.timing_defs.specs.declared.kinds.ArcKind.TheVariants.{Comb}
 use Rattle.timing_defs.specs.declared.library.Table.{Table}
+use Rattle.timing_defs.specs.declared.library.Cell.{Cell}
 use Rattle.timing_defs.specs.declared.library.CellPin.{CellPin}
 use Rattle.timing_defs.specs.declared.library.CellArc.{CellArc}
 use Rattle.timing_defs.specs.declared.library.Library.{Library}
@@ -132,3 +137,32 @@ library_of cell =
 abbrev pub first_library : List ℕ → Option Library
 first_library text =
     option_map library_of (option_and_then cell_of (fill [] (tokens Liberty 0 form_text) (tokens Liberty 0 text)))
+
+abbrev pub is_input : Dir → Bool
+is_input Input = true
+is_input Output = false
+
+abbrev pub has_input : Cell → List ℕ → Bool
+has_input cell name = list_any (λ (p : CellPin). is_input p.dir && bytes_eq p.name name) cell.pins
+
+abbrev pub has_output : Cell → List ℕ → Bool
+has_output cell name = list_any (λ (p : CellPin). not (is_input p.dir) && bytes_eq p.name name) cell.pins
+
+abbrev pub is_sound_arc : Cell → CellArc → Bool
+is_sound_arc cell a =
+    has_input cell a.from && has_output cell a.to && is_well_formed a.delay && is_well_formed a.slew
+
+abbrev pub is_sound_cell : Cell → Bool
+is_sound_cell cell =
+    list_all (λ (p : CellPin). is_within p.cap.0) cell.pins && list_all (is_sound_arc cell) cell.arcs
+
+-- capacitances are within the limit, tables are well formed, and arcs go from an input to an output
+unfoldable pub is_sound : Library → Bool
+is_sound library = list_all is_sound_cell library.cells
+
+-- the figures that were read are within the limit
+abbrev pub edge_within : Edge → Bool
+edge_within edge = is_within edge.delay && is_within edge.slew
+
+abbrev pub figures_within : Figures → Bool
+figures_within figures = is_within figures.cap && edge_within figures.rise && edge_within figures.fall

@@ -1,21 +1,16 @@
 -- How the texts of the first forms are cut into tokens. A token is the bytes that it is made of;
 -- a string keeps its quotes. Line ends are tokens in a script alone.
-use Rattle.std.specs.Prelude.{ℕ, zero, suc, ◌+◌, ◌-◌, List, [], ◌∷◌, Bool, ◌==◌, ◌&&◌, ◌||◌, not, nat_le, nat_lt, length, map, take, if◌then◌else◌}
+use Rattle.std.specs.Prelude.{ℕ, zero, suc, ◌+◌, List, [], ◌∷◌, Bool, ◌==◌, ◌&&◌, ◌||◌, not, nat_lt, length, map, take, if◌then◌else◌}
 use denote.Ref.{Bor}
+use Rattle.std.specs.Char.{is_ascii_alphanumeric}
 use Rattle.std.specs.List.{list_all, prefix_len}
 use Rattle.first_forms.specs.Blanks.{is_white}
 use Rattle.first_forms.specs.declared.tokens.Form.{Form}
 use Rattle.first_forms.specs.declared.tokens.Form.TheVariants.{Liberty, Netlist, Script}
 
-abbrev pub is_letter : ℕ → Bool
-is_letter byte = (nat_le 65 byte && nat_le byte 90) || (nat_le 97 byte && nat_le byte 122)
-
-abbrev pub is_digit : ℕ → Bool
-is_digit byte = nat_le 48 byte && nat_le byte 57
-
 -- letters, digits and the underscore
 abbrev pub is_plain : ℕ → Bool
-is_plain byte = is_letter byte || is_digit byte || byte == 95
+is_plain byte = is_ascii_alphanumeric byte || byte == 95
 
 -- letters, digits and underscores, at least one
 abbrev pub is_plain_word : List ℕ → Bool

@@ -1,5 +1,6 @@
 -- The words of a command line that runs one script.
 use Rattle.std.specs.Prelude.{ℕ, ◌+◌, ◌-◌, ◌*◌, List, [], ◌∷◌, Bool, false, ◌==◌, ◌&&◌, not, nat_le, length, if◌then◌else◌, Option, Some, None, option_map, codes, get_or}
+use Rattle.std.specs.Char.{is_ascii_digit}
 use Rattle.std.specs.List.{list_all}
 use Rattle.std.specs.Str.{bytes_eq}
 use Rattle.first_forms.specs.declared.words.Run.{Run}
@@ -26,9 +27,6 @@ run_words run =
       script = run.script.now;
     }
 
-abbrev pub is_digit : ℕ → Bool
-is_digit byte = nat_le 48 byte && nat_le byte 57
-
 -- the number that decimal digits write, behind the digits of n
 abbrev pub number_behind : ℕ → List ℕ → ℕ
 number_behind n [] = n
@@ -37,7 +35,7 @@ number_behind n (digit ∷ digits) = number_behind (10 * n + (digit - 48)) digit
 -- 1 to 20 decimal digits with a value from 1 to 32
 abbrev pub workers_of : List ℕ → Option ℕ
 workers_of word =
-    (if nat_le 1 (length word) && nat_le (length word) 20 && list_all is_digit word && nat_le 1 (number_behind 0 word)
+    (if nat_le 1 (length word) && nat_le (length word) 20 && list_all is_ascii_digit word && nat_le 1 (number_behind 0 word)
     && nat_le (number_behind 0 word) 32
     then Some (number_behind 0 word)
     else None)

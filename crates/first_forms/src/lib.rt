@@ -10,6 +10,8 @@ mod modules;
 mod name_sets;
 mod netlist;
 mod scripts;
+#[cfg(test)]
+mod tests;
 mod tokens;
 mod words;
 

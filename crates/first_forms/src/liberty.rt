@@ -1,9 +1,10 @@
 //! The first form of a Liberty library: one cell with one input, one output and scalar tables.
 
-ghost use Rattle.std.specs.Prelude.{◌≡◌, ◌∷◌, ◌++◌, [], IfOk, OnOk, option_map};
+ghost use Rattle.std.specs.Prelude.{◌≡◌, ◌∷◌, ◌++◌, [], true, IfOk, IfSome, OnOk, option_map};
+ghost use Rattle.sta_units.specs.Numbers.{is_within};
 ghost use Rattle.first_forms.specs.Tokens.{texts, tokens};
 ghost use Rattle.first_forms.specs.declared.tokens.Form.TheVariants.{Liberty};
-ghost use Rattle.first_forms.specs.Liberty.{form_text, fill, part, inside, number_of, cap_of, edge_of, sense_of, names_fit, figures_of, cell_of, scalar, edge_at, arc, arcs_with, pins_of, library_of, first_library};
+ghost use Rattle.first_forms.specs.Liberty.{form_text, fill, part, inside, number_of, cap_of, edge_of, sense_of, names_fit, figures_of, cell_of, scalar, edge_at, arc, arcs_with, pins_of, library_of, first_library, is_sound, edge_within, figures_within};
 
 use crate::tokens::{Cursor, Form, is, is_plain_word, plain_name};
 use sta_units::{Af, Memory, Unit, decimal};
@@ -102,20 +103,23 @@ fn inside(token: &[u8]) -> &[u8]
 
 /// A time in fs that is written in ps, or a capacitance in aF that is written in fF.
 fn number_of(text: &[u8]) -> Option<i64>
-    ensures { result ≡ number_of text.now }
+    ensures value { result ≡ number_of text.now }
+    ensures within { IfSome result (λ number. is_within number ≡ true) }
 {
     decimal(text, Unit { ten: 3 }).ok()
 }
 
 fn cap_of(text: &[u8]) -> Option<i64>
-    ensures { result ≡ cap_of text.now }
+    ensures value { result ≡ cap_of text.now }
+    ensures within { IfSome result (λ cap. is_within cap ≡ true) }
 {
     let cap = number_of(text)?;
     if cap < 0 { None } else { Some(cap) }
 }
 
 fn edge_of(delay: &[u8], slew: &[u8]) -> Option<Edge>
-    ensures { result ≡ edge_of delay.now slew.now }
+    ensures value { result ≡ edge_of delay.now slew.now }
+    ensures within { IfSome result (λ edge. edge_within edge ≡ true) }
 {
     let delay = number_of(inside(delay))?;
     let slew = number_of(inside(slew))?;
@@ -149,7 +153,8 @@ fn names_fit(found: &[&[u8]]) -> bool
 }
 
 fn figures_of(found: &[&[u8]]) -> Option<Figures>
-    ensures { result ≡ figures_of (texts found.now) }
+    ensures value { result ≡ figures_of (texts found.now) }
+    ensures within { IfSome result (λ figures. figures_within figures ≡ true) }
 {
     let sense = sense_of(part(found, 6))?;
     let cap = cap_of(part(found, 3))?;
@@ -166,7 +171,8 @@ fn figures_of(found: &[&[u8]]) -> Option<Figures>
 /// The cell of the tokens that were found.
 #[tactic(auto, using(crate::proofs::LibertyLemmas::name_fits, crate::proofs::LibertyLemmas::input_fits, crate::proofs::LibertyLemmas::output_fits))]
 fn cell_of(alloc: Global, found: &[&[u8]]) -> Result<Option<OneCell>, Memory>
-    ensures { IfOk result (λ cell. cell ≡ cell_of (texts found.now)) }
+    ensures value { IfOk result (λ cell. cell ≡ cell_of (texts found.now)) }
+    ensures within { IfOk result (λ found. IfSome found (λ cell. figures_within cell.figures ≡ true)) }
 {
     if !names_fit(found) {
         return Ok(None);
@@ -305,8 +311,10 @@ fn library_of(alloc: Global, cell: OneCell) -> Result<Library, Memory>
 /// # Errors
 ///
 /// Want of memory alone.
+#[tactic(auto, using(crate::proofs::LibertyLemmas::sound_library))]
 pub fn first_library(alloc: Global, bytes: &[u8]) -> Result<Option<Library>, Memory>
-    ensures { IfOk result (λ found. found ≡ first_library bytes.now) }
+    ensures value { IfOk result (λ found. found ≡ first_library bytes.now) }
+    ensures sound { IfOk result (λ found. IfSome found (λ library. is_sound library ≡ true)) }
 {
     let mut form = form();
     let mut text = Cursor::new(Form::Liberty, bytes);

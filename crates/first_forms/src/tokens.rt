@@ -4,7 +4,7 @@ ghost use Rattle.std.specs.Prelude.{◌≡◌, ◌<◌, ◌≤◌, ◌∷◌, []
 ghost use Rattle.std.specs.List.{list_all, prefix_len};
 ghost use Rattle.std.specs.Str.{bytes_eq};
 ghost use Rattle.first_forms.specs.Blanks.{is_white};
-ghost use Rattle.first_forms.specs.Tokens.{is_letter, is_plain, is_plain_word, is_of_number, is_space, is_word_byte, is_inside, string_len, more_of, tokens};
+ghost use Rattle.first_forms.specs.Tokens.{is_plain, is_plain_word, is_of_number, is_space, is_word_byte, is_inside, string_len, more_of, tokens};
 
 use crate::blanks::is_white;
 use sta_units::Memory;
@@ -46,17 +46,11 @@ pub(crate) fn is(token: &[u8], wanted: &[u8]) -> bool
     token == wanted
 }
 
-fn is_letter(byte: u8) -> bool
-    ensures { result ≡ is_letter byte }
-{
-    (b'A' <= byte && byte <= b'Z') || (b'a' <= byte && byte <= b'z')
-}
-
 /// Whether the byte is a letter, a digit or an underscore.
 pub(crate) fn is_plain(byte: u8) -> bool
     ensures { result ≡ is_plain byte }
 {
-    is_letter(byte) || (b'0' <= byte && byte <= b'9') || byte == b'_'
+    byte.is_ascii_alphanumeric() || byte == b'_'
 }
 
 fn all_plain(word: &[u8]) -> bool

@@ -1,9 +1,10 @@
 //! The words of the command line.
 
 ghost use Rattle.std.specs.Prelude.{◌≡◌, ◌<◌, ◌≤◌, map, option_map, MatchOption};
+ghost use Rattle.std.specs.Char.{is_ascii_digit};
 ghost use Rattle.std.specs.List.{list_all};
 ghost use Rattle.std.specs.String.{string_bytes};
-ghost use Rattle.first_forms.specs.Words.{is_digit, number_behind, workers_of, is_operand, word, run_of, run_words};
+ghost use Rattle.first_forms.specs.Words.{number_behind, workers_of, is_operand, word, run_of, run_words};
 
 /// What a command line asks for: the names of the documents, and the number of workers, from 1 to
 /// 32. It borrows the words.
@@ -18,16 +19,10 @@ pub struct Run<'a> {
     pub script: &'a str,
 }
 
-fn is_digit(byte: u8) -> bool
-    ensures { result ≡ is_digit byte }
-{
-    b'0' <= byte && byte <= b'9'
-}
-
 fn all_digits(text: &[u8]) -> bool
-    ensures { result ≡ list_all is_digit text.now }
+    ensures { result ≡ list_all is_ascii_digit text.now }
 {
-    text.iter().all(|byte| is_digit(*byte))
+    text.iter().all(|byte| byte.is_ascii_digit())
 }
 
 /// The number that digits write, where it is at most 32.
