@@ -20,6 +20,8 @@ mod parasitics;
 mod reports;
 mod rows;
 mod scripts;
+#[cfg(test)]
+mod tests;
 mod texts;
 
 pub use codes::{Code, ReadFault};
