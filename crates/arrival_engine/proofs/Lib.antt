@@ -7,4 +7,5 @@ pub mod Outputs
 pub mod PlainRows
 pub mod RangeLaws
 pub mod RowLaws
+pub mod Samples
 pub mod Tables

@@ -1,3 +1,4 @@
 pub mod Constant
+pub mod Example
 pub mod Plain
 pub mod Shares

@@ -9,5 +9,7 @@ mod passes;
 mod plain;
 mod rows;
 mod slews;
+#[cfg(test)]
+mod tests;
 
 pub use plain::{PinRow, plain_rows};

@@ -57,8 +57,10 @@ fn add_port_row(
 }
 
 /// The bytes `instance:pin`.
+#[tactic(auto, using(crate::proofs::Naming::joined_name))]
 fn full_name_bytes(alloc: Global, inst: &Name, own: &Name) -> Result<Vec<u8>, Memory>
-    ensures { IfOk result (λ bytes. bytes.items ≡ inst.now ++ 58 ∷ own.now) }
+    ensures bytes { IfOk result (λ bytes. bytes.items ≡ inst.now ++ 58 ∷ own.now) }
+    ensures name { IfOk result (λ bytes. IsTrue (is_name bytes.items)) }
 {
     let mut bytes = Vec::new(alloc);
     bytes.extend_from_slice(inst.as_bytes())?;
@@ -72,10 +74,7 @@ fn full_name(alloc: Global, inst: &Name, own: &Name) -> Result<Name, Memory>
     ensures { IfOk result (λ name. name ≡ inst.now ++ 58 ∷ own.now) }
 {
     let bytes = full_name_bytes(alloc, inst, own)?;
-    match Name::from_vec(bytes) {
-        Some(name) => Ok(name),
-        None => Err(Memory),
-    }
+    Ok(Name::from_vec(bytes).unwrap())
 }
 
 fn add_pin_row(
