@@ -1,0 +1,15 @@
+pub mod AnswerLemmas
+pub mod AnswerSteps
+pub mod Completeness
+pub mod EndLemmas
+pub mod IndexLemmas
+pub mod LinkLemmas
+pub mod NameLemmas
+pub mod NetLemmas
+pub mod OrderLemmas
+pub mod ReadLemmas
+pub mod ScriptLemmas
+pub mod SessionLemmas
+pub mod Stopping
+pub mod TotalLemmas
+pub mod UnbuiltLemmas

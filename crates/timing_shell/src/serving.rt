@@ -1,0 +1,201 @@
+//! The top call: one run of the server.
+
+ghost use Rattle.std.specs.Prelude.{◌≡◌, ◌≤◌, map, IfOk};
+ghost use Rattle.std.specs.String.{string_bytes};
+ghost use Rattle.first_forms.specs.Words.{run_words};
+ghost use Rattle.timing_shell.specs.Serving.{RunEnds, Ends, Written, NothingRefuses, IsAnswered};
+
+use crate::answers::{End, end_of};
+use crate::documents::{Stop, name_of, read_all};
+use crate::texts::{refusal_line, shelf_line, words_line};
+use first_forms::{Run, first_words};
+use sta_outside::{Gate, Shelf, Sink};
+use sta_units::Memory;
+use std::alloc::Global;
+use std::thread::Threads;
+
+/// How a run ended: 0 where all rows are answers, 1 where some row is none, 2 where the words ask
+/// for no run, 3 where a document or the design is refused, 4 where the shelf did not give a
+/// document, 5 where the sink failed, 6 for want of memory.
+pub type Status = u8;
+
+/// How a run ends, by its words.
+#[tactic(auto, using(crate::proofs::EndLemmas::run_read, crate::proofs::EndLemmas::run_refused, crate::proofs::EndLemmas::run_missing))]
+fn run_end<S: Shelf>(alloc: Global, shelf: &mut S, run: &Run<'_>) -> Result<End, Memory>
+    ensures ends { IfOk result (λ end. RunEnds (S.holds shelf.old) (S.faults shelf.old) (S.faults shelf.new) (run_words run.now) end.status end.text.items) }
+    ensures count { IfOk result (λ end. end.status ≤ 3 → S.faults shelf.new ≡ S.faults shelf.old) }
+    ensures status { IfOk result (λ end. end.status ≤ 4) }
+{
+    match read_all(alloc, shelf, run) {
+        Ok(docs) => {
+            let end = end_of(alloc, docs)?;
+            Ok(end)
+        }
+        Err(Stop::Memory) => Err(Memory),
+        Err(Stop::Refused(role)) => {
+            let text = refusal_line(alloc, role)?;
+            Ok(End { status: 3, text })
+        }
+        Err(Stop::Missing(role, how)) => {
+            let text = shelf_line(alloc, name_of(run, role), how)?;
+            Ok(End { status: 4, text })
+        }
+    }
+}
+
+/// How a run ends, and what it is to write.
+#[tactic(auto, using(crate::proofs::EndLemmas::ends_asked, crate::proofs::EndLemmas::ends_unasked))]
+fn ending<S: Shelf>(alloc: Global, words: &[String], shelf: &mut S) -> Result<End, Memory>
+    ensures ends { IfOk result (λ end. Ends (S.holds shelf.old) (S.faults shelf.old) (S.faults shelf.new) (map string_bytes words.now) end.status end.text.items) }
+    ensures count { IfOk result (λ end. end.status ≤ 3 → S.faults shelf.new ≡ S.faults shelf.old) }
+    ensures status { IfOk result (λ end. end.status ≤ 4) }
+{
+    match first_words(words) {
+        None => {
+            let text = words_line(alloc)?;
+            Ok(End { status: 2, text })
+        }
+        Some(run) => {
+            let end = run_end(alloc, shelf, &run)?;
+            Ok(end)
+        }
+    }
+}
+
+/// Runs the server once, by its words.
+#[tactic(auto, using(crate::proofs::EndLemmas::written_whole, crate::proofs::EndLemmas::written_partly, crate::proofs::EndLemmas::written_nothing))]
+fn written<S: Shelf, K: Sink>(alloc: Global, words: &[String], shelf: &mut S, out: &mut K) -> Status
+    ensures ends { Written (K.written out.old) (K.written out.new) (K.faults out.old) (K.faults out.new) (S.holds shelf.old) (S.faults shelf.old) (S.faults shelf.new) (map string_bytes words.now) result }
+    ensures shelf_count { result ≤ 3 → S.faults shelf.new ≡ S.faults shelf.old }
+{
+    match ending(alloc, words, shelf) {
+        Err(Memory) => 6,
+        Ok(end) => match out.put(end.text.as_slice()) {
+            Ok(()) => end.status,
+            Err(_) => 5,
+        },
+    }
+}
+
+/// Runs the server once: the words after the program's name ask for a run of documents, which are
+/// fetched from the shelf, and what the run writes is put into the sink in one piece. The answer
+/// of each question is that of the whole design of the documents. The gate is not called yet.
+pub fn serve<H: Threads + Sync, S: Shelf, K: Sink, G: Gate>(
+    _rt: &H,
+    alloc: Global,
+    words: &[String],
+    shelf: &mut S,
+    out: &mut K,
+    _gate: &G,
+) -> Status
+    ensures ends { Written (K.written out.old) (K.written out.new) (K.faults out.old) (K.faults out.new) (S.holds shelf.old) (S.faults shelf.old) (S.faults shelf.new) (map string_bytes words.now) result }
+    ensures shelf_count { result ≤ 3 → S.faults shelf.new ≡ S.faults shelf.old }
+    ensures completeness { NothingRefuses (S.holds shelf.old) (S.faults shelf.old) (S.faults shelf.new) (K.faults out.old) (K.faults out.new) (map string_bytes words.now) → IsAnswered result }
+{
+    written(alloc, words, shelf, out)
+}
+
+#[cfg(test)]
+mod tests {
+    use super::*;
+    use sta_outside::{MemShelf, MemSink, NoGate};
+    use std::test::Fail;
+
+    const LIBRARY: &str = "library (a) { time_unit : \"1ps\"; capacitive_load_unit (1, ff);
+ cell (INV) { pin (A) { direction : input; capacitance : 2; }
+  pin (Z) { direction : output;
+   timing () { related_pin : \"A\"; timing_sense : negative_unate;
+    cell_rise (scalar) { values (\"10\"); } rise_transition (scalar) { values (\"4\"); }
+    cell_fall (scalar) { values (\"12\"); } fall_transition (scalar) { values (\"6\"); } } } } }
+";
+
+    const NETLIST: &str =
+        "module top (in, out); input in; output out; wire w; INV u1 (.A(in), .Z(w)); INV u2 (.A(w), .Z(out)); endmodule\n";
+
+    const UNKNOWN: &str =
+        "module top (in, out); input in; output out; wire w; NOCELL u1 (.A(in), .Z(w)); INV u2 (.A(w), .Z(out)); endmodule\n";
+
+    const TWICE: &str =
+        "module top (in, out); input in; output out; INV u1 (.A(in), .Z(out)); INV u2 (.A(in), .Z(out)); endmodule\n";
+
+    const BEHIND: &str =
+        "module top (in, out); input in; output out; wire w; INV u2 (.A(w), .Z(out)); INV u1 (.A(in), .Z(w)); endmodule\n";
+
+    const RUN: &str = "run a.lib a.lib a.v empty none 1 s1";
+
+    const SLEW: &str = "report_slew u2:Z late rise\n";
+
+    fn texts(alloc: Global, all: &[&str]) -> Result<Vec<Vec<u8>>, Fail> {
+        let mut texts = Vec::new(alloc);
+        for text in all {
+            texts.push(text.as_bytes().to_vec(alloc)?)?;
+        }
+        Ok(texts)
+    }
+
+    fn names(alloc: Global, all: &[&str]) -> Result<Vec<String>, Fail> {
+        let mut names = Vec::new(alloc);
+        for name in all {
+            names.push(String::from_str(alloc, name)?)?;
+        }
+        Ok(names)
+    }
+
+    #[test]
+    fn a_run_ends_with_its_status_and_its_text(rt: HostRuntime) -> Result<(), Fail> {
+        let alloc = rt.alloc();
+        let answer =
+            "journal 1 0\nsession 1 rows 1\n1 0 slew 4.000\nfinal 0 setup none 0.000 hold none 0.000\n";
+        let refusal =
+            "journal 1 0\nsession 1 rows 1\n1 0 no Q1 zz\nfinal 0 setup none 0.000 hold none 0.000\n";
+        let silence = "journal 1 0\nsession 1 rows 0\nfinal 0 setup none 0.000 hold none 0.000\n";
+        let absent = "run a.lib x.lib a.v empty none 1 s1";
+        let parasitics = "run a.lib a.lib a.v empty a.v 1 s1";
+        let rows = [
+            (RUN, NETLIST, SLEW, 0, 1000, 0, answer),
+            (
+                RUN,
+                NETLIST,
+                "report_slew zz early fall",
+                0,
+                1000,
+                1,
+                refusal,
+            ),
+            (RUN, NETLIST, "", 0, 1000, 0, silence),
+            (RUN, NETLIST, "tack", 0, 1000, 3, "fault script1 N1 0\n"),
+            (RUN, "", SLEW, 0, 1000, 3, "fault netlist N1 0\n"),
+            (parasitics, NETLIST, SLEW, 0, 1000, 3, "fault spef N1 0\n"),
+            (RUN, UNKNOWN, SLEW, 0, 1000, 3, "fault design N2\n"),
+            (RUN, TWICE, SLEW, 0, 1000, 3, "fault design N2\n"),
+            (RUN, BEHIND, SLEW, 0, 1000, 3, "fault design N2\n"),
+            ("", NETLIST, SLEW, 0, 1000, 2, "fault words\n"),
+            ("run", NETLIST, SLEW, 0, 1000, 2, "fault words\n"),
+            (
+                absent,
+                NETLIST,
+                SLEW,
+                0,
+                1000,
+                4,
+                "fault shelf x.lib absent\n",
+            ),
+            (RUN, NETLIST, SLEW, 1, 1000, 4, "fault shelf a.lib failed\n"),
+            (RUN, NETLIST, SLEW, 0, 5, 5, "journ"),
+        ];
+        for (line, netlist, script, fails, room, status, text) in rows {
+            let mut words = Vec::new(alloc);
+            for word in line.split_whitespace() {
+                words.push(String::from_str(alloc, word)?)?;
+            }
+            let held = names(alloc, &["a.lib", "a.v", "empty", "s1"])?;
+            let docs = texts(alloc, &[LIBRARY, netlist, "", script])?;
+            let mut shelf = MemShelf::new(held, docs, vec![in alloc; fails]?);
+            let mut sink = MemSink::new(alloc, room, Vec::new(alloc))?;
+            let ended = serve(&rt, alloc, words.as_slice(), &mut shelf, &mut sink, &NoGate);
+            assert_eq!(rt; ended, status, "at {line} with {script}");
+            assert_eq!(rt; sink.bytes(), text.as_bytes(), "at {line} with {script}");
+        }
+        Ok(())
+    }
+}
