@@ -12,6 +12,7 @@ parent_of [] n = None
 parent_of (row ∷ rows) zero = row.parent
 parent_of (row ∷ rows) (suc n) = parent_of rows n
 
+-- a parent, where there is one, stands before its child (own rule: it makes a tree of the rows)
 abbrev pub IsBefore : Option ℕ → ℕ → Type 0
 IsBefore None n = Unit {0}
 IsBefore (Some parent) n = parent < n
@@ -22,6 +23,7 @@ IsTreeFrom n [] = Unit {0}
 IsTreeFrom n (row ∷ rows) =
     IsBefore row.parent n × Within row.early.0 × Within row.late.0 × IsTreeFrom (suc n) rows
 
+-- all rows of one or more trees
 abbrev pub IsTree : List TreeRow → Type 0
 IsTree rows = IsTreeFrom 0 rows
 
@@ -40,7 +42,7 @@ last_common last [] ys = last
 last_common last (x ∷ xs) [] = last
 last_common last (x ∷ xs) (y ∷ ys) = (if x == y then last_common (Some x) xs ys else last)
 
--- late less early arrival at the place `n`
+-- late less early arrival at the place `n`; 0 where there is no such row
 abbrev pub pessimism_at : List TreeRow → ℕ → ℤ
 pessimism_at [] n = pos 0
 pessimism_at (row ∷ rows) zero = row.late.0 -ℤ row.early.0
