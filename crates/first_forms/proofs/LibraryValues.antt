@@ -8,15 +8,15 @@ use Rattle.std.specs.Str.{bytes_eq}
 use Rattle.std.proofs.lemmas.Bool.{false≢true}
 use Rattle.std.proofs.Math.Dec.{leb-zero}
 use Rattle.sta_units.specs.Numbers.{is_within}
-use Rattle.sta_units.specs.Decimal.{Written, decimal_of, written_of, value_or_fault, number_on, signed, scaled, in_range}
+use Rattle.sta_units.specs.Decimal.{Written, decimal_of, written_of, value_or_fault, value_of, number_on, signed, scaled, in_range}
 use Rattle.sta_units.specs.declared.decimals.DecFault.{DecFault}
 use Rattle.sta_units.specs.declared.decimals.DecFault.TheVariants.{TooLong, OutOfUnitRange}
-use Rattle.timing_defs.specs.declared.kinds.Dir.TheVariants.{Input}
+use Rattle.timing_defs.specs.declared.kinds.Dir.TheVariants.{Input, Output}
 use Rattle.timing_defs.specs.declared.kinds.Tran.{Tran}
 use Rattle.timing_defs.specs.declared.kinds.Tran.TheVariants.{Rise, Fall}
 use Rattle.timing_defs.specs.declared.library.Library.{Library}
 use Rattle.timing_defs.proofs.SameNames.{same_self, same-sym}
-use Rattle.first_forms.specs.Liberty.{part, number_of, cap_of, edge_of, sense_of, names_fit, inside, figures_of, cell_of, edge_at, arc, arcs_with, pins_of, library_of, first_library, fill, form_text}
+use Rattle.first_forms.specs.Liberty.{part, number_of, cap_of, edge_of, sense_of, names_fit, inside, figures_of, cell_of, scalar, edge_at, arc, arcs_with, pins_of, library_of, first_library, fill, form_text}
 use Rattle.first_forms.specs.Tokens.{is_plain_word, tokens}
 use Rattle.first_forms.specs.declared.tokens.Form.TheVariants.{Liberty}
 use Rattle.first_forms.specs.declared.liberty.Sense.{Sense}
