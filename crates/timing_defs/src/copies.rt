@@ -1,6 +1,7 @@
 //! Copies of the types that a store keeps, each equal to what it was made of.
 
 ghost use Rattle.std.specs.Prelude.{◌≡◌, take, IfOk};
+ghost use Rattle.timing_defs.specs.declared.edits.Edit.TheVariants.{InsertBuffer};
 
 use crate::constraints::{
     Clock, Constraints, Derates, Effect, Exception, Object, PortDelay, PortLoad, PortSlew,
@@ -383,6 +384,26 @@ impl Again for RcNode {
     }
 }
 
+/// Copies the edit that inserts a buffer.
+fn buffer_again(
+    alloc: Global,
+    net: &Name,
+    inst: &Name,
+    fresh: &Name,
+    cell: &Name,
+    sinks: &Items<Name>,
+) -> Result<Edit, Memory>
+    ensures copied { IfOk result (λ r. r ≡ InsertBuffer net.now inst.now fresh.now cell.now sinks.now) }
+{
+    Ok(Edit::InsertBuffer {
+        net: net.again(alloc)?,
+        inst: inst.again(alloc)?,
+        fresh: fresh.again(alloc)?,
+        cell: cell.again(alloc)?,
+        sinks: sinks.again(alloc)?,
+    })
+}
+
 impl Again for Edit {
     fn again(&self, alloc: Global) -> Result<Edit, Memory> {
         Ok(match self {
@@ -416,13 +437,7 @@ impl Again for Edit {
                 fresh,
                 cell,
                 sinks,
-            } => Edit::InsertBuffer {
-                net: net.again(alloc)?,
-                inst: inst.again(alloc)?,
-                fresh: fresh.again(alloc)?,
-                cell: cell.again(alloc)?,
-                sinks: sinks.again(alloc)?,
-            },
+            } => buffer_again(alloc, net, inst, fresh, cell, sinks)?,
             Edit::SetParasitics { net, rc } => Edit::SetParasitics {
                 net: net.again(alloc)?,
                 rc: rc.again(alloc)?,
