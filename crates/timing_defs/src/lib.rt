@@ -20,8 +20,6 @@ mod parasitics;
 mod reports;
 mod rows;
 mod scripts;
-#[cfg(test)]
-mod tests;
 mod texts;
 
 pub use codes::{Code, ReadFault};

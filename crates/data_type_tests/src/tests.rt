@@ -1,9 +1,9 @@
 //! Names, lists, codes and copies.
 
-use super::*;
 use sta_units::{Again, Fs, Memory};
 use std::alloc::Global;
 use std::test::Fail;
+use timing_defs::{Code, Conn, EdgeTime, EdgeTimes, Inst, Items, Name, NodeRow, Tran, same_name};
 
 fn named(alloc: Global, text: &str) -> Result<Name, Fail> {
     Ok(Name::from_bytes(alloc, text.as_bytes())?.ok_or("no name")?)
