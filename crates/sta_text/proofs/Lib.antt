@@ -1,0 +1,5 @@
+pub mod TokensLemmas
+pub mod OrderLemmas
+pub mod NamesLemmas
+pub mod PlacesLemmas
+pub mod FaultsLemmas

@@ -1,0 +1,5 @@
+pub mod Bytes
+pub mod Faults
+pub mod Names
+pub mod Pieces
+pub mod Tokens
