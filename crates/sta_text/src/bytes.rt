@@ -17,7 +17,7 @@ pub(crate) enum WordSort {
 }
 
 /// Whether the text's first byte is this one.
-pub(crate) fn begins(byte: u8, bytes: &[u8]) -> bool
+pub fn begins(byte: u8, bytes: &[u8]) -> bool
     ensures { result ≡ begins byte bytes.now }
 {
     match bytes.split_first() {
@@ -45,7 +45,7 @@ pub(crate) fn is_white(byte: u8) -> bool
 }
 
 /// How many bytes of a line's end the text begins with.
-pub(crate) fn line_end_len(bytes: &[u8]) -> usize
+pub fn line_end_len(bytes: &[u8]) -> usize
     ensures value { result ≡ line_end_len bytes.now }
     ensures within { result ≤ length bytes.now }
 {
@@ -64,7 +64,7 @@ pub(crate) fn line_end_len(bytes: &[u8]) -> usize
 }
 
 /// Whether the byte is a backslash that continues the line.
-pub(crate) fn continues(byte: u8, rest: &[u8]) -> bool
+pub fn continues(byte: u8, rest: &[u8]) -> bool
     ensures { result ≡ continues byte rest.now }
 {
     byte == b'\\' && 0 < line_end_len(rest)

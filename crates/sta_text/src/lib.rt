@@ -15,6 +15,7 @@ mod places;
 mod tests;
 mod token;
 
+pub use bytes::{begins, continues, line_end_len};
 pub use cursor::{Cursor, tokens_in_order};
 pub use faults::{Wrong, lesser};
 pub use names::Names;
