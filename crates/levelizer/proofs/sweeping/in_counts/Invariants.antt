@@ -1,0 +1,8 @@
+use Rattle.std.proofs.Common.{◌≡◌, ℕ, ◌==◌, take, get_or, vec_len, count_by}
+use Rattle.levelizer.proofs.sweeping.in_counts.Given as goal
+
+abbrev pub invariant-loop-arc : goal.invariant-loop-arc
+invariant-loop-arc l = record {
+  long : vec_len l.counts ≡ l.n;
+  each : (m : ℕ) → get_or l.counts.items m 0 ≡ count_by (λ arc. arc.to == m) (take l.arc-index l.arcs);
+}

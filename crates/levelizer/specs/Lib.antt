@@ -1,0 +1,4 @@
+pub mod FanOut
+pub mod Levels
+pub mod Sweep
+pub mod Tails

@@ -1,0 +1,16 @@
+//! Levels of a graph whose nodes are numbers, or a cycle of it: the order in which a timing analysis
+//! can go over the nodes.
+#![tactic(auto)]
+
+mod cycles;
+mod fan_out;
+mod faults;
+mod leveling;
+mod links;
+mod sweeping;
+#[cfg(test)]
+mod tests;
+
+pub use faults::LevelFault;
+pub use leveling::levels;
+pub use links::Link;
