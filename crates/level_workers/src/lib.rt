@@ -1,0 +1,9 @@
+//! The map of a level's items by several threads: the same list as the plain map, in order.
+#![tactic(auto)]
+
+mod mapping;
+mod pieces;
+#[cfg(test)]
+mod tests;
+
+pub use mapping::map_level;
