@@ -185,7 +185,7 @@ may_end take_command = true
 may_end (Ask q) = true
 may_end (Change eco) = true
 
--- a script has at most 10,000 commands, and each can be after_answer
+-- a script has at most 10,000 commands, and each can be answered
 abbrev pub is_runnable : Script → Bool
 is_runnable script = nat_le (length script.commands) 10000 && list_all may_end script.commands
 
@@ -197,8 +197,8 @@ is_change (Some (Await number looks)) = false
 is_change (Some (Ask q)) = false
 is_change None = false
 
--- a session is within its script: the next command is one of it or comes after the last, what was with_look at is
--- held, and a draft is that of an ECO on the version that is held
+-- a session is within its script: the next command is one of it or comes after the last, a version is held where
+-- there are looks, and a draft is that of an ECO on the version that is held
 abbrev pub IsWithin : Script → CoreSession → Type 0
 IsWithin script t =
     (1 ≤ t.next) × (t.next ≤ length script.commands + 1)
