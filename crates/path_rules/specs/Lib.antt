@@ -1,0 +1,4 @@
+pub mod Clocks
+pub mod Ends
+pub mod Exceptions
+pub mod Words
