@@ -1,0 +1,23 @@
+//! Journals of edits: the lines of edits, the entries of a journal, and saved journals, read and
+//! written. A capacitance is in attofarads (aF), a resistance in milliohms (mΩ).
+#![tactic(auto)]
+
+mod edits;
+mod entries;
+mod faults;
+mod items;
+mod lines;
+mod numbers;
+mod saved;
+mod stops;
+#[cfg(test)]
+mod tests;
+mod texts;
+
+pub use edits::read_edit;
+pub use entries::{read_eco, read_entries};
+pub use lines::{Lines, Span, words_of};
+pub use numbers::number_of;
+pub use saved::read_saved;
+pub use stops::Stop;
+pub use texts::{block_text, entry_text};

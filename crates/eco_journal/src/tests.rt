@@ -1,0 +1,230 @@
+//! Journals and saved journals, read, refused and written.
+
+use crate::*;
+use std::process::Abort;
+use std::test::Fail;
+use timing_defs::{Code, Derates, Entry, Items, ReadFault};
+
+const UNSCALED: Derates = Derates {
+    early_cell: 1_000_000,
+    late_cell: 1_000_000,
+    early_net: 1_000_000,
+    late_net: 1_000_000,
+};
+
+const SCALED: Derates = Derates {
+    early_cell: 900_000,
+    late_cell: 1_100_000,
+    early_net: 900_000,
+    late_net: 1_000_000,
+};
+
+/// A journal of one edit.
+const FIRST: &str = "journal 1 1\nentry 1 session 1 edits 1\nrepower_gate g2 BUF_X4\n";
+
+/// A block behind the entry of that journal.
+const SECOND: &str =
+    "journal 2 1 1\nderates 1000000 1000000 1000000 1000000\nentry 2 session 1 edits 1\nrepower_gate g2 BUF_X1\n";
+
+/// An entry with each kind of edit, without its head.
+const EDITS: &str =
+    "repower_gate g2 BUF_X4\ninsert_gate y CELL\nremove_gate y\ninsert_net x\nremove_net x\nconnect_pin u/1:a:A n[3]\ndisconnect_pin g1:A\ninsert_buffer c1 cb2 c2 BUF_X1 r2:CK o\nset_parasitics n none\nset_parasitics n c g2:A 9000 c #4294967295 0 r g1:Z #1 1000000000000 r #1 g2:A 5\nset_parasitics n r a #0 7\n";
+
+fn place_of<T>(found: &Result<T, ReadFault>) -> Option<(Code, u64)> {
+    match found {
+        Err(ReadFault::At { code, offset }) => Some((*code, *offset)),
+        _ => None,
+    }
+}
+
+fn check_fault<T>(rt: &impl Abort, found: &Result<T, ReadFault>, want: (Code, u64), text: &str) {
+    assert_eq!(rt; place_of(found), Some(want), "{text}");
+}
+
+#[test]
+fn refuses_journals(rt: HostRuntime) -> Result<(), Fail> {
+    use Code::{JournalBadLine, JournalBadNumber, JournalVersion};
+    for (text, want) in [
+        ("", (JournalBadLine, 0)),
+        ("jurnal 1 0", (JournalBadLine, 0)),
+        ("journal 3 0", (JournalVersion, 8)),
+        ("journal x 0", (JournalBadNumber, 8)),
+        ("journal 1 x", (JournalBadNumber, 10)),
+        ("journal 2 1 1", (JournalBadLine, 0)),
+        ("journal 1  0", (JournalBadLine, 0)),
+        ("journal 1\t0", (JournalBadLine, 0)),
+        ("journal 1 000000000000000000000", (JournalBadNumber, 10)),
+        ("journal 1 99999999999999999999\n", (JournalBadLine, 31)),
+        ("journal 1 0\n\n", (JournalBadLine, 12)),
+        ("journal 1 0\nx", (JournalBadLine, 12)),
+        ("journal 1 1\n", (JournalBadLine, 12)),
+        (
+            "journal 1 1\nentry 0 session 1 edits 1\ninsert_net a\n",
+            (JournalBadLine, 12),
+        ),
+        (
+            "journal 1 1\nentry x session 1 edits 1\ninsert_net a\n",
+            (JournalBadNumber, 18),
+        ),
+        (
+            "journal 1 1\nentry 1 session 17 edits 1\ninsert_net a\n",
+            (JournalBadNumber, 28),
+        ),
+        (
+            "journal 1 1\nentry 1 session 1 edits 0\n",
+            (JournalBadNumber, 36),
+        ),
+        (
+            "journal 1 1\nentry 1 session 1 edits 1001\n",
+            (JournalBadNumber, 36),
+        ),
+        (
+            "journal 1 1\nentry 1 session 1 edits 2\ninsert_net a\n",
+            (JournalBadLine, 51),
+        ),
+    ] {
+        check_fault(&rt, &read_entries(rt.alloc(), text.as_bytes()), want, text);
+    }
+    Ok(())
+}
+
+#[test]
+fn refuses_edits(rt: HostRuntime) -> Result<(), Fail> {
+    use Code::{JournalBadLine, JournalBadNumber};
+    for (text, want) in [
+        ("", (JournalBadLine, 0)),
+        ("insert_net a\n\n", (JournalBadLine, 13)),
+        ("insert_net", (JournalBadLine, 0)),
+        ("insert_net a b", (JournalBadLine, 0)),
+        ("insert_net  a", (JournalBadLine, 0)),
+        ("insert_nets a", (JournalBadLine, 0)),
+        ("insert_buffer n i m c", (JournalBadLine, 0)),
+        ("set_parasitics n", (JournalBadLine, 0)),
+        ("set_parasitics n none none", (JournalBadLine, 0)),
+        ("set_parasitics n r a b 1 c a 1", (JournalBadLine, 0)),
+        ("set_parasitics n c a x c b", (JournalBadLine, 0)),
+        ("set_parasitics n c #x 1", (JournalBadLine, 0)),
+        ("set_parasitics n c a x", (JournalBadNumber, 21)),
+        ("set_parasitics n c a 1000000000001", (JournalBadNumber, 21)),
+        ("set_parasitics n c #4294967296 1", (JournalBadNumber, 19)),
+        (
+            "set_parasitics n c a 1 r a #4294967296 x",
+            (JournalBadNumber, 27),
+        ),
+    ] {
+        check_fault(&rt, &read_eco(rt.alloc(), text.as_bytes()), want, text);
+    }
+    Ok(())
+}
+
+#[test]
+fn limits_edits(rt: HostRuntime) -> Result<(), Fail> {
+    let mut text = String::new(rt.alloc());
+    for _ in 0..1_000 {
+        text.push_str("insert_net a\n")?;
+    }
+    let eco = read_eco(rt.alloc(), text.as_bytes());
+    assert_eq!(rt; eco.map(|eco| eco.edits.len()), Ok(1_000));
+    text.push_str("insert_net a\n")?;
+    let eco = read_eco(rt.alloc(), text.as_bytes());
+    check_fault(&rt, &eco, (Code::JournalBadLine, 13_000), "1,001 edits");
+    Ok(())
+}
+
+#[test]
+fn reads_back_entries(rt: HostRuntime) -> Result<(), Fail> {
+    let eco = read_eco(rt.alloc(), EDITS.as_bytes());
+    let Ok(eco) = eco else {
+        assert!(rt; false, "{EDITS}");
+        return Ok(());
+    };
+    let entry = Entry { session: 16, eco };
+    let text = entry_text(rt.alloc(), 1, &entry)?;
+    let want = format!(in rt.alloc(); "entry 1 session 16 edits 11\n{EDITS}")?;
+    assert_eq!(rt; text.as_str(), want.as_str());
+    let journal = format!(in rt.alloc(); "journal 1 1\n{text}")?;
+    let entries = read_entries(rt.alloc(), journal.as_bytes());
+    assert!(rt;
+        entries.is_ok_and(|entries| entries.get(0) == Some(&entry)),
+        "{journal}"
+    );
+    let first = read_entries(rt.alloc(), FIRST.as_bytes());
+    assert_eq!(rt; first.map(|entries| entries.len()), Ok(1));
+    Ok(())
+}
+
+#[test]
+fn reads_saved_journals(rt: HostRuntime) -> Result<(), Fail> {
+    let both = format!(in rt.alloc(); "{FIRST}{SECOND}")?;
+    for (text, count) in [
+        ("", 0),
+        (FIRST, 1),
+        ("journal 1 0\njournal 1 0", 0),
+        (both.as_str(), 2),
+    ] {
+        let entries = read_saved(rt.alloc(), text.as_bytes(), &UNSCALED);
+        assert_eq!(rt; entries.map(|entries| entries.len()), Ok(count), "{text}");
+    }
+    Ok(())
+}
+
+#[test]
+fn refuses_saved_journals(rt: HostRuntime) -> Result<(), Fail> {
+    use Code::{JournalBadLine, JournalBadNumber, JournalOtherDerates, JournalVersion};
+    let twice = format!(in rt.alloc(); "{FIRST}journal 1 0\n")?;
+    for (text, derates, want) in [
+        (FIRST, SCALED, (JournalOtherDerates, 0)),
+        ("journal 3 0", UNSCALED, (JournalVersion, 8)),
+        ("journal 3", UNSCALED, (JournalVersion, 8)),
+        ("journal", UNSCALED, (JournalBadLine, 0)),
+        ("journal 2 0", UNSCALED, (JournalBadLine, 0)),
+        (SECOND, SCALED, (JournalBadLine, 0)),
+        ("journal 1 x", UNSCALED, (JournalBadNumber, 10)),
+        ("journal 1 x", SCALED, (JournalOtherDerates, 0)),
+        (
+            "journal 2 x 0\nderates 1 1 1 1",
+            UNSCALED,
+            (JournalOtherDerates, 0),
+        ),
+        (
+            "journal 2 x 0\nderates 900000 1100000 900000 1000000",
+            SCALED,
+            (JournalBadNumber, 10),
+        ),
+        (
+            "journal 2 x y\nderates 1 1 1 1",
+            UNSCALED,
+            (JournalBadNumber, 10),
+        ),
+        ("journal 2 0 0", UNSCALED, (JournalBadLine, 13)),
+        (
+            "journal 2 0 0\nderates 1 1 1 10000001",
+            UNSCALED,
+            (JournalBadNumber, 28),
+        ),
+        (
+            "journal 2 0 0\nderates 1 1 1",
+            UNSCALED,
+            (JournalBadLine, 14),
+        ),
+        (twice.as_str(), UNSCALED, (JournalBadLine, 61)),
+    ] {
+        let found = read_saved(rt.alloc(), text.as_bytes(), &derates);
+        check_fault(&rt, &found, want, text);
+    }
+    Ok(())
+}
+
+#[test]
+fn writes_blocks(rt: HostRuntime) -> Result<(), Fail> {
+    let lines = "repower_gate g2 BUF_X1";
+    let Ok(eco) = read_eco(rt.alloc(), lines.as_bytes()) else {
+        assert!(rt; false, "{lines}");
+        return Ok(());
+    };
+    let mut entries = Items::new(rt.alloc());
+    entries.push(Entry { session: 1, eco })?;
+    let block = block_text(rt.alloc(), 1, &UNSCALED, &entries)?;
+    assert!(rt; block.as_slice() == SECOND.as_bytes(), "{SECOND}");
+    Ok(())
+}
