@@ -1,10 +1,10 @@
 -- A rule after one exception more.
-use Rattle.std.proofs.Common.{◌≡◌, ℕ, ◌+◌, ◌<◌, Bool, true, false, not, ◌&&◌, ◌||◌, List, [], ◌∷◌, ◌++◌, length, get_or, take, Option, Some, None, refl, ap, sym, subst, ◌∙◌, inl, inr}
+use Rattle.std.proofs.Common.{◌≡◌, ℕ, ◌+◌, ◌<◌, Bool, true, false, not, ◌&&◌, ◌||◌, List, [], ◌∷◌, ◌++◌, length, get_or, take, Option, None, refl, ap, sym, ◌∙◌, inl, inr}
 use Rattle.std.specs.Prelude.{if◌then◌else◌}
 use Rattle.std.specs.List.{list_any}
 use Rattle.std.specs.Option.{unwrap_or}
 use Rattle.std.proofs.lemmas.Bool.{cases_Bool}
-use Rattle.std.proofs.lemmas.List.{take_more, take_all}
+use Rattle.std.proofs.lemmas.List.{take_more}
 use Rattle.std.proofs.lemmas.List.Folds.{list_any_more}
 use Rattle.timing_defs.specs.declared.kinds.Kind.{Kind}
 use Rattle.timing_defs.specs.declared.kinds.Kind.TheVariants.{Setup, Hold}
@@ -14,7 +14,7 @@ use Rattle.timing_defs.specs.declared.rows.Launch.{Launch}
 use Rattle.timing_defs.specs.declared.rows.Capture.{Capture}
 use Rattle.timing_defs.specs.Rules.{applies, removes, cycles_in, last_some}
 use Rattle.path_rules.specs.declared.overrides.Rule.{Rule}
-use Rattle.path_rules.specs.Exceptions.{rule_of, after, after_effect}
+use Rattle.path_rules.specs.Exceptions.{after, after_effect}
 
 -- one value more of a list: the last that is there wins
 last_push : {X : Type 0} (f : X → Option ℕ) (n : ℕ) (xs : List X) (x : X) → last_some f n (xs ++ x ∷ []) ≡ unwrap_or (f x) (last_some f n xs)

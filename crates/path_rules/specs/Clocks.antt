@@ -1,6 +1,6 @@
 -- Clocks as constraints have them (SDC `create_clock`).
 
-use Rattle.std.specs.Prelude.{ℤ, pos, ◌+ℤ◌, ◌≤ℤ◌, ◌<ℤ◌}
+use Rattle.std.specs.Prelude.{pos, ◌+ℤ◌, ◌≤ℤ◌, ◌<ℤ◌}
 use Rattle.sta_units.specs.Numbers.{Within}
 use Rattle.timing_defs.specs.declared.constraints.Clock.{Clock}
 

@@ -1,5 +1,5 @@
 -- The product fits, and is at most the product of the bounds.
-use Rattle.std.proofs.Common.{◌*◌, ◌*ℤ◌, FitsSigned, unsigned_abs, refl, arith}
+use Rattle.std.proofs.Common.{◌*ℤ◌, FitsSigned, unsigned_abs, refl, arith}
 use Rattle.std.proofs.lemmas.Int.{to_z-of_z, fits_signed_mul, unsigned_abs-mul}
 use Rattle.std.proofs.lemmas.Nat.{mul-le}
 use Rattle.sta_units.specs.Numbers.{limit}
