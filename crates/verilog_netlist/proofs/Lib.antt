@@ -1,0 +1,4 @@
+pub mod LexiconLemmas
+pub mod NamesLemmas
+pub mod BitLemmas
+pub mod FaultLemmas

@@ -1,0 +1,8 @@
+use Rattle.std.proofs.Common.{◌≡◌, [], drop}
+use Rattle.sta_text.specs.Faults.{least_from}
+use Rattle.verilog_netlist.specs.Faults.{instance_doubles}
+use Rattle.verilog_netlist.proofs.checks.instance_doubles.Given as goal
+
+abbrev pub invariant-loop-event : goal.invariant-loop-event
+invariant-loop-event l =
+    least_from l.least (instance_doubles l.names (drop l.event-index l.events)) ≡ least_from l.fn.best (instance_doubles [] l.events)

@@ -1,0 +1,261 @@
+//! The nets of a module, and the faults of their declarations.
+
+ghost use Rattle.std.specs.Prelude.{◌≡◌, ◌∷◌, [], List, true, false, Some, None, IfOk, MatchResult};
+ghost use Rattle.sta_text.specs.Faults.{least_from};
+ghost use Rattle.sta_text.specs.declared.faults.Wrong.{Wrong};
+ghost use Rattle.verilog_netlist.specs.declared.events.Event.{Event};
+ghost use Rattle.verilog_netlist.specs.declared.events.Event.TheVariants as event;
+ghost use Rattle.verilog_netlist.specs.Nets.{nets_of};
+ghost use Rattle.verilog_netlist.specs.Faults.{clashes, alike, declaring, is_wide, too_many, declaration_fault, declaration_faults, nothing, all_declared, undeclared_bits, with_implicit, excess, all_nets, net_excess, told, wrong, Declares};
+
+use crate::checks::note;
+use crate::events::{Event, Kind, Net, Role, Span};
+use crate::known::Known;
+use crate::names::nets_of;
+use crate::nets::NetSet;
+use sta_text::{Names, Wrong};
+use sta_units::Memory;
+use std::alloc::Global;
+use timing_defs::{Code, Name};
+
+/// The greatest number of nets, and of instances.
+pub(crate) const LIMIT: usize = 200_000;
+
+fn is_wide(span: Option<Span>) -> bool
+    ensures { result ≡ is_wide span }
+{
+    match span {
+        None => false,
+        Some(span) => (LIMIT as u64) < span.width(),
+    }
+}
+
+/// What is declared as this role.
+fn alike(known: &Known, role: Role) -> &NetSet
+    ensures { result.now ≡ alike role known.now }
+{
+    if role.is_port() {
+        &known.ports
+    } else {
+        &known.wires
+    }
+}
+
+/// Adds the nets of a declared name.
+fn declare(alloc: Global, known: &mut Known, role: Role, names: &[Name]) -> Result<(), Memory>
+    ensures { IfOk result (λ _. known.new ≡ declaring role known.old names.now) }
+{
+    if role.is_port() {
+        known.ports.add_all(alloc, names)?;
+    } else {
+        known.wires.add_all(alloc, names)?;
+    }
+    known.nets.add_all(alloc, names)
+}
+
+/// Adds a declared name whose range does not pass the limit; its fault where it has one.
+fn declare_narrow(
+    alloc: Global,
+    known: &mut Known,
+    kind: Kind,
+    name: &Name,
+    at: usize,
+) -> Result<Option<Wrong>, Memory>
+    requires { is_wide kind.span ≡ false }
+    ensures fault { IfOk result (λ found. found ≡ declaration_fault known.old kind name.now at) }
+    ensures known { IfOk result (λ found. found ≡ None → known.new ≡ declaring kind.role known.old (nets_of kind.span name.now)) }
+{
+    let nets = nets_of(alloc, kind.span, name)?;
+    if alike(known, kind.role).has_any(nets.as_slice()) {
+        return Ok(Some(Wrong {
+            code: Code::VerilogDoubleName,
+            at,
+        }));
+    }
+    declare(alloc, known, kind.role, nets.as_slice())?;
+    if LIMIT < known.nets.len() {
+        return Ok(Some(Wrong {
+            code: Code::VerilogTooMany,
+            at,
+        }));
+    }
+    Ok(None)
+}
+
+/// The fault of a declared name whose range alone passes the limit.
+fn wide_fault(
+    alloc: Global,
+    known: &Known,
+    kind: Kind,
+    span: Span,
+    name: &Name,
+    at: usize,
+) -> Result<Wrong, Memory>
+    requires span { kind.span ≡ Some span }
+    requires wide { is_wide kind.span ≡ true }
+    ensures { IfOk result (λ w. declaration_fault known.now kind name.now at ≡ Some w) }
+{
+    let code = if alike(known, kind.role).has_bit(alloc, span, name)? {
+        Code::VerilogDoubleName
+    } else {
+        Code::VerilogTooMany
+    };
+    Ok(Wrong { code, at })
+}
+
+/// Adds a declared name; its fault where it has one.
+fn declare_name(
+    alloc: Global,
+    known: &mut Known,
+    kind: Kind,
+    name: &Name,
+    at: usize,
+) -> Result<Option<Wrong>, Memory>
+    ensures fault { IfOk result (λ found. found ≡ declaration_fault known.old kind name.now at) }
+    ensures known { IfOk result (λ found. found ≡ None → known.new ≡ declaring kind.role known.old (nets_of kind.span name.now)) }
+{
+    match kind.span {
+        Some(span) if is_wide(kind.span) => {
+            Ok(Some(wide_fault(alloc, known, kind, span, name, at)?))
+        }
+        _ => declare_narrow(alloc, known, kind, name, at),
+    }
+}
+
+#[tactic(auto, unfolding(crate::specs::Faults::declaration_faults, crate::specs::Faults::all_declared))]
+fn declare_event(alloc: Global, known: &mut Known, event: &Event) -> Result<Option<Wrong>, Memory>
+    ensures fault { IfOk result (λ found. (rest : List Event) → declaration_faults known.old (event.now ∷ rest) ≡ told found (declaration_faults known.new rest)) }
+    ensures nets { IfOk result (λ found. found ≡ None → (rest : List Event) → all_declared known.old.nets (event.now ∷ rest) ≡ all_declared known.new.nets rest) }
+{
+    match event {
+        Event::Declared(kind, name, at) => declare_name(alloc, known, *kind, name, *at),
+        _ => Ok(None),
+    }
+}
+
+/// The declared nets, or the first fault of a declaration.
+#[tactic(auto, unfolding(crate::specs::Faults::declaration_faults, crate::specs::Faults::all_declared), using(std::proofs::lemmas::List::drop_more))]
+pub(crate) fn declared_nets(
+    alloc: Global,
+    events: &[Event],
+) -> Result<Result<NetSet, Wrong>, Memory>
+    ensures { IfOk result (λ found. Declares found events.now) }
+{
+    let mut known = Known {
+        ports: NetSet::new(alloc),
+        wires: NetSet::new(alloc),
+        nets: NetSet::new(alloc),
+    };
+    for event in events {
+        if let Some(wrong) = declare_event(alloc, &mut known, event)? {
+            return Ok(Err(wrong));
+        }
+    }
+    Ok(Ok(known.nets))
+}
+
+/// Notes a bit that no declaration has.
+#[tactic(auto, unfolding(crate::specs::Faults::undeclared_bits))]
+fn undeclared_bit(declared: &NetSet, event: &Event, best: Option<Wrong>) -> Option<Wrong>
+    ensures { (rest : List Event) → least_from result (undeclared_bits declared.now rest) ≡ least_from best (undeclared_bits declared.now (event.now ∷ rest)) }
+{
+    match event {
+        Event::Connection(_, Net::Bit(name, at)) => {
+            if declared.has(name) {
+                return best;
+            }
+            note(best, Code::VerilogUndeclared, *at)
+        }
+        _ => best,
+    }
+}
+
+/// Bits that no declaration has.
+#[tactic(auto, unfolding(crate::specs::Faults::undeclared_bits, sta_text::specs::Faults::least_from), using(std::proofs::lemmas::List::drop_more))]
+pub(crate) fn undeclared_bits(
+    declared: &NetSet,
+    events: &[Event],
+    best: Option<Wrong>,
+) -> Option<Wrong>
+    ensures { result ≡ least_from best (undeclared_bits declared.now events.now) }
+{
+    let mut least = best;
+    for event in events {
+        least = undeclared_bit(declared, event, least);
+    }
+    least
+}
+
+/// The nets pass the limit at this place.
+fn excess(nets: &NetSet, at: usize) -> Option<Wrong>
+    ensures { result ≡ excess nets.now at }
+{
+    if LIMIT < nets.len() {
+        return Some(Wrong {
+            code: Code::VerilogTooMany,
+            at,
+        });
+    }
+    None
+}
+
+/// Adds a net that is connected, where it is not declared.
+fn add_implicit(
+    alloc: Global,
+    nets: &mut NetSet,
+    declared: &NetSet,
+    vectors: &Names<'_>,
+    name: &Name,
+) -> Result<(), Memory>
+    ensures { IfOk result (λ _. nets.new ≡ with_implicit declared.now vectors.now nets.old name.now) }
+{
+    if declared.has(name) || vectors.has(name.as_bytes()) {
+        return Ok(());
+    }
+    nets.add(name.copied(alloc)?)
+}
+
+/// Adds the nets of an event; the fault where they pass the limit.
+#[tactic(auto, unfolding(crate::specs::Faults::net_excess, crate::specs::Faults::all_nets))]
+fn add_nets(
+    alloc: Global,
+    nets: &mut NetSet,
+    declared: &NetSet,
+    vectors: &Names<'_>,
+    event: &Event,
+) -> Result<Option<Wrong>, Memory>
+    ensures fault { IfOk result (λ found. (rest : List Event) → net_excess declared.now vectors.now nets.old (event.now ∷ rest) ≡ told found (net_excess declared.now vectors.now nets.new rest)) }
+    ensures nets { IfOk result (λ found. (rest : List Event) → all_nets declared.now vectors.now nets.old (event.now ∷ rest) ≡ all_nets declared.now vectors.now nets.new rest) }
+{
+    match event {
+        Event::Declared(kind, name, at) => {
+            let names = nets_of(alloc, kind.span, name)?;
+            nets.add_all(alloc, names.as_slice())?;
+            Ok(excess(nets, *at))
+        }
+        Event::Connection(_, Net::Alone(name, at)) => {
+            add_implicit(alloc, nets, declared, vectors, name)?;
+            Ok(excess(nets, *at))
+        }
+        _ => Ok(None),
+    }
+}
+
+/// All nets, or the place where they pass the limit.
+#[tactic(auto, unfolding(crate::specs::Faults::net_excess, crate::specs::Faults::all_nets), using(std::proofs::lemmas::List::drop_more))]
+pub(crate) fn all_nets(
+    alloc: Global,
+    declared: &NetSet,
+    vectors: &Names<'_>,
+    events: &[Event],
+) -> Result<Result<NetSet, Wrong>, Memory>
+    ensures { IfOk result (λ found. MatchResult found (λ nets. (net_excess declared.now vectors.now [] events.now ≡ []) × (nets ≡ all_nets declared.now vectors.now [] events.now)) (λ w. net_excess declared.now vectors.now [] events.now ≡ w ∷ [])) }
+{
+    let mut nets = NetSet::new(alloc);
+    for event in events {
+        if let Some(wrong) = add_nets(alloc, &mut nets, declared, vectors, event)? {
+            return Ok(Err(wrong));
+        }
+    }
+    Ok(Ok(nets))
+}

@@ -1,0 +1,20 @@
+//! The reader of structural netlists (a subset of IEEE 1364): modules with ports, vectors by their
+//! bits, and instances with connections by name.
+#![tactic(auto)]
+
+mod body;
+mod checks;
+mod cursor;
+mod declarations;
+mod events;
+mod header;
+mod known;
+mod lexicon;
+mod modules;
+mod names;
+mod nets;
+mod reader;
+#[cfg(test)]
+mod tests;
+
+pub use reader::read_module;
