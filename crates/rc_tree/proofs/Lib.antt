@@ -1,0 +1,13 @@
+pub mod Routes
+pub mod Forest
+pub mod Moments
+pub mod Listing
+pub mod Growing
+pub mod Bridge
+pub mod Passes
+pub mod Linking
+pub mod Whole
+pub mod Weighing
+pub mod Bounds
+pub mod Wiring
+pub mod Nets

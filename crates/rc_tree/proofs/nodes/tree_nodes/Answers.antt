@@ -1,0 +1,22 @@
+use Rattle.std.proofs.Common.{◌∷◌, [], map, subst, if◌then◌else◌}
+use Rattle.timing_defs.specs.declared.parasitics.RcNode.TheVariants.{Pin as rc_pin}
+use Rattle.timing_defs.specs.Wires.{is_lumped}
+use Rattle.std.specs.List.{flat_map}
+use Rattle.rc_tree.specs.Numbering.{numbered, IsJoined}
+use Rattle.rc_tree.proofs.Listing.{joined_tree, root_first}
+use Rattle.rc_tree.proofs.nodes.tree_nodes.Goals as goal
+
+pub returns-clause-nodes : goal.returns-clause-nodes
+returns-clause-nodes c =
+    joined_tree c.args.net.now c.args.root.now c.args.pins.now (numbered c.new.result) (numbered c.in_ok-first.first) (numbered c.in_ok-lumped.lumped) (numbered c.in_ok-ends.ends) (numbered c.in_ok-all.all)
+    c.new.ensures c.in_ok-first.ensures c.in_ok-lumped.ensures
+    (subst (λ rs. IsJoined (numbered c.in_ok-lumped.lumped) (flat_map (λ r. r.a ∷ r.b ∷ []) rs) (numbered c.in_ok-ends.ends)) c.as_slice.ensures c.in_ok-ends.ensures)
+    (subst (λ cs. IsJoined (numbered c.in_ok-ends.ends) (map (λ x. x.node) cs) (numbered c.in_ok-all.all)) c.as_slice-2.ensures c.in_ok-all.ensures)
+
+pub returns-clause-root : goal.returns-clause-root
+returns-clause-root c =
+    root_first c.args.root.now (if is_lumped c.args.net.now then map (λ p. rc_pin p.pin) c.args.pins.now else []) (flat_map (λ r. r.a ∷ r.b ∷ []) c.args.net.now.ress)
+    (numbered c.new.result) (numbered c.in_ok-first.first) (numbered c.in_ok-lumped.lumped) (numbered c.in_ok-ends.ends) (numbered c.in_ok-all.all) (map (λ x. x.node) c.args.net.now.caps)
+    c.new.ensures c.in_ok-first.ensures c.in_ok-lumped.ensures
+    (subst (λ rs. IsJoined (numbered c.in_ok-lumped.lumped) (flat_map (λ r. r.a ∷ r.b ∷ []) rs) (numbered c.in_ok-ends.ends)) c.as_slice.ensures c.in_ok-ends.ensures)
+    (subst (λ cs. IsJoined (numbered c.in_ok-ends.ends) (map (λ x. x.node) cs) (numbered c.in_ok-all.all)) c.as_slice-2.ensures c.in_ok-all.ensures)

@@ -1,0 +1,9 @@
+pub mod Trees
+pub mod Numbering
+pub mod Growth
+pub mod Ends
+pub mod Loops
+pub mod Moments
+pub mod Listing
+pub mod Weights
+pub mod Wiring
