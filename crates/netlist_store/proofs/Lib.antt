@@ -1,0 +1,13 @@
+mod CellLaws
+mod ConnLaws
+mod EditLaws
+mod InOrder
+mod LinkLaws
+mod LinkedEdits
+mod ListLaws
+mod NumberLaws
+mod OrderLaws
+mod PinLaws
+mod ShardLaws
+mod StoreLaws
+mod WordLaws

@@ -1,0 +1,50 @@
+-- What a write of one shard does to the numbers of names.
+
+use Rattle.std.proofs.Common.{◌≡◌, ◌≢◌, ◌⊎◌, ℕ, zero, suc, ◌<◌, true, false, cond, List, [], length, set, get_or, replicate, Option, None, Some, refl, sym, ap, ◌∙◌, inl, inr, arith}
+use Rattle.std.specs.List.{slice_get}
+use Rattle.std.specs.Map.{lookup}
+use Rattle.std.specs.Str.{bytes_eq}
+use Rattle.std.proofs.lemmas.Bool.{cases_Bool, cases_eq}
+use Rattle.std.proofs.lemmas.List.{get_or-set_same, get_or-set_other}
+use Rattle.std.proofs.lemmas.Option.{get_or_from_slice_get}
+use Rattle.std.proofs.lemmas.Slice.Eq.{bytes_eq-Decides}
+use Rattle.netlist_store.specs.Shards.{shard_of, number_under}
+
+pub same_is : (a b : List ℕ) → bytes_eq a b ≡ true → a ≡ b
+same_is a b = (bytes_eq-Decides a b).0
+
+pub same_self : (a : List ℕ) → bytes_eq a a ≡ true
+same_self a = (bytes_eq-Decides a a).1 refl
+
+pub put_shard : (inside now after : List (List (List ℕ × ℕ))) (name : List ℕ) (place : ℕ) (w : Option ℕ) (old new : List (List ℕ × ℕ))
+    → inside ≡ now → length inside ≡ 16381 → place ≡ shard_of name → place < 16381 → slice_get inside place ≡ Some old
+    → ((q : List ℕ) → lookup (bytes_eq q) new ≡ cond (bytes_eq name q) w (lookup (bytes_eq q) old))
+    → after ≡ set inside place new → (q : List ℕ) → number_under after q ≡ cond (bytes_eq name q) w (number_under now q)
+put_shard inside now after name place w old new view long here low held put written q =
+    ap (λ m. number_under m q) written ∙ by (cases_eq (shard_of q) place) ∙ ap (λ m. cond (bytes_eq name q) w (number_under m q)) view
+  where
+    inner : place < length inside
+    inner = omega (arith, long)
+
+    by : ((shard_of q ≡ place) ⊎ (shard_of q ≢ place)) → number_under (set inside place new) q ≡ cond (bytes_eq name q) w (number_under inside q)
+    by (inl same) =
+        ap (λ n. lookup (bytes_eq q) (get_or (set inside place new) n [])) same
+        ∙ ap (lookup (bytes_eq q)) (get_or-set_same inside place new [] inner)
+        ∙ put q
+        ∙ ap (λ m. cond (bytes_eq name q) w (lookup (bytes_eq q) m)) (sym (get_or_from_slice_get inside place old [] held))
+        ∙ ap (λ n. cond (bytes_eq name q) w (lookup (bytes_eq q) (get_or inside n []))) (sym same)
+    by (inr other) =
+        let apart : bytes_eq name q ≡ false = elim (cases_Bool (bytes_eq name q)) [
+          | inl e ↦ absurd (other (ap shard_of (sym (same_is name q e)) ∙ sym here))
+          | inr e ↦ e
+        ] in
+        ap (lookup (bytes_eq q)) (get_or-set_other inside place (shard_of q) new [] other)
+        ∙ ap (λ b. cond b w (number_under inside q)) (sym apart)
+
+pub none_under : (n : ℕ) (shards : List (List (List ℕ × ℕ))) → shards ≡ replicate n [] → (q : List ℕ) → number_under shards q ≡ None
+none_under n shards e q = ap (λ m. number_under m q) e ∙ ap (lookup (bytes_eq q)) (empty n (shard_of q))
+  where
+    empty : (n i : ℕ) → get_or (replicate {A = List (List ℕ × ℕ)} n []) i [] ≡ []
+    empty zero i = refl
+    empty (suc n) zero = refl
+    empty (suc n) (suc i) = empty n i

@@ -1,0 +1,17 @@
+use Rattle.std.proofs.Common.{sym, subst, ◌∙◌}
+use Rattle.netlist_store.specs.Numbering.{Agrees}
+use Rattle.netlist_store.specs.Shards.{number_under}
+use Rattle.netlist_store.proofs.NumberLaws.{slots_regap, still_short}
+use Rattle.netlist_store.specs.declared.numberings.Slot.TheVariants.{Gap}
+use Rattle.netlist_store.proofs.numberings.Numbering.released.Goals as goal
+
+pub returns : goal.returns
+returns c =
+    slots_regap c.self.inside.slots c.set.new.self c.args.self c.args.number c.self.inside.free c.self.view_is
+    (sym c.has.ensures ∙ c.if-has.false) c.in_ok-set.ensures.ok
+
+pub invariant_of-result : goal.invariant_of-result
+invariant_of-result c = (
+  subst (Agrees (number_under c.self.inside.numbers)) (c.self.view_is ∙ sym (returns c)) c.self.invariant.0,
+  still_short c.self.inside.slots c.set.new.self c.args.number (Gap c.self.inside.free) c.in_ok-set.ensures.ok c.self.invariant.1,
+)

@@ -1,0 +1,9 @@
+pub mod Applying
+pub mod Linked
+pub mod Numbering
+pub mod Orders
+pub mod Places
+pub mod Shards
+pub mod Slots
+pub mod Stores
+pub mod Words

@@ -1,0 +1,17 @@
+-- A map from names to numbers that is kept in shards (own).
+
+use Rattle.std.specs.Prelude.{ℕ, ◌+◌, ◌*◌, ◌%◌, List, [], ◌∷◌, get_or, Option}
+use Rattle.std.specs.Map.{lookup}
+use Rattle.std.specs.Str.{bytes_eq}
+
+-- the shard of a name: a polynomial of its bytes, by a prime
+abbrev pub shard_from : ℕ → List ℕ → ℕ
+shard_from place [] = place
+shard_from place (byte ∷ bytes) = shard_from ((place * 257 + byte) % 16381) bytes
+
+unfoldable pub shard_of : List ℕ → ℕ
+shard_of name = shard_from 0 name
+
+-- the number of a name, which its shard has
+abbrev pub number_under : List (List (List ℕ × ℕ)) → List ℕ → Option ℕ
+number_under shards name = lookup (bytes_eq name) (get_or shards (shard_of name) [])

@@ -1,0 +1,57 @@
+//! Values that stores share.
+
+ghost use Rattle.std.specs.Prelude.{◌≡◌, IfOk};
+
+use sta_units::{Again, Memory};
+use std::alloc::Global;
+use std::marker::Model;
+use std::sync::Arc;
+
+/// A value that several owners hold and none changes. Contracts see the value.
+#[derive(Debug, Drop)]
+pub(crate) struct Held<T> {
+    held: Arc<T>,
+}
+
+impl<T> Model for Held<T> {
+    ghost use Rattle.std.specs.Arc.{arc_value};
+
+    ghost Value = { T };
+
+    ghost coded = { T.code };
+
+    ghost view = { λ h. arc_value h.held };
+}
+
+impl<T> Held<T> {
+    pub(crate) fn get(&self) -> &T
+        ensures { result.now ≡ self.now }
+    {
+        &self.held
+    }
+}
+
+impl<T: Drop> Held<T> {
+    pub(crate) fn of(alloc: Global, value: T) -> Result<Held<T>, Memory>
+        ensures { IfOk result (λ held. held ≡ value) }
+    {
+        let held = Arc::new(alloc, value).map_err(|_| Memory)?;
+        Ok(Held { held })
+    }
+}
+
+impl<T: Drop> Held<T> {
+    /// One owner more.
+    pub(crate) fn share(&self) -> Result<Held<T>, Memory>
+        ensures { IfOk result (λ held. held ≡ self.now) }
+    {
+        let held = self.held.clone()?;
+        Ok(Held { held })
+    }
+}
+
+impl<T: Drop> Again for Held<T> {
+    fn again(&self, _alloc: Global) -> Result<Held<T>, Memory> {
+        self.share()
+    }
+}

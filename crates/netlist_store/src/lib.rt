@@ -1,0 +1,55 @@
+//! The design as a store: instances, nets and pins by numbers, and copies that share what neither
+//! changes. A store is not yet made of a design here, nor edited; what is said below of edits is what
+//! the tables are made for.
+//!
+//! # What a store keeps
+//!
+//! Contracts see a `Stored`: the design, and for each kind (instances, nets, pins) the list of the
+//! names that its numbers stand for, with gaps. A number stands for the same name as long as the
+//! name is there, in a base and in all stores that edits make of it; so what is kept by numbers
+//! elsewhere (a graph, rows of arrivals) stays right for all that an edit does not touch.
+//!
+//! - `Frame`: libraries, ports and constraints, which no edit changes, behind one `Arc`. `Cells` is
+//!   a library with an `IndexMap` from names to places.
+//! - `Numbering`, one for each kind: the name of each number, in a `CowTable`, and a `NameMap` back.
+//!   A `NameMap` is an `IndexMap` cut into 16,381 shards by a hash of the name. Versions share the
+//!   shards, and an edit copies the few that it changes; a resize copies none. A gap holds the next
+//!   gap, so numbers are used again at constant cost. Numbers that an ECO frees are released when it
+//!   ends, and a name that comes back within it gets its old number: thus a number of the base never
+//!   stands for another name in the edited store.
+//! - `insts`, `rcs`, `net_pins`, `pins`: by numbers, what is known of each. `insts` and `rcs` hold
+//!   the `Inst` and the `NetRc` of the design. `net_pins` lists the pins on a net. `pins` has the
+//!   owner, the net and the direction of each pin. Rows are held by `Arc`, so the copy of a chunk
+//!   of 256 rows that a write costs is 256 counts.
+//! - `Roll`, one for instances, nets and parasitics: the numbers in the order of the design's lists.
+//!   A new one stands last, and one that goes leaves an empty place, found through the number's
+//!   place. The order is apart from the numbers, so that numbers can be used again while new
+//!   instances stand last.
+//!
+//! The design's lists are what the tables have at the numbers of the rolls, in order:
+//! `insts = filter_map (at insts) inst_order`, `nets = filter_map (name_at net_names) net_order`,
+//! `rcs = filter_map (at rcs) rc_order`. The invariant is `AreTables` in `specs/Stores`: each table
+//! tells what the design has at that number by its name, the orders have the numbers in use, the
+//! numbers are those of the design, and the design stays linked.
+//!
+//! # Costs
+//!
+//! Each look-up is one or two steps (a hash of the name, or a place in a table) and takes no memory;
+//! `net_pins` gives a slice. A copy of a store shares all chunks: one count for each 256 rows. An
+//! edit of an instance or a net makes its row anew, in time of its connections; nothing goes over
+//! the design.
+#![tactic(auto)]
+
+mod agreement;
+mod cells;
+mod checks;
+mod held;
+mod links;
+mod name_maps;
+mod numberings;
+mod rolls;
+mod stores;
+mod tables;
+mod words;
+
+pub use stores::Store;

@@ -1,0 +1,160 @@
+//! Names to numbers, in shards that stores share.
+
+ghost use Rattle.std.specs.Prelude.{◌≡◌, ◌<◌, [], ℕ, List, None, Some, cond, length, get_or, IfOk, OnOk, OnErr};
+ghost use Rattle.std.specs.Map.{lookup};
+ghost use Rattle.std.specs.Str.{bytes_eq};
+ghost use Rattle.netlist_store.specs.Shards.{shard_of, shard_from, number_under};
+
+use crate::held::Held;
+use cow_table::CowTable;
+use indexmap::IndexMap;
+use sta_units::{Again, Memory};
+use std::alloc::Global;
+use std::marker::Model;
+use timing_defs::Name;
+
+/// The number of shards: a prime, so that names spread over them.
+const SHARDS: usize = 16_381;
+
+/// The numbers of some names. Contracts see the pairs.
+#[derive(Debug, Drop)]
+pub(crate) struct Shard {
+    numbers: IndexMap<Name, u32>,
+}
+
+impl Model for Shard {
+    ghost use Rattle.std.specs.Prelude.{List, ℕ};
+
+    ghost Value = { List (List ℕ × ℕ) };
+
+    ghost view = { λ s. s.numbers.entries };
+}
+
+impl Shard {
+    fn new(alloc: Global) -> Shard
+        ensures { result ≡ [] }
+    {
+        Shard {
+            numbers: IndexMap::new(alloc),
+        }
+    }
+
+    fn number(&self, name: &Name) -> Option<u32>
+        ensures { result ≡ lookup (bytes_eq name.now) self.now }
+    {
+        self.numbers.get(name).copied()
+    }
+
+    /// The shard with another number for a name.
+    fn with(&self, name: Name, number: u32) -> Result<Shard, Memory>
+        ensures { IfOk result (λ shard. (q : List ℕ) → lookup (bytes_eq q) shard ≡ cond (bytes_eq name q) (Some number) (lookup (bytes_eq q) self.now)) }
+    {
+        let mut numbers = self.numbers.clone()?;
+        match numbers.insert(name, number) {
+            Ok(_) => Ok(Shard { numbers }),
+            Err(_) => Err(Memory),
+        }
+    }
+
+    /// The shard without a name.
+    fn without(&self, name: &Name) -> Result<Shard, Memory>
+        ensures { IfOk result (λ shard. (q : List ℕ) → lookup (bytes_eq q) shard ≡ cond (bytes_eq name.now q) None (lookup (bytes_eq q) self.now)) }
+    {
+        let mut numbers = self.numbers.clone()?;
+        let _ = numbers.swap_remove(name);
+        Ok(Shard { numbers })
+    }
+}
+
+/// The shard of a name.
+#[tactic(auto, unfolding(crate::specs::Shards::shard_of))]
+fn shard_of(name: &[u8]) -> usize
+    ensures value { result ≡ shard_of name.now }
+    ensures within { result < 16381 }
+{
+    let mut place = 0;
+    for byte in name {
+        place = (place * 257 + *byte as usize) % SHARDS;
+    }
+    place
+}
+
+/// A map from names to numbers. A copy shares each shard until one of the two changes it. Contracts
+/// see the shards.
+#[derive(Debug, Drop)]
+pub(crate) struct NameMap {
+    shards: CowTable<Held<Shard>>,
+    alloc: Global,
+}
+
+impl Model for NameMap {
+    ghost use Rattle.std.specs.Prelude.{List, ℕ, ◌≡◌, length};
+
+    ghost Value = { List (List (List ℕ × ℕ)) };
+
+    ghost view = { λ m. m.shards };
+
+    ghost invariant = { λ m. length m.shards ≡ 16381 };
+}
+
+/// As many empty shards as a map has, all one.
+fn empty_shards(alloc: Global) -> Result<CowTable<Held<Shard>>, Memory>
+    ensures none { IfOk result (λ shards. (q : List ℕ) → number_under shards q ≡ None) }
+    ensures len { IfOk result (λ shards. length shards ≡ 16381) }
+{
+    let empty = Held::of(alloc, Shard::new(alloc))?;
+    let mut shards = CowTable::new(alloc);
+    for _i in 0..SHARDS {
+        shards.push(empty.again(alloc)?)?;
+    }
+    Ok(shards)
+}
+
+impl NameMap {
+    /// The empty map.
+    pub(crate) fn new(alloc: Global) -> Result<NameMap, Memory>
+        ensures { IfOk result (λ map. (q : List ℕ) → number_under map q ≡ None) }
+    {
+        let shards = empty_shards(alloc)?;
+        Ok(NameMap { shards, alloc })
+    }
+
+    /// The number of a name.
+    pub(crate) fn number(&self, name: &Name) -> Option<u32>
+        ensures { result ≡ number_under self.now name.now }
+    {
+        let place = shard_of(name.as_bytes());
+        self.shards.get(place).get().number(name)
+    }
+
+    /// Gives a name a number.
+    pub(crate) fn put(&mut self, name: Name, number: u32) -> Result<(), Memory>
+        ensures ok { OnOk result ((q : List ℕ) → number_under self.new q ≡ cond (bytes_eq name q) (Some number) (number_under self.old q)) }
+        ensures err { OnErr result (self.new ≡ self.old) }
+    {
+        let place = shard_of(name.as_bytes());
+        let shard = self.shards.get(place).get().with(name, number)?;
+        self.shards.set(place, Held::of(self.alloc, shard)?)
+    }
+
+    /// Takes a name out.
+    pub(crate) fn remove(&mut self, name: &Name) -> Result<(), Memory>
+        ensures ok { OnOk result ((q : List ℕ) → number_under self.new q ≡ cond (bytes_eq name.now q) None (number_under self.old q)) }
+        ensures err { OnErr result (self.new ≡ self.old) }
+    {
+        let place = shard_of(name.as_bytes());
+        let shard = self.shards.get(place).get().without(name)?;
+        self.shards.set(place, Held::of(self.alloc, shard)?)
+    }
+
+    /// A copy, which shares the shards.
+    pub(crate) fn copy(&self) -> Result<NameMap, Memory>
+        ensures { IfOk result (λ map. map ≡ self.now) }
+    {
+        let shards = self.shards.copy()?;
+        Ok(NameMap {
+            shards,
+            alloc: self.alloc,
+        })
+    }
+}

@@ -1,0 +1,290 @@
+//! Names and their numbers.
+
+ghost use Rattle.std.specs.Prelude.{◌≡◌, ◌<◌, ◌≤◌, ◌^◌, [], ℕ, List, true, length, map, set, slice_get, IfOk, IfSome};
+ghost use Rattle.std.specs.Option.{option_copied};
+ghost use Rattle.netlist_store.specs.Numbering.{name_at, number_of, is_number, with_name, AreNumbers, AreKept};
+ghost use Rattle.netlist_store.specs.Slots.{slot_name, slot_name_at};
+
+use crate::held::Held;
+use crate::name_maps::NameMap;
+use cow_table::CowTable;
+use sta_units::{Again, Memory};
+use std::alloc::Global;
+use std::marker::Model;
+use timing_defs::Name;
+
+/// The greatest number of numbers.
+const MOST: usize = 0x7fff_ffff;
+
+/// What a number stands for: a name, or nothing; a gap knows the next one that may be taken.
+#[derive(Debug, Drop)]
+pub(crate) enum Slot {
+    Named(Held<Name>),
+    Gap(Option<u32>),
+}
+
+impl Again for Slot {
+    fn again(&self, alloc: Global) -> Result<Slot, Memory> {
+        Ok(match self {
+            Slot::Named(name) => Slot::Named(name.again(alloc)?),
+            Slot::Gap(next) => Slot::Gap(*next),
+        })
+    }
+}
+
+/// The slot of a number; none past the last one.
+fn slot_at(slots: &CowTable<Slot>, number: u32) -> Option<&Slot>
+    ensures { option_copied result ≡ slice_get slots.now number }
+{
+    let number = number as usize;
+    if number < slots.len() {
+        Some(slots.get(number))
+    } else {
+        None
+    }
+}
+
+/// The name of a number; none for a gap and past the last one.
+fn name_in(slots: &CowTable<Slot>, number: u32) -> Option<&Held<Name>>
+    ensures { option_copied result ≡ slot_name_at slots.now number }
+{
+    match slot_at(slots, number)? {
+        Slot::Named(name) => Some(name),
+        Slot::Gap(_) => None,
+    }
+}
+
+/// A number for a new name, and the gap that may be taken after it.
+#[derive(Clone, Copy)]
+struct Choice {
+    number: u32,
+    free: Option<u32>,
+}
+
+/// Names with numbers, distinct both ways. Contracts see what each number stands for. The number of
+/// a name that is taken out may be used again once it is released.
+#[derive(Debug, Drop)]
+pub(crate) struct Numbering {
+    slots: CowTable<Slot>,
+    numbers: NameMap,
+    free: Option<u32>,
+    alloc: Global,
+}
+
+impl Model for Numbering {
+    ghost use Rattle.std.specs.Prelude.{List, ℕ, Option, map, length, ◌<◌, ◌^◌};
+    ghost use Rattle.netlist_store.specs.Numbering.{Agrees};
+    ghost use Rattle.netlist_store.specs.Shards.{number_under};
+    ghost use Rattle.netlist_store.specs.Slots.{slot_name};
+
+    ghost Value = { List (Option (List ℕ)) };
+
+    ghost view = { λ n. map slot_name n.slots };
+
+    ghost invariant = { λ n. Agrees (number_under n.numbers) (map slot_name n.slots) × (length n.slots < 2 ^ 31) };
+}
+
+impl Numbering {
+    /// No names.
+    pub(crate) fn new(alloc: Global) -> Result<Numbering, Memory>
+        ensures { IfOk result (λ made. made ≡ []) }
+    {
+        let numbers = NameMap::new(alloc)?;
+        Ok(Numbering {
+            slots: CowTable::new(alloc),
+            numbers,
+            free: None,
+            alloc,
+        })
+    }
+
+    /// A copy, which shares what neither changes.
+    pub(crate) fn copy(&self) -> Result<Numbering, Memory>
+        ensures { IfOk result (λ copy. copy ≡ self.now) }
+    {
+        let slots = self.slots.copy()?;
+        let numbers = self.numbers.copy()?;
+        Ok(Numbering {
+            slots,
+            numbers,
+            free: self.free,
+            alloc: self.alloc,
+        })
+    }
+
+    /// What every numbering keeps, told to the proofs of callers; the call does nothing.
+    pub(crate) fn laws(&self)
+        ensures { AreNumbers self.now }
+    {
+        let _ = &self.free;
+    }
+
+    /// A number above all.
+    pub(crate) fn bound(&self) -> u32
+        ensures bound { result ≡ length self.now }
+        ensures below { result < 2 ^ 31 }
+    {
+        self.slots.len() as u32
+    }
+
+    /// The number of a name.
+    pub(crate) fn number(&self, name: &Name) -> Option<u32>
+        ensures { result ≡ number_of self.now name.now }
+    {
+        self.numbers.number(name)
+    }
+
+    /// Whether a number stands for a name.
+    pub(crate) fn has(&self, number: u32) -> bool
+        ensures { result ≡ is_number self.now number }
+    {
+        name_in(&self.slots, number).is_some()
+    }
+
+    /// The name of a number.
+    pub(crate) fn name(&self, number: u32) -> &Name
+        requires { is_number self.now number ≡ true }
+        ensures { name_at self.now number ≡ Some result.now }
+    {
+        match name_in(&self.slots, number) {
+            Some(name) => name.get(),
+            None => unreachable!(),
+        }
+    }
+
+    /// The numbering without the name of a number. The number is not used for another name until
+    /// it is released.
+    pub(crate) fn without(self, number: u32) -> Result<Numbering, Memory>
+        requires { is_number self number ≡ true }
+        ensures { IfOk result (λ after. after ≡ set self number None) }
+    {
+        let name = self.name(number).copied(self.alloc)?;
+        let Numbering {
+            mut slots,
+            mut numbers,
+            free,
+            alloc,
+        } = self;
+        numbers.remove(&name)?;
+        slots.set(number as usize, Slot::Gap(None))?;
+        Ok(Numbering {
+            slots,
+            numbers,
+            free,
+            alloc,
+        })
+    }
+
+    /// Lets a number that stands for nothing be used again; another is left as it is.
+    pub(crate) fn released(self, number: u32) -> Result<Numbering, Memory>
+        ensures { IfOk result (λ after. after ≡ self) }
+    {
+        if number as usize >= self.slots.len() || self.has(number) {
+            return Ok(self);
+        }
+        let Numbering {
+            mut slots,
+            numbers,
+            free,
+            alloc,
+        } = self;
+        slots.set(number as usize, Slot::Gap(free))?;
+        Ok(Numbering {
+            slots,
+            numbers,
+            free: Some(number),
+            alloc,
+        })
+    }
+
+    /// A gap that was released and that stands for nothing in the base either, and the next one.
+    fn released_gap(&self, base: &Numbering) -> Option<Choice>
+        ensures gap { IfSome result (λ choice. name_at self.now choice.number ≡ None) }
+        ensures within { IfSome result (λ choice. choice.number < length self.now) }
+        ensures base { IfSome result (λ choice. name_at base.now choice.number ≡ None) }
+    {
+        let number = self.free?;
+        if base.has(number) {
+            return None;
+        }
+        match slot_at(&self.slots, number)? {
+            Slot::Named(_) => None,
+            Slot::Gap(next) => Some(Choice {
+                number,
+                free: *next,
+            }),
+        }
+    }
+
+    /// The number for a new name: that which it has in the base, a gap, or one after all others.
+    fn choice(&self, base: &Numbering, name: &Name) -> Choice
+        requires fresh { number_of self.now name.now ≡ None }
+        requires longer { length base.now ≤ length self.now }
+        requires kept { AreKept base.now self.now }
+        ensures gap { name_at self.now result.number ≡ None }
+        ensures within { result.number ≤ length self.now }
+        ensures number { (m : ℕ) → number_of base.now name.now ≡ Some m → result.number ≡ m }
+        ensures name { (old : List ℕ) → name_at base.now result.number ≡ Some old → old ≡ name.now }
+    {
+        self.laws();
+        if let Some(number) = base.number(name) {
+            return Choice {
+                number,
+                free: self.free,
+            };
+        }
+        match self.released_gap(base) {
+            Some(choice) => choice,
+            None => Choice {
+                number: self.bound(),
+                free: self.free,
+            },
+        }
+    }
+
+    /// The numbering with a new name, and its number. A name that the base has keeps the number
+    /// that it has there, and no number of the base is given to another name.
+    pub(crate) fn with(self, base: &Numbering, name: Name) -> Result<(Numbering, u32), Memory>
+        requires fresh { number_of self name ≡ None }
+        requires longer { length base.now ≤ length self }
+        requires kept { AreKept base.now self }
+        ensures added { IfOk result (λ made. made.0 ≡ with_name self made.1 name) }
+        ensures gap { IfOk result (λ made. name_at self made.1 ≡ None) }
+        ensures within { IfOk result (λ made. made.1 ≤ length self) }
+        ensures kept { IfOk result (λ made. AreKept base.now made.0) }
+    {
+        let choice = self.choice(base, &name);
+        if choice.number as usize >= MOST {
+            return Err(Memory);
+        }
+        let Numbering {
+            slots,
+            mut numbers,
+            free: _,
+            alloc,
+        } = self;
+        numbers.put(name.copied(alloc)?, choice.number)?;
+        let slots = with_slot(slots, choice.number, Held::of(alloc, name)?)?;
+        let made = Numbering {
+            slots,
+            numbers,
+            free: choice.free,
+            alloc,
+        };
+        Ok((made, choice.number))
+    }
+}
+
+/// The slots with a name at a number, which is one of them or the next one.
+fn with_slot(slots: CowTable<Slot>, number: u32, name: Held<Name>) -> Result<CowTable<Slot>, Memory>
+    requires { number ≤ length slots }
+    ensures { IfOk result (λ after. map slot_name after ≡ with_name (map slot_name slots) number name) }
+{
+    let mut slots = slots;
+    if (number as usize) < slots.len() {
+        slots.set(number as usize, Slot::Named(name))?;
+    } else {
+        slots.push(Slot::Named(name))?;
+    }
+    Ok(slots)
+}

@@ -1,0 +1,259 @@
+//! Stores, their copies and look-ups.
+
+ghost use Rattle.std.specs.Prelude.{◌≡◌, ◌<◌, ◌^◌, ℕ, true, length, count_by, nat_eq, is_some, option_and_then, option_map, if◌then◌else◌, IfOk, IfSome};
+ghost use Rattle.std.specs.Option.{option_copied};
+ghost use Rattle.timing_defs.specs.Netlist.{cell_named, cell_of, net_of};
+ghost use Rattle.timing_defs.specs.Wires.{rc_of};
+ghost use Rattle.netlist_store.specs.Numbering.{name_at, number_of, is_number, inst_numbered, pin_numbered, owner_number, net_number, is_on_number, IsNumbered};
+ghost use Rattle.netlist_store.specs.Linked.{IsLinked};
+ghost use Rattle.netlist_store.specs.Stores.{TellsInst, TellsPin};
+
+use crate::cells::Cells;
+use crate::held::Held;
+use crate::tables::{Frame, Names, Orders, PinRow, Rows, row_at};
+use sta_units::Memory;
+use std::marker::Model;
+use timing_defs::{Cell, Constraints, Dir, Inst, Name, NetRc, Port, Split};
+
+/// A linked design with numbers for its instances, nets and pins. Contracts see the design and,
+/// for each kind, the list of the names that the numbers stand for, with gaps. A name keeps its
+/// number from a base to the stores that edits make of it. An edit gives a new store and leaves
+/// its base as it is; the two share what the edit does not change.
+#[derive(Debug, Drop)]
+pub struct Store {
+    frame: Held<Frame>,
+    names: Names,
+    rows: Rows,
+    orders: Orders,
+}
+
+impl Model for Store {
+    ghost use Rattle.netlist_store.specs.Numbering.{Stored};
+    ghost use Rattle.netlist_store.specs.Stores.{stored_in, AreTables};
+
+    ghost Value = { Stored };
+
+    ghost view = { λ s. stored_in s.frame s.names s.rows s.orders };
+
+    ghost invariant = { λ s. AreTables (stored_in s.frame s.names s.rows s.orders) s.rows s.orders };
+}
+
+impl Store {
+    /// A copy, which shares what neither changes.
+    pub fn copy(&self) -> Result<Store, Memory>
+        ensures { IfOk result (λ copy. copy ≡ self.now) }
+    {
+        let frame = self.frame.share()?;
+        let names = self.names.copy()?;
+        let rows = self.rows.copy()?;
+        let orders = self.orders.copy()?;
+        Ok(Store {
+            frame,
+            names,
+            rows,
+            orders,
+        })
+    }
+
+    /// What every store keeps, told to the proofs of callers; the call does nothing.
+    pub fn laws(&self)
+        ensures numbered { IsNumbered self.now }
+        ensures linked { IsLinked self.now.design }
+    {
+        let _ = &self.frame;
+    }
+
+    /// The number of an instance; none exactly where no instance has that name. Takes no memory.
+    pub fn inst(&self, name: &Name) -> Option<u32>
+        ensures { result ≡ number_of self.now.insts name.now }
+    {
+        self.names.insts.number(name)
+    }
+
+    /// The number of a net; none exactly where no net has that name. Takes no memory.
+    pub fn net(&self, name: &Name) -> Option<u32>
+        ensures { result ≡ number_of self.now.nets name.now }
+    {
+        self.names.nets.number(name)
+    }
+
+    /// The number of a pin; none exactly where no pin has that name. Takes no memory.
+    pub fn pin(&self, name: &Name) -> Option<u32>
+        ensures { result ≡ number_of self.now.pins name.now }
+    {
+        self.names.pins.number(name)
+    }
+
+    /// The number of the net that a pin is on; none exactly where it is on no net. Takes no memory.
+    pub fn net_of(&self, pin: u32) -> Option<u32>
+        requires { is_number self.now.pins pin ≡ true }
+        ensures value { result ≡ net_number self.now pin }
+        ensures none { is_some result ≡ is_some (option_and_then net_of (pin_numbered self.now pin)) }
+        ensures net { IfSome result (λ net. is_number self.now.nets net ≡ true) }
+    {
+        self.pin_row(pin).net
+    }
+
+    /// A number above that of every instance.
+    pub fn inst_bound(&self) -> u32
+        ensures bound { result ≡ length self.now.insts }
+        ensures below { result < 2 ^ 31 }
+    {
+        self.names.insts.bound()
+    }
+
+    /// A number above that of every net.
+    pub fn net_bound(&self) -> u32
+        ensures bound { result ≡ length self.now.nets }
+        ensures below { result < 2 ^ 31 }
+    {
+        self.names.nets.bound()
+    }
+
+    /// A number above that of every pin.
+    pub fn pin_bound(&self) -> u32
+        ensures bound { result ≡ length self.now.pins }
+        ensures below { result < 2 ^ 31 }
+    {
+        self.names.pins.bound()
+    }
+
+    /// Whether a number is that of an instance.
+    pub fn has_inst(&self, inst: u32) -> bool
+        ensures { result ≡ is_number self.now.insts inst }
+    {
+        self.names.insts.has(inst)
+    }
+
+    /// Whether a number is that of a net.
+    pub fn has_net(&self, net: u32) -> bool
+        ensures { result ≡ is_number self.now.nets net }
+    {
+        self.names.nets.has(net)
+    }
+
+    /// Whether a number is that of a pin.
+    pub fn has_pin(&self, pin: u32) -> bool
+        ensures { result ≡ is_number self.now.pins pin }
+    {
+        self.names.pins.has(pin)
+    }
+
+    /// The instance of a number.
+    pub fn inst_at(&self, inst: u32) -> &Inst
+        requires { is_number self.now.insts inst ≡ true }
+        ensures value { inst_numbered self.now inst ≡ Some result.now }
+        ensures name { name_at self.now.insts inst ≡ Some result.now.name }
+    {
+        self.inst_row(inst)
+    }
+
+    /// The cell of an instance in the library of a split.
+    pub fn cell_at(&self, inst: u32, split: Split) -> &Cell
+        requires { is_number self.now.insts inst ≡ true }
+        ensures { option_and_then (cell_of self.now.design split) (inst_numbered self.now inst) ≡ Some result.now }
+    {
+        let inst = self.inst_row(inst);
+        match split {
+            Split::Early => cell_under(&self.frame.get().early, &inst.cell),
+            Split::Late => cell_under(&self.frame.get().late, &inst.cell),
+        }
+    }
+
+    /// The name of a net.
+    pub fn net_name(&self, net: u32) -> &Name
+        requires { is_number self.now.nets net ≡ true }
+        ensures { name_at self.now.nets net ≡ Some result.now }
+    {
+        self.names.nets.name(net)
+    }
+
+    /// The numbers of the pins on a net, each once, in no order that is told.
+    pub fn net_pins(&self, net: u32) -> &[u32]
+        requires { is_number self.now.nets net ≡ true }
+        ensures { (pin : ℕ) → count_by (nat_eq pin) result.now ≡ (if is_on_number self.now net pin then 1 else 0) }
+    {
+        self.rows.net_pins.get(net as usize).get().as_slice()
+    }
+
+    /// The parasitics of a net; none exactly where the design has none of it.
+    pub fn net_rc(&self, net: u32) -> Option<&NetRc>
+        requires { is_number self.now.nets net ≡ true }
+        ensures { option_copied result ≡ option_and_then (rc_of self.now.design) (name_at self.now.nets net) }
+    {
+        match row_at(&self.rows.rcs, net) {
+            Some(rc) => Some(rc.get()),
+            None => None,
+        }
+    }
+
+    /// The name of a pin: a port's, or `instance:pin`.
+    pub fn pin_name(&self, pin: u32) -> &Name
+        requires { is_number self.now.pins pin ≡ true }
+        ensures { name_at self.now.pins pin ≡ Some result.now }
+    {
+        self.names.pins.name(pin)
+    }
+
+    /// The number of the instance that has a pin; none exactly for a port.
+    pub fn inst_of(&self, pin: u32) -> Option<u32>
+        requires { is_number self.now.pins pin ≡ true }
+        ensures value { result ≡ owner_number self.now pin }
+        ensures none { is_some result ≡ is_some (option_and_then (λ p. p.owner) (pin_numbered self.now pin)) }
+        ensures inst { IfSome result (λ inst. is_number self.now.insts inst ≡ true) }
+    {
+        self.pin_row(pin).owner
+    }
+
+    /// The direction of a pin, as its cell or, of a port, the module has it.
+    pub fn dir_of(&self, pin: u32) -> Dir
+        requires { is_number self.now.pins pin ≡ true }
+        ensures { option_map (λ p. p.dir) (pin_numbered self.now pin) ≡ Some result }
+    {
+        self.pin_row(pin).dir
+    }
+
+    /// The ports of the design, in the order of the module.
+    pub fn ports(&self) -> &[Port]
+        ensures { result.now ≡ self.now.design.ports }
+    {
+        self.frame.get().ports.as_slice()
+    }
+
+    /// The constraints of the design.
+    pub fn constraints(&self) -> &Constraints
+        ensures { result.now ≡ self.now.design.constraints }
+    {
+        &self.frame.get().constraints
+    }
+
+    /// The row of a pin.
+    fn pin_row(&self, pin: u32) -> &PinRow
+        requires { is_number self.now.pins pin ≡ true }
+        ensures { TellsPin self.now pin result.now }
+    {
+        self.rows.pins.get(pin as usize)
+    }
+
+    /// The row of an instance.
+    fn inst_row(&self, inst: u32) -> &Inst
+        requires { is_number self.now.insts inst ≡ true }
+        ensures { TellsInst self.now inst result.now }
+    {
+        match row_at(&self.rows.insts, inst) {
+            Some(inst) => inst.get(),
+            None => unreachable!(),
+        }
+    }
+}
+
+/// The cell of a name that the library has.
+fn cell_under<'a>(cells: &'a Cells, name: &Name) -> &'a Cell
+    requires { is_some (cell_named cells.now.cells name.now) ≡ true }
+    ensures { cell_named cells.entry.now.cells name.now ≡ Some result.now }
+{
+    match cells.cell(name) {
+        Some(cell) => cell,
+        None => unreachable!(),
+    }
+}

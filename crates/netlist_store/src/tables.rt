@@ -1,0 +1,119 @@
+//! The rows of a store's tables.
+
+ghost use Rattle.std.specs.Prelude.{◌≡◌, IfOk};
+ghost use Rattle.std.specs.Option.{option_copied};
+ghost use Rattle.netlist_store.specs.Stores.{at};
+
+use crate::cells::Cells;
+use crate::held::Held;
+use crate::numberings::Numbering;
+use crate::rolls::Roll;
+use cow_table::CowTable;
+use sta_units::{Again, Memory};
+use std::alloc::Global;
+use timing_defs::{Constraints, Dir, Inst, Items, NetRc, Port};
+
+/// The parts of a design that no edit changes.
+#[derive(Debug, Drop)]
+pub(crate) struct Frame {
+    pub early: Cells,
+    pub late: Cells,
+    pub ports: Items<Port>,
+    pub constraints: Constraints,
+}
+
+/// The names of instances, nets and pins, with their numbers.
+#[derive(Debug, Drop)]
+pub(crate) struct Names {
+    pub insts: Numbering,
+    pub nets: Numbering,
+    pub pins: Numbering,
+}
+
+impl Names {
+    /// A copy, which shares what neither changes.
+    pub(crate) fn copy(&self) -> Result<Names, Memory>
+        ensures { IfOk result (λ copy. copy ≡ self.now) }
+    {
+        let insts = self.insts.copy()?;
+        let nets = self.nets.copy()?;
+        let pins = self.pins.copy()?;
+        Ok(Names { insts, nets, pins })
+    }
+}
+
+/// The orders of the lists of a design: the numbers of its instances, of its nets, and of the nets
+/// with parasitics.
+#[derive(Debug, Drop)]
+pub(crate) struct Orders {
+    pub insts: Roll,
+    pub nets: Roll,
+    pub rcs: Roll,
+}
+
+impl Orders {
+    /// A copy, which shares what neither changes.
+    pub(crate) fn copy(&self) -> Result<Orders, Memory>
+        ensures { IfOk result (λ copy. copy ≡ self.now) }
+    {
+        let insts = self.insts.copy()?;
+        let nets = self.nets.copy()?;
+        let rcs = self.rcs.copy()?;
+        Ok(Orders { insts, nets, rcs })
+    }
+}
+
+/// What a store knows of a pin: the number of its instance (none for a port), the number of its
+/// net (none where it is open or tied), and its direction.
+#[derive(Debug, Clone, Copy)]
+pub(crate) struct PinRow {
+    pub owner: Option<u32>,
+    pub net: Option<u32>,
+    pub dir: Dir,
+}
+
+impl Again for PinRow {
+    fn again(&self, _alloc: Global) -> Result<PinRow, Memory> {
+        Ok(*self)
+    }
+}
+
+/// What is known of each number: its instance; of a net its parasitics and the numbers of its pins;
+/// of a pin its row.
+#[derive(Debug, Drop)]
+pub(crate) struct Rows {
+    pub insts: CowTable<Option<Held<Inst>>>,
+    pub rcs: CowTable<Option<Held<NetRc>>>,
+    pub net_pins: CowTable<Held<Items<u32>>>,
+    pub pins: CowTable<PinRow>,
+}
+
+impl Rows {
+    /// A copy, which shares what neither changes.
+    pub(crate) fn copy(&self) -> Result<Rows, Memory>
+        ensures { IfOk result (λ copy. copy ≡ self.now) }
+    {
+        let insts = self.insts.copy()?;
+        let rcs = self.rcs.copy()?;
+        let net_pins = self.net_pins.copy()?;
+        let pins = self.pins.copy()?;
+        Ok(Rows {
+            insts,
+            rcs,
+            net_pins,
+            pins,
+        })
+    }
+}
+
+/// What a table has at a number; none at a gap and past the end.
+pub(crate) fn row_at<T>(rows: &CowTable<Option<Held<T>>>, number: u32) -> Option<&Held<T>>
+    ensures { option_copied result ≡ at rows.now number }
+{
+    let number = number as usize;
+    if number < rows.len() {
+        rows.get(number).as_ref()
+    } else {
+        None
+    }
+}
