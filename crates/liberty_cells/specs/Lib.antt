@@ -1,0 +1,5 @@
+pub mod Statements
+pub mod Units
+pub mod Tables
+pub mod Cells
+pub mod Faults
