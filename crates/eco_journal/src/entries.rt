@@ -12,10 +12,10 @@ ghost use Rattle.eco_journal.specs.Journal.{Text, at_line, is_form, is_head, num
 use crate::edits::read_edit;
 use crate::faults::{bad_line, bad_number, count_at, fault_of, next_line};
 use crate::lines::{Lines, Span, words_of};
-use crate::numbers::{begin_of, is_name, number_of, says, text_at, within};
+use crate::numbers::{begin_of, number_of, says, text_at, within};
 use crate::stops::Stop;
 use std::alloc::Global;
-use timing_defs::{Code, Eco, Edit, Entry, Items, ReadFault};
+use timing_defs::{Code, Eco, Edit, Entry, Items, ReadFault, is_name};
 
 /// The greatest number of edits of an entry.
 const EDIT_LIMIT: usize = 1_000;

@@ -8,11 +8,11 @@ ghost use Rattle.eco_journal.specs.Stops.{Gives, Unfits};
 ghost use Rattle.eco_journal.specs.Items.{ItemWords, first_fits, most, inner, is_node, node_of, size_of, item_of, item, cap_node, res_from, cut_items, cap_of, res_of, with_item, with_items, bare, rc_of};
 
 use crate::lines::Span;
-use crate::numbers::{is, is_name, name_of, number_of, within};
+use crate::numbers::{is, name_of, number_of, within};
 use crate::stops::Stop;
 use sta_units::{Af, Mo};
 use std::alloc::Global;
-use timing_defs::{Items, Name, NetRc, RcCap, RcNode, RcRes};
+use timing_defs::{Items, Name, NetRc, RcCap, RcNode, RcRes, is_name};
 
 /// The greatest capacitance in aF, and the greatest resistance in mΩ.
 const MOST: u64 = 1_000_000_000_000;

@@ -5,7 +5,7 @@ ghost use Rattle.std.specs.Char.{is_ascii_digit};
 ghost use Rattle.std.specs.List.{list_all};
 ghost use Rattle.std.specs.Str.{bytes_eq};
 ghost use Rattle.sta_units.specs.Decimal.{number_on};
-ghost use Rattle.timing_defs.specs.Names.{is_graphic, is_name};
+ghost use Rattle.timing_defs.specs.Names.{is_name};
 ghost use Rattle.eco_journal.specs.Lines.{part_of};
 ghost use Rattle.eco_journal.specs.Words.{text as text_of, at as place_of, says, number_of, within};
 ghost use Rattle.eco_journal.specs.Stops.{Unfits};
@@ -14,28 +14,12 @@ use crate::lines::Span;
 use crate::stops::Stop;
 use sta_units::Memory;
 use std::alloc::Global;
-use timing_defs::Name;
+use timing_defs::{Name, is_name};
 
 fn all_digits(text: &[u8]) -> bool
     ensures { result ≡ list_all is_ascii_digit text.now }
 {
     text.iter().all(|byte| byte.is_ascii_digit())
-}
-
-fn all_graphic(text: &[u8]) -> bool
-    ensures { result ≡ list_all is_graphic text.now }
-{
-    text.iter().all(|byte| 33 <= *byte && *byte <= 126)
-}
-
-/// Whether the text is a word: graphic bytes, at least one.
-pub(crate) fn is_name(text: &[u8]) -> bool
-    ensures { result ≡ is_name text.now }
-{
-    if text.is_empty() {
-        return false;
-    }
-    all_graphic(text)
 }
 
 fn number_on(digits: &[u8]) -> u128

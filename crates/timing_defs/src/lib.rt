@@ -34,7 +34,7 @@ pub use items::Items;
 pub use kinds::{ArcKind, Dir, Kind, Split, Tran};
 pub use liberty_tree::{Item, Lexeme, Tree};
 pub use library::{Cell, CellArc, CellPin, CellTest, Library, Table, Units};
-pub use names::{Name, same_name};
+pub use names::{Name, is_name, same_name};
 pub use netlist::{Conn, Inst, Module, Port};
 pub use parasitics::{NetRc, Parasitics, RcCap, RcNode, RcRes};
 pub use reports::{EndRow, Query, Report};

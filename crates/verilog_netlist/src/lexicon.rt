@@ -4,24 +4,12 @@ ghost use Rattle.std.specs.Prelude.{◌≡◌, ◌<◌, ◌^◌, true, length, I
 ghost use Rattle.std.specs.Char.{is_ascii_digit};
 ghost use Rattle.std.specs.List.{list_all, list_any};
 ghost use Rattle.sta_units.specs.Decimal.{number_on};
-ghost use Rattle.timing_defs.specs.Names.{is_graphic, is_name};
+ghost use Rattle.timing_defs.specs.Names.{is_name};
 ghost use Rattle.verilog_netlist.specs.Lexicon.{is_escaped, spelled, begins_simple, begins_number, is_read_keyword, is_left_out_declaration, is_behaviour, is_left_out_item, is_variable_type, is_identifier, is_number, is_constant, has_colon, begins_expression};
 
 use sta_units::Memory;
 use std::alloc::Global;
-use timing_defs::Name;
-
-fn all_graphic(word: &[u8]) -> bool
-    ensures { result ≡ list_all is_graphic word.now }
-{
-    word.iter().all(|byte| 33 <= *byte && *byte <= 126)
-}
-
-fn is_name(word: &[u8]) -> bool
-    ensures { result ≡ is_name word.now }
-{
-    !word.is_empty() && all_graphic(word)
-}
+use timing_defs::{Name, is_name};
 
 fn is_escaped(word: &[u8]) -> bool
     ensures { result ≡ is_escaped word.now }
