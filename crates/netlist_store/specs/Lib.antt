@@ -1,4 +1,5 @@
 pub mod Applying
+pub mod Building
 pub mod Linked
 pub mod Numbering
 pub mod Orders

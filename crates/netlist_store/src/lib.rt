@@ -1,6 +1,6 @@
 //! The design as a store: instances, nets and pins by numbers, and copies that share what neither
-//! changes. A store is not yet made of a design here, nor edited; what is said below of edits is what
-//! the tables are made for.
+//! changes. `Store::of` makes a store of a linked design. A store is not yet edited here; what is said
+//! below of edits is what the tables are made for.
 //!
 //! # What a store keeps
 //!
@@ -32,8 +32,16 @@
 //! tells what the design has at that number by its name, the orders have the numbers in use, the
 //! numbers are those of the design, and the design stays linked.
 //!
+//! # How a store is made
+//!
+//! `building` makes the tables of a design in one pass each. The number of an instance, a net or a pin
+//! is its place in the design: pins in the order of the ports, then of the instances and, within one,
+//! of its cell. A net's pins are found by one pass over the rows of the pins.
+//!
 //! # Costs
 //!
+//! A store is made in time of the design's pins, nets and parasitics; but each name that comes copies
+//! its shard, which has one name in 16,381 (some 12 of 200,000 pins).
 //! Each look-up is one or two steps (a hash of the name, or a place in a table) and takes no memory;
 //! `net_pins` gives a slice. A copy of a store shares all chunks: one count for each 256 rows. An
 //! edit of an instance or a net makes its row anew, in time of its connections; nothing goes over
@@ -41,6 +49,7 @@
 #![tactic(auto)]
 
 mod agreement;
+mod building;
 mod cells;
 mod checks;
 mod held;

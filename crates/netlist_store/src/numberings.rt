@@ -1,7 +1,8 @@
 //! Names and their numbers.
 
-ghost use Rattle.std.specs.Prelude.{◌≡◌, ◌<◌, ◌≤◌, ◌^◌, [], ℕ, List, true, length, map, set, slice_get, IfOk, IfSome};
+ghost use Rattle.std.specs.Prelude.{◌≡◌, ◌<◌, ◌≤◌, ◌^◌, ◌∷◌, ◌++◌, [], ℕ, List, true, length, map, set, slice_get, IfOk, IfSome};
 ghost use Rattle.std.specs.Option.{option_copied};
+ghost use Rattle.timing_defs.specs.Netlist.{are_distinct};
 ghost use Rattle.netlist_store.specs.Numbering.{name_at, number_of, is_number, with_name, AreNumbers, AreKept};
 ghost use Rattle.netlist_store.specs.Slots.{slot_name, slot_name_at};
 
@@ -152,6 +153,31 @@ impl Numbering {
         }
     }
 
+    /// The numbering with a new name, whose number is after all others.
+    fn pushed(self, name: &Name) -> Result<Numbering, Memory>
+        requires fresh { number_of self name.now ≡ None }
+        ensures { IfOk result (λ after. after ≡ self ++ Some name.now ∷ []) }
+    {
+        let number = self.bound();
+        if number as usize >= MOST {
+            return Err(Memory);
+        }
+        let Numbering {
+            mut slots,
+            mut numbers,
+            free,
+            alloc,
+        } = self;
+        numbers.put(name.copied(alloc)?, number)?;
+        slots.push(Slot::Named(Held::of(alloc, name.copied(alloc)?)?))?;
+        Ok(Numbering {
+            slots,
+            numbers,
+            free,
+            alloc,
+        })
+    }
+
     /// The numbering without the name of a number. The number is not used for another name until
     /// it is released.
     pub(crate) fn without(self, number: u32) -> Result<Numbering, Memory>
@@ -273,6 +299,18 @@ impl Numbering {
         };
         Ok((made, choice.number))
     }
+}
+
+/// Distinct names with numbers in their order.
+pub(crate) fn numbered(alloc: Global, names: &[Name]) -> Result<Numbering, Memory>
+    requires { are_distinct names.now ≡ true }
+    ensures { IfOk result (λ made. made ≡ map Some names.now) }
+{
+    let mut made = Numbering::new(alloc)?;
+    for name in names {
+        made = made.pushed(name)?;
+    }
+    Ok(made)
 }
 
 /// The slots with a name at a number, which is one of them or the next one.

@@ -2,6 +2,8 @@
 
 ghost use Rattle.std.specs.Prelude.{◌≡◌, ◌≢◌, ◌<◌, ◌++◌, ◌∷◌, [], ℕ, Some, true, false, not, nat_eq, filter, length, slice_get, IfOk};
 ghost use Rattle.std.specs.List.{list_any};
+ghost use Rattle.netlist_store.specs.Building.{first_numbers};
+ghost use Rattle.netlist_store.specs.Linked.{differ};
 ghost use Rattle.netlist_store.specs.Orders.{KeepsPlaces};
 
 use cow_table::CowTable;
@@ -73,6 +75,29 @@ impl Roll {
         order.set(place as usize, None)?;
         Ok(Roll { order, places })
     }
+}
+
+/// The first numbers in their order.
+pub(crate) fn first_roll(alloc: Global, count: u32) -> Result<Roll, Memory>
+    ensures { IfOk result (λ roll. roll ≡ first_numbers count) }
+{
+    let mut roll = Roll::new(alloc);
+    for number in 0..count {
+        roll = roll.with(number)?;
+    }
+    Ok(roll)
+}
+
+/// Distinct numbers in their order.
+pub(crate) fn roll_of(alloc: Global, numbers: &[u32]) -> Result<Roll, Memory>
+    requires { differ nat_eq numbers.now ≡ true }
+    ensures { IfOk result (λ roll. roll ≡ numbers.now) }
+{
+    let mut roll = Roll::new(alloc);
+    for number in numbers {
+        roll = roll.with(*number)?;
+    }
+    Ok(roll)
 }
 
 /// As many places as there are numbers up to this one.

@@ -5,15 +5,17 @@ ghost use Rattle.std.specs.Option.{option_copied};
 ghost use Rattle.timing_defs.specs.Netlist.{cell_named, cell_of, net_of};
 ghost use Rattle.timing_defs.specs.Wires.{rc_of};
 ghost use Rattle.netlist_store.specs.Numbering.{name_at, number_of, is_number, inst_numbered, pin_numbered, owner_number, net_number, is_on_number, IsNumbered};
-ghost use Rattle.netlist_store.specs.Linked.{IsLinked};
+ghost use Rattle.netlist_store.specs.Linked.{IsLinked, IsSized};
 ghost use Rattle.netlist_store.specs.Stores.{TellsInst, TellsPin};
 
+use crate::building::{frame_of, names_of, orders_of, rows_of};
 use crate::cells::Cells;
 use crate::held::Held;
 use crate::tables::{Frame, Names, Orders, PinRow, Rows, row_at};
 use sta_units::Memory;
+use std::alloc::Global;
 use std::marker::Model;
-use timing_defs::{Cell, Constraints, Dir, Inst, Name, NetRc, Port, Split};
+use timing_defs::{Cell, Constraints, Design, Dir, Inst, Name, NetRc, Port, Split};
 
 /// A linked design with numbers for its instances, nets and pins. Contracts see the design and,
 /// for each kind, the list of the names that the numbers stand for, with gaps. A name keeps its
@@ -39,6 +41,36 @@ impl Model for Store {
 }
 
 impl Store {
+    /// The store of a linked design, in time of its pins. It fails for want of memory alone.
+    #[tactic(auto, using(crate::proofs::NewStores::store_ready))]
+    pub fn of(alloc: Global, design: Design) -> Result<Store, Memory>
+        requires linked { IsLinked design }
+        requires sized { IsSized design }
+        ensures { IfOk result (λ store. store.design ≡ design) }
+    {
+        let Design {
+            early,
+            late,
+            ports,
+            nets,
+            insts,
+            constraints,
+            rcs,
+        } = design;
+        let frame = frame_of(alloc, early, late, ports, constraints)?;
+        let names = names_of(alloc, &frame, &nets, &insts)?;
+        names.laws();
+        let rows = rows_of(alloc, &frame, &names, &insts, &rcs)?;
+        let orders = orders_of(alloc, &names, &rcs)?;
+        let held = Held::of(alloc, frame)?;
+        Ok(Store {
+            frame: held,
+            names,
+            rows,
+            orders,
+        })
+    }
+
     /// A copy, which shares what neither changes.
     pub fn copy(&self) -> Result<Store, Memory>
         ensures { IfOk result (λ copy. copy ≡ self.now) }

@@ -2,6 +2,7 @@
 
 ghost use Rattle.std.specs.Prelude.{◌≡◌, IfOk};
 ghost use Rattle.std.specs.Option.{option_copied};
+ghost use Rattle.netlist_store.specs.Numbering.{AreNumbers};
 ghost use Rattle.netlist_store.specs.Stores.{at};
 
 use crate::cells::Cells;
@@ -31,6 +32,17 @@ pub(crate) struct Names {
 }
 
 impl Names {
+    /// What numberings keep, told to the proofs of callers; the call does nothing.
+    pub(crate) fn laws(&self)
+        ensures insts { AreNumbers self.now.insts }
+        ensures nets { AreNumbers self.now.nets }
+        ensures pins { AreNumbers self.now.pins }
+    {
+        self.insts.laws();
+        self.nets.laws();
+        self.pins.laws();
+    }
+
     /// A copy, which shares what neither changes.
     pub(crate) fn copy(&self) -> Result<Names, Memory>
         ensures { IfOk result (λ copy. copy ≡ self.now) }
