@@ -3,8 +3,7 @@ use Rattle.std.proofs.Common.{◌≡◌, ◌+◌, ◌<◌, ◌≤◌, ℕ, zero,
 use Rattle.std.proofs.lemmas.Grind.{common_steps}
 use Rattle.eco_journal.specs.declared.lines.Span.{Span}
 use Rattle.eco_journal.specs.Lines.{part_of}
-use Rattle.std.specs.Prelude.{Result, Ok, Err}
-use Rattle.timing_defs.specs.declared.parasitics.NetRc.{NetRc}
+use Rattle.std.specs.Prelude.{Err}
 use Rattle.eco_journal.specs.declared.stops.Stop.{Stop}
 use Rattle.eco_journal.specs.Items.{ItemWords, with_items}
 

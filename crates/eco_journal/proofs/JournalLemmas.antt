@@ -6,7 +6,7 @@ use Rattle.timing_defs.specs.declared.codes.ReadFault.TheVariants.{At, Memory}
 use Rattle.timing_defs.specs.declared.edits.Edit.{Edit}
 use Rattle.timing_defs.specs.declared.edits.Entry.{Entry}
 use Rattle.eco_journal.specs.Lines.{Part, words_of}
-use Rattle.eco_journal.specs.Journal.{factors, factors_read, derates_of, block, block_head, block_left, Text, State, Head, heading, entry, edit, entries, entries_begun, entries_left, edits_left, edits_begun, at_line, entry_head, plain_head, eco_edits, Fails, Tells}
+use Rattle.eco_journal.specs.Journal.{factors, factors_read, derates_of, block, block_head, block_left, Text, State, Head, heading, entry, edit, entries, entries_left, edits_left, at_line, entry_head, plain_head, eco_edits, Fails, Tells}
 
 -- behind a fault no line counts
 pub stopped : (t : Text) (fault : ReadFault) (lines : List Part) → entries t (Err fault) lines ≡ Err fault

@@ -4,3 +4,9 @@ pub mod ItemsLemmas
 pub mod EditLemmas
 pub mod JournalLemmas
 pub mod TextLemmas
+pub mod Joined
+pub mod NumbersBack
+pub mod EditsBack
+pub mod JournalBack
+pub mod BlockBack
+pub mod Lawful

@@ -1,12 +1,12 @@
 -- The edits of a design as lines of words: a verb and its names (engineering change orders; own).
-use Rattle.std.specs.Prelude.{ℕ, List, [], Bool, ◌==◌, ◌&&◌, nat_le, length, drop, map, if◌then◌else◌, codes, Some, None, Result, Ok, Err}
+use Rattle.std.specs.Prelude.{ℕ, List, Bool, ◌==◌, ◌&&◌, nat_le, length, drop, map, if◌then◌else◌, codes, Some, None, Result, Ok, Err}
 use Rattle.std.specs.List.{list_all}
 use Rattle.timing_defs.specs.Names.{is_name}
 use Rattle.timing_defs.specs.declared.edits.Edit.{Edit}
 use Rattle.timing_defs.specs.declared.edits.Edit.TheVariants.{Repower, InsertGate, RemoveGate, InsertNet, RemoveNet, Connect, Disconnect, InsertBuffer, SetParasitics}
 use Rattle.timing_defs.specs.declared.parasitics.NetRc.{NetRc}
 use Rattle.eco_journal.specs.declared.stops.Stop.{Stop}
-use Rattle.eco_journal.specs.declared.stops.Stop.TheVariants.{Memory, Unfit, Flawed}
+use Rattle.eco_journal.specs.declared.stops.Stop.TheVariants.{Unfit}
 use Rattle.eco_journal.specs.Lines.{Part}
 use Rattle.eco_journal.specs.Words.{text, says, is_word}
 use Rattle.eco_journal.specs.Stops.{then_make}

@@ -1,10 +1,8 @@
 -- The items of an edit `set_parasitics`: `c NODE AF`, a capacitance to ground in aF, and
 -- `r NODE NODE MO`, a resistance in mΩ. A node is a pin word, or `#` and the number of an inner
 -- node below 2^32 (own; lumped and tree-like nets as in IEEE 1481).
-use Rattle.std.specs.Prelude.{ℕ, ◌^◌, ◌-◌, List, [], ◌∷◌, ◌++◌, Bool, true, false, ◌==◌, ◌&&◌, ◌||◌, not, nat_le, if◌then◌else◌, codes, Option, Some, None, is_some, Result, Ok, Err, pos}
+use Rattle.std.specs.Prelude.{ℕ, List, [], ◌∷◌, ◌++◌, Bool, true, false, ◌==◌, ◌&&◌, if◌then◌else◌, codes, Option, Some, None, is_some, Result, Ok, Err, pos}
 use Rattle.std.specs.Str.{bytes_eq}
-use Rattle.sta_units.specs.declared.units.Af.{Af}
-use Rattle.sta_units.specs.declared.units.Mo.{Mo}
 use Rattle.timing_defs.specs.Names.{is_name}
 use Rattle.timing_defs.specs.declared.parasitics.RcNode.{RcNode}
 use Rattle.timing_defs.specs.declared.parasitics.RcNode.TheVariants.{Pin, Inner}
@@ -12,7 +10,7 @@ use Rattle.timing_defs.specs.declared.parasitics.RcCap.{RcCap}
 use Rattle.timing_defs.specs.declared.parasitics.RcRes.{RcRes}
 use Rattle.timing_defs.specs.declared.parasitics.NetRc.{NetRc}
 use Rattle.eco_journal.specs.declared.stops.Stop.{Stop}
-use Rattle.eco_journal.specs.declared.stops.Stop.TheVariants.{Memory, Unfit, Flawed}
+use Rattle.eco_journal.specs.declared.stops.Stop.TheVariants.{Unfit, Flawed}
 use Rattle.eco_journal.specs.declared.items.Item.{Item}
 use Rattle.eco_journal.specs.declared.items.Item.TheVariants.{Cap, Res}
 use Rattle.eco_journal.specs.Lines.{Part, part_of}

@@ -6,3 +6,5 @@ pub mod EditLines
 pub mod Journal
 pub mod Saved
 pub mod Texts
+pub mod Written
+pub mod Blocks

@@ -45,8 +45,8 @@ pub fn number_of(text: &[u8]) -> Option<u128>
     Some(number_on(text))
 }
 
-/// The number, where it lies from `low` to `high`.
-pub(crate) fn within(low: u64, high: u64, number: Option<u128>) -> Option<u64>
+/// The number, where it lies from `low` to `high`. Takes no memory.
+pub fn within(low: u64, high: u64, number: Option<u128>) -> Option<u64>
     ensures { result ≡ within low high number }
 {
     match number {
@@ -64,8 +64,8 @@ pub(crate) fn is(text: &[u8], wanted: &[u8]) -> bool
     text == wanted
 }
 
-/// The word at a place, from 0; an empty one where there is none.
-pub(crate) fn text_at<'a>(words: &[Span<'a>], k: usize) -> &'a [u8]
+/// The word at a place, from 0; an empty one where there is none. Takes no memory.
+pub fn text_at<'a>(words: &[Span<'a>], k: usize) -> &'a [u8]
     ensures { result.now ≡ text_of (map part_of words.now) k }
 {
     match words.get(k) {
@@ -84,8 +84,8 @@ pub(crate) fn begin_of(words: &[Span<'_>], k: usize) -> usize
     }
 }
 
-/// Whether the word at a place is this one.
-pub(crate) fn says(words: &[Span<'_>], k: usize, wanted: &[u8]) -> bool
+/// Whether the word at a place, from 0, is this one. Takes no memory.
+pub fn says(words: &[Span<'_>], k: usize, wanted: &[u8]) -> bool
     ensures { result ≡ says (map part_of words.now) k wanted.now }
 {
     is(text_at(words, k), wanted)

@@ -133,6 +133,9 @@ fn limits_edits(rt: HostRuntime) -> Result<(), Fail> {
 
 #[test]
 fn reads_back_entries(rt: HostRuntime) -> Result<(), Fail> {
+    journal_read_back();
+    eco_read_back();
+    eco_can_be_written();
     let eco = read_eco(rt.alloc(), EDITS.as_bytes());
     let Ok(eco) = eco else {
         assert!(rt; false, "{EDITS}");
@@ -217,6 +220,8 @@ fn refuses_saved_journals(rt: HostRuntime) -> Result<(), Fail> {
 
 #[test]
 fn writes_blocks(rt: HostRuntime) -> Result<(), Fail> {
+    block_read_back();
+    saved_read_back();
     let lines = "repower_gate g2 BUF_X1";
     let Ok(eco) = read_eco(rt.alloc(), lines.as_bytes()) else {
         assert!(rt; false, "{lines}");

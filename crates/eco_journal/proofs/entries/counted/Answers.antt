@@ -1,5 +1,5 @@
-use Rattle.std.proofs.Common.{◌≡◌, ◌∷◌, arith}
-use Rattle.std.specs.Prelude.{Ok, Err}
+use Rattle.std.proofs.Common.{◌∷◌, arith}
+use Rattle.std.specs.Prelude.{Ok}
 use Rattle.eco_journal.specs.Lines.{part_of}
 use Rattle.eco_journal.specs.Journal.{entries, heading}
 use Rattle.eco_journal.proofs.JournalLemmas.{hands_on, fails_same, heading_step, heading_fails}

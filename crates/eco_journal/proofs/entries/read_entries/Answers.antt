@@ -1,5 +1,5 @@
 use Rattle.std.proofs.Common.{refl, arith}
-use Rattle.eco_journal.specs.Journal.{journal, entries, heading}
+use Rattle.eco_journal.specs.Journal.{journal}
 use Rattle.eco_journal.proofs.JournalLemmas.{tells_same}
 use Rattle.eco_journal.proofs.entries.read_entries.Goals as goal
 

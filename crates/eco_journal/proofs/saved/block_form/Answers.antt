@@ -1,4 +1,4 @@
-use Rattle.std.proofs.Common.{◌≡◌, map, arith}
+use Rattle.std.proofs.Common.{arith}
 use Rattle.std.proofs.lemmas.Grind.{common_steps}
 use Rattle.eco_journal.specs.Saved.{behind_head}
 use Rattle.eco_journal.proofs.JournalLemmas.{stands_same}

@@ -1,9 +1,5 @@
-use Rattle.std.proofs.Common.{◌≡◌, map, arith}
+use Rattle.std.proofs.Common.{arith}
 use Rattle.std.proofs.lemmas.Grind.{common_steps}
-use Rattle.std.specs.Prelude.{Option, None, Some}
-use Rattle.eco_journal.specs.Lines.{part_of}
-use Rattle.eco_journal.specs.Words.{at, text, number_of}
-use Rattle.eco_journal.specs.Journal.{later_block, factors_next}
 use Rattle.eco_journal.specs.Saved.{behind_head}
 use Rattle.eco_journal.proofs.JournalLemmas.{stands_same}
 use Rattle.eco_journal.proofs.saved.later_block.Goals as goal

@@ -1,5 +1,3 @@
-use Rattle.std.proofs.Common.{rules, arith}
-use Rattle.std.proofs.lemmas.Grind.{common_steps}
 use Rattle.eco_journal.proofs.texts.push_edit.Goals as goal
 
 pub returns-in-Repower : goal.returns-in-Repower
