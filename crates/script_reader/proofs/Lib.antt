@@ -1,0 +1,2 @@
+pub mod LineCount
+pub mod ProgressLemmas

@@ -1,0 +1,131 @@
+-- A script: a command a line, or edits from `begin_eco` to `commit_eco`, which are one command. Lines
+-- without a word and lines whose first word begins with `#` are passed over (own).
+use Rattle.std.specs.Prelude.{ℕ, ◌+◌, List, [], ◌∷◌, ◌++◌, Bool, true, ◌==◌, ◌&&◌, ◌||◌, nat_le, length, if◌then◌else◌, codes, Option, Some, None, Result, Ok, Err}
+use Rattle.std.specs.List.{list_all}
+use Rattle.timing_defs.specs.declared.codes.Code.TheVariants.{ScriptBadCommand, ScriptTooLong}
+use Rattle.timing_defs.specs.declared.codes.ReadFault.{ReadFault}
+use Rattle.timing_defs.specs.declared.edits.Edit.{Edit}
+use Rattle.timing_defs.specs.declared.scripts.Command.{Command}
+use Rattle.timing_defs.specs.declared.scripts.Command.TheVariants.{Change}
+use Rattle.timing_defs.specs.declared.scripts.Script.{Script}
+use Rattle.sta_text.specs.Bytes.{begins}
+use Rattle.sta_text.specs.declared.faults.Wrong.{Wrong}
+use Rattle.sta_text.specs.Faults.{least_from, told_fault}
+use Rattle.eco_journal.specs.declared.stops.Stop.{Stop}
+use Rattle.eco_journal.specs.Lines.{Part, lines_of}
+use Rattle.eco_journal.specs.Words.{text, says}
+use Rattle.eco_journal.specs.EditLines.{edit_of}
+use Rattle.script_reader.specs.Commands.{words_in, command_of}
+
+-- what the line of a number says: it is too long, it is a command by itself, an edit, the begin or
+-- the end of a group, or none of these
+pub data Event : Type 0 where
+  long : ℕ → Event
+  single : ℕ → Command → Event
+  change : ℕ → Edit → Event
+  group_begin : ℕ → Event
+  group_end : ℕ → Event
+  unknown : ℕ → Event
+
+abbrev pub is_ascii : ℕ → Bool
+is_ascii byte = nat_le byte 127
+
+-- no word, or a comment
+abbrev pub is_passed : List Part → Bool
+is_passed words = length words == 0 || begins 35 (text words 0)
+
+-- the line is this one word
+abbrev pub is_alone : List Part → List ℕ → Bool
+is_alone words word = length words == 1 && says words 0 word
+
+abbrev pub edit_said : ℕ → Result Edit Stop → List Event
+edit_said n (Ok e) = change n e ∷ []
+edit_said n (Err stop) = unknown n ∷ []
+
+abbrev pub command_said : ℕ → List Part → Option Command → List Event
+command_said n words (Some command) = single n command ∷ []
+command_said n words None = edit_said n (edit_of true words)
+
+-- what the words of line n say
+abbrev pub words_said : ℕ → List Part → List Event
+words_said n words =
+    (if is_passed words then [] else
+    (if is_alone words (codes "begin_eco") then group_begin n ∷ [] else
+    (if is_alone words (codes "commit_eco") then group_end n ∷ [] else command_said n words (command_of words))))
+
+-- what line n says; all of its bytes are of ASCII
+abbrev pub line_said : ℕ → List ℕ → List Event
+line_said n line = (if list_all is_ascii line then words_said n (words_in line) else unknown n ∷ [])
+
+-- a line is too long above 65,536 bytes
+abbrev pub too_long : ℕ → List ℕ → List Event
+too_long n line = (if nat_le (length line) 65536 then [] else long n ∷ [])
+
+-- what the lines say, of which the first has the number n
+unfoldable pub events : ℕ → List Part → List Event
+events n [] = []
+events n (line ∷ lines) = too_long n line.text ++ (line_said n line.text ++ events (n + 1) lines)
+
+-- where a line stands: outside a group, or in the group that began at a line, behind its edits
+pub data Place : Type 0 where
+  outside : Place
+  inside : (begin : ℕ) → List Edit → Place
+
+abbrev pub eco : List Edit → Command
+eco edits = Change (record { edits = edits })
+
+-- the commands that are said
+unfoldable pub commands : Place → List Event → List Command
+commands place (long n ∷ es) = commands place es
+commands outside (single n c ∷ es) = c ∷ commands outside es
+commands outside (change n e ∷ es) = eco (e ∷ []) ∷ commands outside es
+commands outside (group_begin n ∷ es) = commands (inside n []) es
+commands (inside begin edits) (change n e ∷ es) = commands (inside begin (edits ++ e ∷ [])) es
+commands (inside begin edits) (group_end n ∷ es) = eco edits ∷ commands outside es
+commands place es = []
+
+-- C1
+abbrev pub bad : ℕ → Wrong
+bad n = record { code = ScriptBadCommand; at = n }
+
+-- C2
+abbrev pub excess : ℕ → Wrong
+excess n = record { code = ScriptTooLong; at = n }
+
+-- C2 at line n, where at least so many of its kind stand before it
+abbrev pub behind : ℕ → ℕ → ℕ → List Wrong
+behind limit before n = (if nat_le limit before then excess n ∷ [] else [])
+
+-- C1 at the begin of a group that has no edit
+abbrev pub if_empty : ℕ → List Edit → List Wrong → List Wrong
+if_empty begin [] faults = bad begin ∷ []
+if_empty begin (e ∷ es) faults = faults
+
+-- the faults of what is said behind so many commands; nothing is looked at behind a line that may
+-- not stand in its place
+unfoldable pub faults : ℕ → Place → List Event → List Wrong
+faults count place (long n ∷ es) = excess n ∷ faults count place es
+faults count outside [] = []
+faults count outside (single n c ∷ es) = behind 10000 count n ++ faults (count + 1) outside es
+faults count outside (change n e ∷ es) = behind 10000 count n ++ faults (count + 1) outside es
+faults count outside (group_begin n ∷ es) = behind 10000 count n ++ faults count (inside n []) es
+faults count outside (group_end n ∷ es) = bad n ∷ []
+faults count outside (unknown n ∷ es) = bad n ∷ []
+faults count (inside begin edits) [] = bad begin ∷ []
+faults count (inside begin edits) (single n c ∷ es) = bad n ∷ []
+faults count (inside begin edits) (change n e ∷ es) =
+    behind 1000 (length edits) n ++ faults count (inside begin (edits ++ e ∷ [])) es
+faults count (inside begin edits) (group_begin n ∷ es) = bad n ∷ []
+faults count (inside begin edits) (group_end n ∷ es) = if_empty begin edits (faults (count + 1) outside es)
+faults count (inside begin edits) (unknown n ∷ es) = bad n ∷ []
+
+abbrev pub told : Option Wrong → List Command → Result Script ReadFault
+told None commands = Ok (record { commands = commands })
+told (Some wrong) commands = Err (told_fault wrong)
+
+abbrev pub script_said : List Event → Result Script ReadFault
+script_said es = told (least_from None (faults 0 outside es)) (commands outside es)
+
+-- a script by its text, or the fault of its lowest line; lines count from 1
+abbrev pub script_of : List ℕ → Result Script ReadFault
+script_of bytes = script_said (events 1 (lines_of bytes))

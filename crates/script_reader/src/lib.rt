@@ -1,0 +1,10 @@
+//! The reader of scripts: the commands of a session, one a line, in order.
+#![tactic(auto)]
+
+mod commands;
+mod lines;
+mod scripts;
+#[cfg(test)]
+mod tests;
+
+pub use scripts::read_script;
