@@ -1,0 +1,3 @@
+pub mod NameMapLemmas
+pub mod NodeLemmas
+pub mod RowLemmas

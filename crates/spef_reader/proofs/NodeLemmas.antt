@@ -1,0 +1,34 @@
+-- Names of pins.
+use Rattle.std.proofs.Common.{◌≡◌, ◌≤◌, ◌<◌, ℕ, List, [], ◌∷◌, ◌++◌, Bool, true, false, ◌&&◌, not, ◌==◌, length, arith, refl, length-append, ap}
+use Rattle.std.specs.List.{list_all}
+use Rattle.std.proofs.lemmas.Bool.Decides.{nat_tests}
+use Rattle.std.proofs.lemmas.Bool.{and_from, false≢true}
+use Rattle.std.proofs.lemmas.List.Folds.{list_all-append}
+use Rattle.sta_units.specs.Decimal.{number_on}
+use Rattle.sta_units.proofs.Digits.{number_on-ge}
+use Rattle.timing_defs.specs.Names.{is_graphic, is_name}
+
+both : (a b : Bool) → (a && b) ≡ true → b ≡ true
+both true b h = h
+both false b h = absurd (false≢true h)
+
+some : (n : ℕ) → 0 < n → not (n == 0) ≡ true
+some n h = grind (arith, nat_tests)
+
+pub joined_is_name : (left right : List ℕ) → is_name left ≡ true → is_name right ≡ true → is_name (left ++ 58 ∷ right) ≡ true
+joined_is_name left right l r =
+    let long : 0 < length (left ++ 58 ∷ right) = omega (arith, length-append left (58 ∷ right)) in
+    let graphic : list_all is_graphic (left ++ 58 ∷ right) ≡ true =
+    rw (list_all-append is_graphic left (58 ∷ right))
+    (and_from (list_all is_graphic left) (list_all is_graphic right) (both (not (length left == 0)) (list_all is_graphic left) l)
+    (both (not (length right == 0)) (list_all is_graphic right) r)) in
+    and_from (not (length (left ++ 58 ∷ right) == 0)) (list_all is_graphic (left ++ 58 ∷ right)) (some (length (left ++ 58 ∷ right)) long) graphic
+
+-- more digits write no smaller number
+pub number_grows : (n : ℕ) (digits : List ℕ) → n ≤ number_on n digits
+number_grows n digits = number_on-ge n digits
+
+-- a pin's name is written piece by piece
+pub pin_bytes : (left right : List ℕ) → (left ++ 58 ∷ []) ++ right ≡ left ++ 58 ∷ right
+pin_bytes [] right = refl
+pin_bytes (b ∷ left) right = ap (λ rest. b ∷ rest) (pin_bytes left right)
