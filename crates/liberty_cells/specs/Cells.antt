@@ -1,8 +1,10 @@
 -- The cells of a library (Liberty Reference Manual, "cell", "pin", "timing").
-use Rattle.std.specs.Prelude.{ℕ, ◌+◌, List, [], ◌∷◌, ◌++◌, Bool, true, false, ◌==◌, ◌&&◌, ◌||◌, not, codes, map, length, ℤ, pos, Option, Some, None, option_map, option_and_then, if◌then◌else◌}
-use Rattle.std.specs.Option.{unwrap_or}
-use Rattle.std.specs.List.{list_all, list_any, filter, flat_map}
+use Rattle.std.specs.Prelude.{ℕ, List, [], ◌∷◌, ◌++◌, Bool, false, ◌==◌, ◌||◌, not, codes, map, length, ℤ, pos, Option, Some, None, option_and_then, Result, Ok, Err, if◌then◌else◌}
+use Rattle.std.specs.List.{list_any, filter, flat_map}
 use Rattle.std.specs.Str.{bytes_eq}
+use Rattle.sta_units.specs.declared.units.Unit.{Unit}
+use Rattle.timing_defs.specs.Names.{is_name}
+use Rattle.timing_defs.specs.declared.codes.Code.{Code}
 use Rattle.timing_defs.specs.declared.kinds.Dir.{Dir}
 use Rattle.timing_defs.specs.declared.kinds.Dir.TheVariants.{Input, Output}
 use Rattle.timing_defs.specs.declared.kinds.Tran.{Tran}
@@ -21,13 +23,19 @@ use Rattle.timing_defs.specs.declared.liberty_tree.Lexeme.{Lexeme}
 use Rattle.timing_defs.specs.declared.liberty_tree.Tree.{Tree}
 use Rattle.timing_defs.specs.declared.liberty_tree.Item.{Item}
 use Rattle.sta_text.specs.Names.{stands}
-use Rattle.liberty_cells.specs.Statements.{groups, groups_of, lists, values, last, one_text}
-use Rattle.liberty_cells.specs.Units.{Known, known, number_or_zero}
-use Rattle.liberty_cells.specs.Tables.{Form, delay_form, test_form, Axes, axes_of, table_on, scalar_on, template_of, words}
-
--- the last value of a simple attribute, where it is one token
-abbrev pub text_of : List ℕ → List Item → Option (List ℕ)
-text_of name items = option_and_then one_text (last (values name items))
+use Rattle.liberty_cells.specs.declared.library_units.Known.{Known}
+use Rattle.liberty_cells.specs.declared.axes.Purpose.TheVariants.{Delay, Constraint}
+use Rattle.liberty_cells.specs.declared.axes.Form.{Form}
+use Rattle.liberty_cells.specs.declared.timing.Timing.{Timing}
+use Rattle.liberty_cells.specs.declared.timing.Timing.TheVariants.{Between, From, Test}
+use Rattle.liberty_cells.specs.declared.timing.Sense.{Sense}
+use Rattle.liberty_cells.specs.declared.timing.Sense.TheVariants.{Keeps, Inverts, Any}
+use Rattle.liberty_cells.specs.declared.pins.Pin.{Pin as PinRef}
+use Rattle.liberty_cells.specs.declared.arcs.Arcs.{Arcs}
+use Rattle.liberty_cells.specs.declared.needs.Needs.{Needs}
+use Rattle.liberty_cells.specs.Statements.{groups, values, last, one_text, text_of}
+use Rattle.liberty_cells.specs.Units.{known, number_or_zero}
+use Rattle.liberty_cells.specs.Tables.{words, read_table}
 
 -- a pin's direction: input or output; pins of another one, or of none, are passed over
 abbrev pub dir_named : List ℕ → Option Dir
@@ -41,17 +49,20 @@ abbrev pub is_inout_text : Option (List ℕ) → Bool
 is_inout_text None = false
 is_inout_text (Some text) = bytes_eq text (codes "inout")
 
+abbrev pub is_colon : ℕ → Bool
+is_colon b = b == 58
+
 abbrev pub has_colon : Lexeme → Bool
-has_colon x = list_any (λ b. b == 58) x.text
+has_colon x = list_any is_colon x.text
 
 abbrev pub pins_of : Tree → List Tree
-pins_of cell = groups_of (codes "pin") (groups cell.items)
+pins_of cell = groups (codes "pin") cell.items
 
 abbrev pub is_left_out_pin : Tree → Bool
 is_left_out_pin pin = is_inout_text (text_of (codes "direction") pin.items) || list_any has_colon pin.args
 
 abbrev pub has_group : List ℕ → Tree → Bool
-has_group name cell = not (length (groups_of name (groups cell.items)) == 0)
+has_group name cell = not (length (groups name cell.items) == 0)
 
 -- a cell with a bus, a bundle, an inout pin or a pin name with a colon is not in the library
 abbrev pub is_kept : Tree → Bool
@@ -59,10 +70,10 @@ is_kept cell =
     not (has_group (codes "bus") cell || has_group (codes "bundle") cell || list_any is_left_out_pin (pins_of cell))
 
 abbrev pub cells_of : List Item → List Tree
-cells_of items = filter is_kept (groups_of (codes "cell") (groups items))
+cells_of items = filter is_kept (groups (codes "cell") items)
 
 abbrev pub templates_of : List Item → List Tree
-templates_of items = groups_of (codes "lu_table_template") (groups items)
+templates_of items = groups (codes "lu_table_template") items
 
 -- a pin group that is read, with its direction
 pub record Pin : Type 0 where
@@ -73,48 +84,75 @@ abbrev pub pin_with : Tree → Option Dir → List Pin
 pin_with tree None = []
 pin_with tree (Some dir) = record { tree = tree; dir = dir } ∷ []
 
+abbrev pub pin_in : Tree → List Pin
+pin_in tree = pin_with tree (dir_of tree)
+
 abbrev pub read_pins : Tree → List Pin
-read_pins cell = flat_map (λ (t : Tree). pin_with t (dir_of t)) (pins_of cell)
+read_pins cell = flat_map pin_in (pins_of cell)
+
+abbrev pub pin_told : PinRef → Pin
+pin_told p = record { tree = p.tree.now; dir = p.dir }
+
+abbrev pub pins_told : List PinRef → List Pin
+pins_told found = map pin_told found
 
 abbrev pub texts_of : List Lexeme → List (List ℕ)
 texts_of args = map (λ (x : Lexeme). x.text) args
 
+-- names with one more, where it is new
+abbrev pub with_name : List (List ℕ) → List ℕ → List (List ℕ)
+with_name names name = (if stands names name then names else names ++ name ∷ [])
+
+-- names with those of a list of arguments, each once
+unfoldable pub names_on : List (List ℕ) → List Lexeme → List (List ℕ)
+names_on names [] = names
+names_on names (x ∷ xs) = names_on (with_name names x.text) xs
+
+abbrev pub args_of : Pin → List Lexeme
+args_of p = p.tree.args
+
+abbrev pub pin_args : List Pin → List Lexeme
+pin_args pins = flat_map args_of pins
+
 -- the names of a cell's pins
 abbrev pub pin_names : List Pin → List (List ℕ)
-pin_names pins = flat_map (λ (p : Pin). texts_of p.tree.args) pins
+pin_names pins = names_on [] (pin_args pins)
 
--- what a group of timing is: an arc, or a setup or hold test, of an edge of the related pin
-pub data Timing : Type 0 where
-  arc_between : Timing
-  arc_from : Tran → Timing
-  test_at : Kind → Tran → Timing
+-- those that are names
+abbrev pub names_in : List (List ℕ) → List (List ℕ)
+names_in found = filter is_name found
 
 abbrev pub output_timing : List ℕ → Option Timing
 output_timing text =
-    (if bytes_eq text (codes "combinational") then Some arc_between else
-    (if bytes_eq text (codes "rising_edge") then Some (arc_from Rise) else
-    (if bytes_eq text (codes "falling_edge") then Some (arc_from Fall) else None)))
+    (if bytes_eq text (codes "combinational") then Some Between else
+    (if bytes_eq text (codes "rising_edge") then Some (From Rise) else
+    (if bytes_eq text (codes "falling_edge") then Some (From Fall) else None)))
 
 abbrev pub input_timing : List ℕ → Option Timing
 input_timing text =
-    (if bytes_eq text (codes "setup_rising") then Some (test_at Setup Rise) else
-    (if bytes_eq text (codes "setup_falling") then Some (test_at Setup Fall) else
-    (if bytes_eq text (codes "hold_rising") then Some (test_at Hold Rise) else
-    (if bytes_eq text (codes "hold_falling") then Some (test_at Hold Fall) else None))))
+    (if bytes_eq text (codes "setup_rising") then Some (Test Setup Rise) else
+    (if bytes_eq text (codes "setup_falling") then Some (Test Setup Fall) else
+    (if bytes_eq text (codes "hold_rising") then Some (Test Hold Rise) else
+    (if bytes_eq text (codes "hold_falling") then Some (Test Hold Fall) else None))))
 
-abbrev pub timing_named : Dir → Option (List ℕ) → Option Timing
-timing_named Output None = None
-timing_named Output (Some text) = output_timing text
-timing_named Input None = None
-timing_named Input (Some text) = input_timing text
+abbrev pub timing_named : Dir → List ℕ → Option Timing
+timing_named Output text = output_timing text
+timing_named Input text = input_timing text
 
 -- without a type a group is combinational
-abbrev pub type_text : List (List Lexeme) → Option (List ℕ)
-type_text [] = Some (codes "combinational")
-type_text (v ∷ vs) = option_and_then one_text (last (v ∷ vs))
+abbrev pub type_text : Option (List Lexeme) → Option (List ℕ)
+type_text None = Some (codes "combinational")
+type_text (Some value) = one_text value
+
+-- what a group with this last type is
+unfoldable pub timing_typed : Dir → Option (List Lexeme) → Option Timing
+timing_typed dir value = option_and_then (timing_named dir) (type_text value)
+
+unfoldable pub timing_in : Dir → List Item → Option Timing
+timing_in dir items = timing_typed dir (last (values (codes "timing_type") items))
 
 abbrev pub timing_of : Dir → Tree → Option Timing
-timing_of dir group = timing_named dir (type_text (values (codes "timing_type") group.items))
+timing_of dir group = timing_in dir group.items
 
 abbrev pub words_of : Option (List ℕ) → List (List ℕ)
 words_of None = []
@@ -124,19 +162,18 @@ words_of (Some text) = words text
 abbrev pub related : List (List ℕ) → Tree → List (List ℕ)
 related pins group = filter (stands pins) (words_of (text_of (codes "related_pin") group.items))
 
-pub data Sense : Type 0 where
-  keeps : Sense
-  inverts : Sense
-  has_all_four : Sense
+abbrev pub sense_named : List ℕ → Sense
+sense_named text =
+    (if bytes_eq text (codes "positive_unate") then Keeps else
+    (if bytes_eq text (codes "negative_unate") then Inverts else Any))
 
-abbrev pub sense_named : Option (List ℕ) → Sense
-sense_named None = has_all_four
-sense_named (Some text) =
-    (if bytes_eq text (codes "positive_unate") then keeps else
-    (if bytes_eq text (codes "negative_unate") then inverts else has_all_four))
+abbrev pub sense_or_any : Option (List ℕ) → Sense
+sense_or_any None = Any
+sense_or_any (Some text) = sense_named text
 
+-- without a sense an arc is read as non-unate (own)
 abbrev pub sense_of : Tree → Sense
-sense_of group = sense_named (text_of (codes "timing_sense") group.items)
+sense_of group = sense_or_any (text_of (codes "timing_sense") group.items)
 
 abbrev pub other : Tran → Tran
 other Rise = Fall
@@ -144,52 +181,44 @@ other Fall = Rise
 
 -- the input transitions of an arc to an output transition
 abbrev pub from_trans : Sense → Tran → List Tran
-from_trans keeps to = to ∷ []
-from_trans inverts to = other to ∷ []
-from_trans has_all_four to = Rise ∷ Fall ∷ []
+from_trans Keeps to = to ∷ []
+from_trans Inverts to = other to ∷ []
+from_trans Any to = Rise ∷ Fall ∷ []
 
 abbrev pub trans_of : Timing → Sense → Tran → List Tran
-trans_of arc_between sense to = from_trans sense to
-trans_of (arc_from edge) sense to = edge ∷ []
-trans_of (test_at kind edge) sense to = []
+trans_of Between sense to = from_trans sense to
+trans_of (From edge) sense to = edge ∷ []
+trans_of (Test kind edge) sense to = []
 
 abbrev pub kind_of : Timing → ArcKind
-kind_of arc_between = Comb
-kind_of (arc_from edge) = Edge
-kind_of (test_at kind edge) = Edge
+kind_of Between = Comb
+kind_of (From edge) = Edge
+kind_of (Test kind edge) = Edge
 
-abbrev pub delay_name : Tran → List ℕ
-delay_name Rise = codes "cell_rise"
-delay_name Fall = codes "cell_fall"
+abbrev pub table_read : Option (Result Table Code) → Option Table
+table_read None = None
+table_read (Some (Err code)) = None
+table_read (Some (Ok table)) = Some table
 
-abbrev pub slew_name : Tran → List ℕ
-slew_name Rise = codes "rise_transition"
-slew_name Fall = codes "fall_transition"
-
-abbrev pub need_name : Tran → List ℕ
-need_name Rise = codes "rise_constraint"
-need_name Fall = codes "fall_constraint"
-
--- the table that a group writes, in the form of its template
-abbrev pub table_named : Form → List Tree → Tree → List Lexeme → Option Table
-table_named form templates group [] = None
-table_named form templates group (x ∷ xs) =
-    (if bytes_eq x.text (codes "scalar") then Some (scalar_on form group.items) else
-    option_and_then
-    (λ (template : List Item). option_map (λ (axes : Axes). table_on form group.items template axes) (axes_of form template))
-    (template_of x.text templates))
+-- the table that a group writes
+abbrev pub table_named : Form → List Tree → List Item → List Lexeme → Option Table
+table_named form templates table [] = None
+table_named form templates table (x ∷ xs) = table_read (read_table form templates x.text table)
 
 -- the last table of a name in a group of timing
 abbrev pub table_of : Form → List Tree → List ℕ → Tree → Option Table
 table_of form templates name group =
-    option_and_then (λ (t : Tree). table_named form templates t t.args) (last (groups_of name (groups group.items)))
+    option_and_then (λ (t : Tree). table_named form templates t.items t.args) (last (groups name group.items))
 
-abbrev pub arcs_to : Timing → Sense → List ℕ → List ℕ → Tran → Option Table → Option Table → List CellArc
-arcs_to timing sense from to tran None slew = []
-arcs_to timing sense from to tran (Some delay) None = []
-arcs_to timing sense from to tran (Some delay) (Some slew) =
-    map
-    (λ (tran_in : Tran).
+abbrev pub delay_form : Known → Form
+delay_form k = record { purpose = Delay; known = k }
+
+abbrev pub test_form : Known → Form
+test_form k = record { purpose = Constraint; known = k }
+
+-- an arc from a transition of a pin to a transition of another
+abbrev pub arc_from : Timing → List ℕ → List ℕ → Tran → Table → Table → Tran → CellArc
+arc_from timing from to tran delay slew tran_in =
     record {
       from = from;
       from_tran = tran_in;
@@ -198,90 +227,128 @@ arcs_to timing sense from to tran (Some delay) (Some slew) =
       kind = kind_of timing;
       delay = delay;
       slew = slew;
-    })
-    (trans_of timing sense tran)
+    }
 
-abbrev pub arcs_at : Form → List Tree → Tree → Timing → List ℕ → List ℕ → Tran → List CellArc
-arcs_at form templates group timing from to tran =
-    arcs_to timing (sense_of group) from to tran (table_of form templates (delay_name tran) group)
-    (table_of form templates (slew_name tran) group)
+-- the arcs to a transition; without both tables there is none
+abbrev pub arcs_to : Timing → Sense → List ℕ → List ℕ → Tran → Option Table → Option Table → List CellArc
+arcs_to timing sense from to tran None slew = []
+arcs_to timing sense from to tran (Some delay) None = []
+arcs_to timing sense from to tran (Some delay) (Some slew) =
+    map (arc_from timing from to tran delay slew) (trans_of timing sense tran)
 
--- the arcs of a group: for each related pin in order, rise before fall
-abbrev pub arcs_between : Form → List Tree → Tree → Timing → List ℕ → List ℕ → List CellArc
-arcs_between form templates group timing from to =
-    arcs_at form templates group timing from to Rise ++ arcs_at form templates group timing from to Fall
+-- what a group of timing says of arcs
+abbrev pub group_arcs : Known → List Tree → Tree → Timing → Arcs
+group_arcs k templates group timing =
+    record {
+      timing = timing;
+      sense = sense_of group;
+      rise_delay = table_of (delay_form k) templates (codes "cell_rise") group;
+      rise_slew = table_of (delay_form k) templates (codes "rise_transition") group;
+      fall_delay = table_of (delay_form k) templates (codes "cell_fall") group;
+      fall_slew = table_of (delay_form k) templates (codes "fall_transition") group;
+    }
+
+-- the arcs between two pins, rise before fall
+abbrev pub arcs_between : Arcs → List ℕ → List ℕ → List CellArc
+arcs_between g to from =
+    arcs_to g.timing g.sense from to Rise g.rise_delay g.rise_slew
+    ++ arcs_to g.timing g.sense from to Fall g.fall_delay g.fall_slew
+
+abbrev pub arcs_from : Arcs → List (List ℕ) → List ℕ → List CellArc
+arcs_from g froms to = flat_map (arcs_between g to) froms
+
+-- of each pin and each related pin in order
+abbrev pub all_arcs : Arcs → List (List ℕ) → List (List ℕ) → List CellArc
+all_arcs g froms tos = flat_map (arcs_from g froms) tos
+
+-- what a group of timing says of tests
+abbrev pub group_tests : Known → List Tree → Tree → Kind → Tran → Needs
+group_tests k templates group kind edge =
+    record {
+      kind = kind;
+      edge = edge;
+      rise = table_of (test_form k) templates (codes "rise_constraint") group;
+      fall = table_of (test_form k) templates (codes "fall_constraint") group;
+    }
 
 abbrev pub test_with : Kind → Tran → List ℕ → List ℕ → Tran → Option Table → List CellTest
 test_with kind edge clock pin tran None = []
 test_with kind edge clock pin tran (Some need) =
     record { pin = pin; tran = tran; clock = clock; active = edge; kind = kind; need = need } ∷ []
 
-abbrev pub tests_between : Form → List Tree → Tree → Timing → List ℕ → List ℕ → List CellTest
-tests_between form templates group (test_at kind edge) clock pin =
-    test_with kind edge clock pin Rise (table_of form templates (need_name Rise) group)
-    ++ test_with kind edge clock pin Fall (table_of form templates (need_name Fall) group)
-tests_between form templates group timing clock pin = []
+abbrev pub tests_between : Needs → List ℕ → List ℕ → List CellTest
+tests_between g pin clock =
+    test_with g.kind g.edge clock pin Rise g.rise ++ test_with g.kind g.edge clock pin Fall g.fall
 
--- a group of timing that is read, in a pin
-pub record Group : Type 0 where
-  pub tree : Tree
-  pub timing : Timing
-  pub pins : List (List ℕ)
-  pub related : List (List ℕ)
+abbrev pub tests_from : Needs → List (List ℕ) → List ℕ → List CellTest
+tests_from g clocks pin = flat_map (tests_between g pin) clocks
 
-abbrev pub group_with : Pin → List (List ℕ) → Tree → Option Timing → List Group
-group_with pin names tree None = []
-group_with pin names tree (Some timing) =
-    (if length (related names tree) == 0 then [] else
-    record { tree = tree; timing = timing; pins = texts_of pin.tree.args; related = related names tree } ∷ [])
+abbrev pub all_tests : Needs → List (List ℕ) → List (List ℕ) → List CellTest
+all_tests g clocks pins = flat_map (tests_from g clocks) pins
 
--- the groups of timing that are read, in the order of the text
-abbrev pub timings_in : List (List ℕ) → Pin → List Group
-timings_in names pin =
-    flat_map (λ (t : Tree). group_with pin names t (timing_of pin.dir t))
-    (groups_of (codes "timing") (groups pin.tree.items))
+abbrev pub arcs_with : Known → List Tree → List (List ℕ) → List Lexeme → Tree → Option Timing → List CellArc
+arcs_with k templates names args group None = []
+arcs_with k templates names args group (Some Between) =
+    all_arcs (group_arcs k templates group Between) (names_in (related names group)) (names_in (texts_of args))
+arcs_with k templates names args group (Some (From edge)) =
+    all_arcs (group_arcs k templates group (From edge)) (names_in (related names group)) (names_in (texts_of args))
+arcs_with k templates names args group (Some (Test kind edge)) = []
 
-abbrev pub timings : Tree → List Group
-timings cell = flat_map (timings_in (pin_names (read_pins cell))) (read_pins cell)
+abbrev pub tests_with : Known → List Tree → List (List ℕ) → List Lexeme → Tree → Option Timing → List CellTest
+tests_with k templates names args group None = []
+tests_with k templates names args group (Some Between) = []
+tests_with k templates names args group (Some (From edge)) = []
+tests_with k templates names args group (Some (Test kind edge)) =
+    all_tests (group_tests k templates group kind edge) (names_in (related names group)) (names_in (texts_of args))
 
-abbrev pub arcs_of : Form → List Tree → Group → List CellArc
-arcs_of form templates g =
-    flat_map
-    (λ (to : List ℕ). flat_map (λ (from : List ℕ). arcs_between form templates g.tree g.timing from to) g.related)
-    g.pins
+abbrev pub timing_groups : Tree → List Tree
+timing_groups pin = groups (codes "timing") pin.items
 
-abbrev pub tests_of : Form → List Tree → Group → List CellTest
-tests_of form templates g =
-    flat_map
-    (λ (pin : List ℕ). flat_map (λ (clock : List ℕ). tests_between form templates g.tree g.timing clock pin) g.related)
-    g.pins
+-- the arcs and the tests of a group of a pin, in a cell with these names of pins
+abbrev pub arcs_of : Known → List Tree → List (List ℕ) → Pin → Tree → List CellArc
+arcs_of k templates names pin group = arcs_with k templates names pin.tree.args group (timing_of pin.dir group)
+
+abbrev pub tests_of : Known → List Tree → List (List ℕ) → Pin → Tree → List CellTest
+tests_of k templates names pin group = tests_with k templates names pin.tree.args group (timing_of pin.dir group)
+
+abbrev pub pin_arcs : Known → List Tree → List (List ℕ) → Pin → List CellArc
+pin_arcs k templates names pin = flat_map (arcs_of k templates names pin) (timing_groups pin.tree)
+
+abbrev pub pin_tests : Known → List Tree → List (List ℕ) → Pin → List CellTest
+pin_tests k templates names pin = flat_map (tests_of k templates names pin) (timing_groups pin.tree)
 
 -- a pin's capacitance, 0 where it is not written
-abbrev pub cap_in : Option ℤ → Option (List ℕ) → ℤ
-cap_in unit None = pos 0
-cap_in unit (Some text) = number_or_zero unit text
+unfoldable pub cap_in : Option Unit → Option (List ℕ) → ℤ
+cap_in u None = pos 0
+cap_in u (Some text) = number_or_zero u text
 
-abbrev pub cell_pins : Option ℤ → Pin → List CellPin
-cell_pins unit pin =
-    map
-    (λ (name : List ℕ).
-    record { name = name; dir = pin.dir; cap = record { 0 = cap_in unit (text_of (codes "capacitance") pin.tree.items) } })
-    (texts_of pin.tree.args)
+abbrev pub cap_of_pin : Option Unit → Tree → ℤ
+cap_of_pin u pin = cap_in u (text_of (codes "capacitance") pin.items)
 
-abbrev pub first_text : List Lexeme → List ℕ
-first_text [] = []
-first_text (x ∷ xs) = x.text
+abbrev pub cell_pin : Dir → ℤ → List ℕ → CellPin
+cell_pin dir cap name = record { name = name; dir = dir; cap = record { 0 = cap } }
 
-abbrev pub cell_of : Known → List Tree → Tree → Cell
-cell_of k templates cell =
+abbrev pub cell_pins : Option Unit → Pin → List CellPin
+cell_pins u pin = map (cell_pin pin.dir (cap_of_pin u pin.tree)) (names_in (texts_of pin.tree.args))
+
+abbrev pub first_name : List Lexeme → List (List ℕ)
+first_name [] = []
+first_name (x ∷ xs) = names_in (x.text ∷ [])
+
+abbrev pub cell_with : Known → List Tree → List Pin → List ℕ → Cell
+cell_with k templates pins name =
     record {
-      name = first_text cell.args;
-      pins = flat_map (cell_pins k.cap) (read_pins cell);
-      arcs = flat_map (arcs_of (delay_form k) templates) (timings cell);
-      tests = flat_map (tests_of (test_form k) templates) (timings cell);
+      name = name;
+      pins = flat_map (cell_pins k.cap) pins;
+      arcs = flat_map (pin_arcs k templates (pin_names pins)) pins;
+      tests = flat_map (pin_tests k templates (pin_names pins)) pins;
     }
+
+-- a cell that has a name
+abbrev pub cell_in : Known → List Tree → Tree → List Cell
+cell_in k templates cell = map (cell_with k templates (read_pins cell)) (first_name cell.args)
 
 -- the library that a text's statements write
 abbrev pub library_of : Bool → List Item → Library
 library_of whole items =
-    record { cells = map (cell_of (known whole items) (templates_of items)) (cells_of items) }
+    record { cells = flat_map (cell_in (known whole items) (templates_of items)) (cells_of items) }

@@ -1,14 +1,18 @@
 -- The faults of a Liberty text beyond its grammar. Only statements that have ended are looked at; what
 -- is missing, and a template that is not there, is a fault of a whole text alone.
-use Rattle.std.specs.Prelude.{◌≡◌, ℕ, ◌+◌, List, [], ◌∷◌, ◌++◌, Bool, true, false, ◌==◌, ◌&&◌, ◌||◌, not, nat_lt, codes, map, length, drop, take, ℤ, pos, Option, Some, None, option_and_then, is_some, if◌then◌else◌}
-use Rattle.std.specs.List.{list_any, flat_map}
+use Rattle.std.specs.Prelude.{ℕ, ◌+◌, List, [], ◌∷◌, ◌++◌, Bool, true, false, ◌==◌, ◌||◌, not, nat_lt, codes, map, length, take, slice_get, pos, Option, Some, None, is_some, Result, Ok, Err, if◌then◌else◌}
+use Rattle.std.specs.List.{flat_map}
 use Rattle.std.specs.Result.{is_ok}
 use Rattle.std.specs.Str.{bytes_eq}
 use Rattle.sta_units.specs.Decimal.{decimal_of}
+use Rattle.sta_units.specs.declared.units.Unit.{Unit}
 use Rattle.timing_defs.specs.Names.{is_name}
 use Rattle.timing_defs.specs.declared.codes.Code.{Code}
-use Rattle.timing_defs.specs.declared.codes.Code.TheVariants.{LibertyBadToken, LibertyBadUnit, LibertyUnknownTemplate, LibertyBadTable, LibertyDoubleName, LibertyIndexNotRising, LibertyOtherDelayModel, LibertyTooMany}
+use Rattle.timing_defs.specs.declared.codes.Code.TheVariants.{LibertyBadToken, LibertyBadUnit, LibertyUnknownTemplate, LibertyDoubleName, LibertyOtherDelayModel, LibertyTooMany}
 use Rattle.timing_defs.specs.declared.kinds.Dir.{Dir}
+use Rattle.timing_defs.specs.declared.library.Library.{Library}
+use Rattle.timing_defs.specs.declared.library.Units.{Units}
+use Rattle.timing_defs.specs.declared.library.Table.{Table}
 use Rattle.timing_defs.specs.declared.liberty_tree.Lexeme.{Lexeme}
 use Rattle.timing_defs.specs.declared.liberty_tree.Tree.{Tree}
 use Rattle.timing_defs.specs.declared.liberty_tree.Item.{Item}
@@ -17,12 +21,17 @@ use Rattle.sta_text.specs.Names.{stands}
 use Rattle.liberty_syntax.specs.declared.reading.Reading.{Reading}
 use Rattle.liberty_syntax.specs.declared.reading.Reading.TheVariants.{Whole, Broken}
 use Rattle.liberty_syntax.specs.Grammar.{reading_of}
-use Rattle.liberty_cells.specs.Statements.{groups, groups_of, lists, values, one_text}
-use Rattle.liberty_cells.specs.Units.{Known, known, time_ten, cap_ten, power_of, is_cap}
-use Rattle.liberty_cells.specs.Tables.{Form, delay_form, test_form, axes_of, fits, all_rise, has_values, values_of, template_of}
-use Rattle.timing_defs.specs.declared.library.Library.{Library}
-use Rattle.timing_defs.specs.declared.library.Units.{Units}
-use Rattle.liberty_cells.specs.Cells.{library_of, Pin, Timing, arc_between, arc_from, test_at, pins_of, cells_of, templates_of, read_pins, pin_names, timing_of, related}
+use Rattle.liberty_cells.specs.declared.library_units.Known.{Known}
+use Rattle.liberty_cells.specs.declared.axes.Form.{Form}
+use Rattle.liberty_cells.specs.declared.timing.Timing.{Timing}
+use Rattle.liberty_cells.specs.declared.timing.Timing.TheVariants.{Between, From, Test}
+use Rattle.liberty_cells.specs.declared.scope.Extent.{Extent}
+use Rattle.liberty_cells.specs.declared.attributes.Check.{Check}
+use Rattle.liberty_cells.specs.declared.attributes.Check.TheVariants.{TimeUnit, DelayModel, Sense, Direction, Capacitance, OneToken}
+use Rattle.liberty_cells.specs.Statements.{groups, lists, values, one_text}
+use Rattle.liberty_cells.specs.Units.{known, unit, time_named, cap_ten, power_of, is_cap}
+use Rattle.liberty_cells.specs.Tables.{read_table}
+use Rattle.liberty_cells.specs.Cells.{library_of, Pin, delay_form, test_form, pins_of, cells_of, templates_of, read_pins, pin_args, pin_names, timing_groups, timing_of, related}
 
 -- a fault at a token
 abbrev pub at : Code → Lexeme → List Wrong
@@ -34,29 +43,50 @@ at_first code [] = []
 at_first code (x ∷ xs) = at code x
 
 -- what is missing in a whole text is placed at its length
-abbrev pub missing : Code → ℕ → Bool → List Wrong
-missing code size whole = (if whole then record { code = code; at = size } ∷ [] else [])
+abbrev pub missing : Code → Extent → List Wrong
+missing code e = (if e.whole then record { code = code; at = e.size } ∷ [] else [])
 
 abbrev pub only_if : Bool → List Wrong → List Wrong
 only_if fails faults = (if fails then faults else [])
 
--- the text of a value of one token passes a test
-abbrev pub passes : (List ℕ → Bool) → List Lexeme → Bool
-passes test [] = false
-passes test (x ∷ []) = test x.text
-passes test (x ∷ y ∷ xs) = false
-
-abbrev pub any_text : List ℕ → Bool
-any_text text = true
-
--- each value of a simple attribute is one token that passes
-abbrev pub each_value : Code → (List ℕ → Bool) → List (List Lexeme) → List Wrong
-each_value code test found = flat_map (λ (v : List Lexeme). only_if (not (passes test v)) (at_first code v)) found
-
--- units and delay model
+-- what the text of a simple attribute's value has to be
 
 abbrev pub is_time_unit : List ℕ → Bool
-is_time_unit text = is_some (time_ten text)
+is_time_unit text = is_some (time_named text)
+
+abbrev pub is_table_lookup : List ℕ → Bool
+is_table_lookup text = bytes_eq text (codes "table_lookup")
+
+abbrev pub is_sense : List ℕ → Bool
+is_sense text =
+    bytes_eq text (codes "positive_unate") || bytes_eq text (codes "negative_unate") || bytes_eq text (codes "non_unate")
+
+abbrev pub is_direction : List ℕ → Bool
+is_direction text =
+    bytes_eq text (codes "input") || bytes_eq text (codes "output") || bytes_eq text (codes "inout")
+    || bytes_eq text (codes "internal")
+
+abbrev pub meets : Check → List ℕ → Bool
+meets TimeUnit text = is_time_unit text
+meets DelayModel text = is_table_lookup text
+meets Sense text = is_sense text
+meets Direction text = is_direction text
+meets (Capacitance u) text = is_cap u text
+meets OneToken text = true
+
+-- a value is one token whose text is as it has to be
+abbrev pub passes_text : Check → Option (List ℕ) → Bool
+passes_text check None = false
+passes_text check (Some text) = meets check text
+
+abbrev pub value_faults : Code → Check → List Lexeme → List Wrong
+value_faults code check value = only_if (not (passes_text check (one_text value))) (at_first code value)
+
+-- each value of a simple attribute
+abbrev pub each_value : Code → Check → List (List Lexeme) → List Wrong
+each_value code check found = flat_map (value_faults code check) found
+
+-- units and delay model
 
 -- ten to a power, from 0.001 to 1000
 abbrev pub factor_faults : Lexeme → List Wrong
@@ -64,24 +94,29 @@ factor_faults n =
     (if is_ok (decimal_of n.text (pos 0))
     then only_if (not (is_some (power_of n.text))) (at LibertyBadUnit n) else at LibertyBadToken n)
 
-abbrev pub cap_unit_faults : ℕ → Bool → List Lexeme → List Wrong
-cap_unit_faults size whole [] = missing LibertyBadUnit size whole
-cap_unit_faults size whole (n ∷ []) = factor_faults n ++ missing LibertyBadUnit size whole
-cap_unit_faults size whole (n ∷ unit ∷ xs) =
-    factor_faults n ++ only_if (not (is_some (cap_ten unit.text))) (at LibertyBadUnit unit) ++ at_first LibertyBadToken xs
+abbrev pub cap_word_faults : Lexeme → List Wrong
+cap_word_faults word = only_if (not (is_some (cap_ten word.text))) (at LibertyBadUnit word)
 
-abbrev pub cap_units_faults : ℕ → Bool → List (List Lexeme) → List Wrong
-cap_units_faults size whole [] = missing LibertyBadUnit size whole
-cap_units_faults size whole (x ∷ xs) = flat_map (cap_unit_faults size whole) (x ∷ xs)
+abbrev pub cap_unit_faults : Extent → List Lexeme → List Wrong
+cap_unit_faults e [] = missing LibertyBadUnit e
+cap_unit_faults e (n ∷ []) = factor_faults n ++ missing LibertyBadUnit e
+cap_unit_faults e (n ∷ word ∷ xs) = factor_faults n ++ (cap_word_faults word ++ at_first LibertyBadToken xs)
 
-abbrev pub is_table_lookup : List ℕ → Bool
-is_table_lookup text = bytes_eq text (codes "table_lookup")
+unfoldable pub cap_units_faults : Extent → List (List Lexeme) → List Wrong
+cap_units_faults e found =
+    only_if (length found == 0) (missing LibertyBadUnit e) ++ flat_map (cap_unit_faults e) found
 
-abbrev pub header_faults : ℕ → Bool → List Item → List Wrong
-header_faults size whole items =
-    each_value LibertyBadUnit is_time_unit (values (codes "time_unit") items)
-    ++ cap_units_faults size whole (lists (codes "capacitive_load_unit") items)
-    ++ each_value LibertyOtherDelayModel is_table_lookup (values (codes "delay_model") items)
+unfoldable pub time_faults : List Item → List Wrong
+time_faults items = each_value LibertyBadUnit TimeUnit (values (codes "time_unit") items)
+
+unfoldable pub load_faults : Extent → List Item → List Wrong
+load_faults e items = cap_units_faults e (lists (codes "capacitive_load_unit") items)
+
+unfoldable pub model_faults : List Item → List Wrong
+model_faults items = each_value LibertyOtherDelayModel DelayModel (values (codes "delay_model") items)
+
+unfoldable pub header_faults : Extent → List Item → List Wrong
+header_faults e items = time_faults items ++ (load_faults e items ++ model_faults items)
 
 -- names
 
@@ -91,20 +126,17 @@ doubles earlier [] = []
 doubles earlier (x ∷ xs) =
     (if stands earlier x.text then at LibertyDoubleName x ++ doubles earlier xs else doubles (earlier ++ x.text ∷ []) xs)
 
-abbrev pub first_of_list : List Lexeme → List Lexeme
-first_of_list args = take 1 args
-
-abbrev pub name_faults : List Lexeme → List Wrong
-name_faults args = flat_map (λ (x : Lexeme). only_if (not (is_name x.text)) (at LibertyBadToken x)) args
+abbrev pub name_faults : Lexeme → List Wrong
+name_faults x = only_if (not (is_name x.text)) (at LibertyBadToken x)
 
 -- the list of a group with one name
-abbrev pub one_name_faults : ℕ → Bool → List Lexeme → List Wrong
-one_name_faults size whole [] = missing LibertyBadToken size whole
-one_name_faults size whole (x ∷ xs) = name_faults (x ∷ []) ++ at_first LibertyBadToken xs
+abbrev pub one_name_faults : Extent → List Lexeme → List Wrong
+one_name_faults e [] = missing LibertyBadToken e
+one_name_faults e (x ∷ xs) = name_faults x ++ at_first LibertyBadToken xs
 
-abbrev pub names_faults : ℕ → Bool → List Lexeme → List Wrong
-names_faults size whole [] = missing LibertyBadToken size whole
-names_faults size whole (x ∷ xs) = name_faults (x ∷ xs)
+-- the list of a group with one name or more
+unfoldable pub names_faults : Extent → List Lexeme → List Wrong
+names_faults e args = only_if (length args == 0) (missing LibertyBadToken e) ++ flat_map name_faults args
 
 -- the group with which there are more than so many, of which each counts as many as its names
 unfoldable pub too_many : ℕ → ℕ → List Tree → List Wrong
@@ -114,110 +146,123 @@ too_many limit seen (g ∷ gs) =
 
 -- tables
 
-abbrev pub form_faults : Form → Tree → List Item → List Wrong
-form_faults form t template =
-    (if fits form t.items template (axes_of form template)
-    then only_if (not (all_rise form t.items template (axes_of form template))) (at LibertyIndexNotRising t.word)
-    else at LibertyBadTable t.word)
+abbrev pub read_faults : Tree → Result Table Code → List Wrong
+read_faults t (Ok table) = []
+read_faults t (Err code) = at code t.word
 
-abbrev pub template_faults : Bool → Form → Tree → Lexeme → Option (List Item) → List Wrong
-template_faults whole form t x None = only_if whole (at LibertyUnknownTemplate x)
-template_faults whole form t x (Some template) = form_faults form t template
+abbrev pub form_faults : Extent → Tree → Lexeme → Option (Result Table Code) → List Wrong
+form_faults e t x None = only_if e.whole (at LibertyUnknownTemplate x)
+form_faults e t x (Some read) = read_faults t read
 
-abbrev pub table_faults : ℕ → Bool → Form → List Tree → Tree → List Lexeme → List Wrong
-table_faults size whole form templates t [] = missing LibertyUnknownTemplate size whole
-table_faults size whole form templates t (x ∷ xs) =
-    at_first LibertyBadToken xs
-    ++ (if bytes_eq x.text (codes "scalar")
-    then only_if (not (has_values form.unit 1 (values_of t.items))) (at LibertyBadTable t.word)
-    else template_faults whole form t x (template_of x.text templates))
+abbrev pub table_with_faults : Extent → Form → List Tree → Tree → List Lexeme → List Wrong
+table_with_faults e form templates t [] = missing LibertyUnknownTemplate e
+table_with_faults e form templates t (x ∷ xs) =
+    at_first LibertyBadToken xs ++ form_faults e t x (read_table form templates x.text t.items)
 
--- the tables of these names in a group
-abbrev pub tables_faults : ℕ → Bool → Form → List Tree → List (List ℕ) → Tree → List Wrong
-tables_faults size whole form templates names group =
-    flat_map
-    (λ (t : Tree). only_if (stands names t.word.text) (table_faults size whole form templates t t.args))
-    (groups group.items)
+abbrev pub table_faults : Extent → Form → List Tree → Tree → List Wrong
+table_faults e form templates t = table_with_faults e form templates t t.args
 
-abbrev pub delay_names : List (List ℕ)
-delay_names = codes "cell_rise" ∷ codes "cell_fall" ∷ codes "rise_transition" ∷ codes "fall_transition" ∷ []
-
-abbrev pub need_names : List (List ℕ)
-need_names = codes "rise_constraint" ∷ codes "fall_constraint" ∷ []
+-- the tables of a name in a group
+abbrev pub tables_faults : Extent → Form → List Tree → List ℕ → Tree → List Wrong
+tables_faults e form templates name group = flat_map (table_faults e form templates) (groups name group.items)
 
 -- timing
 
-abbrev pub is_sense : List ℕ → Bool
-is_sense text =
-    bytes_eq text (codes "positive_unate") || bytes_eq text (codes "negative_unate") || bytes_eq text (codes "non_unate")
+unfoldable pub delay_faults : Extent → Form → List Tree → Tree → List Wrong
+delay_faults e form templates group =
+    tables_faults e form templates (codes "cell_rise") group ++ (tables_faults e form templates (codes "cell_fall") group
+    ++ (tables_faults e form templates (codes "rise_transition") group
+    ++ tables_faults e form templates (codes "fall_transition") group))
+
+unfoldable pub need_faults : Extent → Form → List Tree → Tree → List Wrong
+need_faults e form templates group =
+    tables_faults e form templates (codes "rise_constraint") group
+    ++ tables_faults e form templates (codes "fall_constraint") group
+
+unfoldable pub sense_faults : List Item → List Wrong
+sense_faults items = each_value LibertyBadToken Sense (values (codes "timing_sense") items)
+
+unfoldable pub related_faults : List Item → List Wrong
+related_faults items = each_value LibertyBadToken OneToken (values (codes "related_pin") items)
+
+unfoldable pub type_faults : List Item → List Wrong
+type_faults items = each_value LibertyBadToken OneToken (values (codes "timing_type") items)
 
 -- what is read of a group with a related pin of the cell
-abbrev pub read_faults : ℕ → Bool → Known → List Tree → Timing → Tree → List Wrong
-read_faults size whole k templates arc_between group =
-    each_value LibertyBadToken is_sense (values (codes "timing_sense") group.items)
-    ++ tables_faults size whole (delay_form k) templates delay_names group
-read_faults size whole k templates (arc_from edge) group =
-    tables_faults size whole (delay_form k) templates delay_names group
-read_faults size whole k templates (test_at kind edge) group =
-    tables_faults size whole (test_form k) templates need_names group
+unfoldable pub body_faults : Extent → Known → List Tree → Timing → Tree → List Wrong
+body_faults e k templates Between group = sense_faults group.items ++ delay_faults e (delay_form k) templates group
+body_faults e k templates (From edge) group = delay_faults e (delay_form k) templates group
+body_faults e k templates (Test kind edge) group = need_faults e (test_form k) templates group
 
-abbrev pub typed_faults : ℕ → Bool → Known → List Tree → List (List ℕ) → Tree → Option Timing → List Wrong
-typed_faults size whole k templates names group None = []
-typed_faults size whole k templates names group (Some timing) =
-    each_value LibertyBadToken any_text (values (codes "related_pin") group.items)
-    ++ only_if (not (length (related names group) == 0)) (read_faults size whole k templates timing group)
+unfoldable pub reached_faults : Extent → Known → List Tree → List (List ℕ) → Timing → Tree → List Wrong
+reached_faults e k templates names timing group =
+    only_if (not (length (related names group) == 0)) (body_faults e k templates timing group)
 
-abbrev pub timing_faults : ℕ → Bool → Known → List Tree → List (List ℕ) → Dir → Tree → List Wrong
-timing_faults size whole k templates names dir group =
-    each_value LibertyBadToken any_text (values (codes "timing_type") group.items)
-    ++ typed_faults size whole k templates names group (timing_of dir group)
+unfoldable pub typed_faults : Extent → Known → List Tree → List (List ℕ) → Tree → Option Timing → List Wrong
+typed_faults e k templates names group None = []
+typed_faults e k templates names group (Some timing) =
+    related_faults group.items ++ reached_faults e k templates names timing group
+
+unfoldable pub timing_faults : Extent → Known → List Tree → List (List ℕ) → Dir → Tree → List Wrong
+timing_faults e k templates names dir group =
+    type_faults group.items ++ typed_faults e k templates names group (timing_of dir group)
 
 -- pins and cells
 
-abbrev pub is_direction : List ℕ → Bool
-is_direction text =
-    bytes_eq text (codes "input") || bytes_eq text (codes "output") || bytes_eq text (codes "inout")
-    || bytes_eq text (codes "internal")
-
 abbrev pub direction_faults : Tree → List Wrong
-direction_faults pin = each_value LibertyBadToken is_direction (values (codes "direction") pin.items)
+direction_faults pin = each_value LibertyBadToken Direction (values (codes "direction") pin.items)
 
-abbrev pub pin_faults : ℕ → Bool → Known → List Tree → List (List ℕ) → Pin → List Wrong
-pin_faults size whole k templates names pin =
-    names_faults size whole pin.tree.args
-    ++ each_value LibertyBadToken (is_cap k.cap) (values (codes "capacitance") pin.tree.items)
-    ++ flat_map (timing_faults size whole k templates names pin.dir)
-    (groups_of (codes "timing") (groups pin.tree.items))
+unfoldable pub load_of_pin_faults : Option Unit → List Item → List Wrong
+load_of_pin_faults u items = each_value LibertyBadToken (Capacitance u) (values (codes "capacitance") items)
 
-abbrev pub pin_trees : List Pin → List Tree
-pin_trees pins = map (λ (p : Pin). p.tree) pins
+unfoldable pub pin_faults : Extent → Known → List Tree → List (List ℕ) → Pin → List Wrong
+pin_faults e k templates names pin =
+    names_faults e pin.tree.args
+    ++ (load_of_pin_faults k.cap pin.tree.items
+    ++ flat_map (timing_faults e k templates names pin.dir) (timing_groups pin.tree))
 
-abbrev pub all_args : List Tree → List Lexeme
-all_args trees = flat_map (λ (t : Tree). t.args) trees
+abbrev pub pin_tree : Pin → Tree
+pin_tree p = p.tree
 
-abbrev pub cell_faults : ℕ → Bool → Known → List Tree → Tree → List Wrong
-cell_faults size whole k templates cell =
-    one_name_faults size whole cell.args ++ flat_map direction_faults (pins_of cell)
-    ++ doubles [] (all_args (pin_trees (read_pins cell))) ++ too_many 10000 0 (pin_trees (read_pins cell))
-    ++ flat_map (pin_faults size whole k templates (pin_names (read_pins cell))) (read_pins cell)
+-- of a cell's pins that are read
+unfoldable pub pins_faults : Extent → Known → List Tree → List Pin → List Wrong
+pins_faults e k templates pins =
+    doubles [] (pin_args pins)
+    ++ (too_many 10000 0 (map pin_tree pins) ++ flat_map (pin_faults e k templates (pin_names pins)) pins)
+
+unfoldable pub cell_faults : Extent → Known → List Tree → Tree → List Wrong
+cell_faults e k templates cell =
+    one_name_faults e cell.args
+    ++ (flat_map direction_faults (pins_of cell) ++ pins_faults e k templates (read_pins cell))
 
 -- the first names of groups, of those that have one
+abbrev pub first_arg : Tree → List Lexeme
+first_arg t = take 1 t.args
+
 abbrev pub first_names : List Tree → List Lexeme
-first_names trees = flat_map (λ (t : Tree). first_of_list t.args) trees
+first_names trees = flat_map first_arg trees
+
+abbrev pub excess : Option Tree → List Wrong
+excess None = []
+excess (Some cell) = at LibertyTooMany cell.word
 
 -- the cell with which there are more than 10,000
 abbrev pub too_many_cells : List Tree → List Wrong
-too_many_cells cells = flat_map (λ (t : Tree). at LibertyTooMany t.word) (take 1 (drop 10000 cells))
+too_many_cells cells = excess (slice_get cells 10000)
 
-abbrev pub statement_faults : ℕ → Bool → List Item → List Wrong
-statement_faults size whole items =
-    header_faults size whole items ++ doubles [] (first_names (templates_of items))
-    ++ doubles [] (first_names (cells_of items)) ++ too_many_cells (cells_of items)
-    ++ flat_map (cell_faults size whole (known whole items) (templates_of items)) (cells_of items)
+-- of these templates and cells
+unfoldable pub group_faults : Extent → Known → List Tree → List Tree → List Wrong
+group_faults e k templates cells =
+    doubles [] (first_names templates)
+    ++ (doubles [] (first_names cells) ++ (too_many_cells cells ++ flat_map (cell_faults e k templates) cells))
+
+unfoldable pub statement_faults : Extent → List Item → List Wrong
+statement_faults e items =
+    header_faults e items ++ group_faults e (known e.whole items) (templates_of items) (cells_of items)
 
 abbrev pub faults_in : ℕ → Reading → List Wrong
-faults_in size (Whole tree) = statement_faults size true tree.items
-faults_in size (Broken items wrong) = wrong ∷ statement_faults size false items
+faults_in size (Whole tree) = statement_faults (record { size = size; whole = true }) tree.items
+faults_in size (Broken items wrong) = wrong ∷ statement_faults (record { size = size; whole = false }) items
 
 -- all faults of a text, and what is read of it where it has none
 abbrev pub faults_of : List ℕ → List Wrong
@@ -231,17 +276,16 @@ library_in (Broken items wrong) = library_of false items
 abbrev pub library_of_text : List ℕ → Library
 library_of_text bytes = library_in (reading_of bytes)
 
-abbrev pub ten_or_zero : Option ℤ → ℤ
-ten_or_zero None = pos 0
-ten_or_zero (Some ten) = ten
+abbrev pub unit_or_one : Option Unit → Unit
+unit_or_one None = unit (pos 0)
+unit_or_one (Some u) = u
+
+abbrev pub units_of : Known → Units
+units_of k = record { time = unit_or_one k.time; cap = unit_or_one k.cap }
 
 abbrev pub units_in : Reading → Units
-units_in (Whole tree) =
-    record {
-      time = record { ten = ten_or_zero (known true tree.items).time };
-      cap = record { ten = ten_or_zero (known true tree.items).cap };
-    }
-units_in (Broken items wrong) = record { time = record { ten = pos 0 }; cap = record { ten = pos 0 } }
+units_in (Whole tree) = units_of (known true tree.items)
+units_in (Broken items wrong) = units_of (known false items)
 
 -- the units of a text without a fault
 abbrev pub units_of_text : List ℕ → Units

@@ -1,0 +1,7 @@
+mod NamesLemmas
+mod PinsLemmas
+mod PlacesLemmas
+mod PowersLemmas
+mod ReaderLemmas
+mod TablesLemmas
+mod WordsLemmas
