@@ -1,4 +1,5 @@
-pub mod Counting
-pub mod Places
-pub mod Sweeps
-pub mod Walks
+mod Counting
+mod Places
+mod Reach
+mod Sweeps
+mod Walks

@@ -1,4 +1,5 @@
 pub mod FanOut
 pub mod Levels
+pub mod Reaching
 pub mod Sweep
 pub mod Tails
