@@ -1,0 +1,11 @@
+mod ArcLaws
+mod DriverLaws
+mod JoinLaws
+mod LoopLaws
+mod Members
+mod NetworkLaws
+mod PinLaws
+mod PinNames
+mod StartLaws
+mod TreeLaws
+mod WalkLaws
