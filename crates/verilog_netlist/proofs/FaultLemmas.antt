@@ -8,7 +8,7 @@ use Rattle.sta_text.proofs.FaultsLemmas.{least_append, least_none}
 use Rattle.sta_text.specs.Tokens.{Tok}
 use Rattle.verilog_netlist.specs.declared.events.Event.{Event}
 use Rattle.verilog_netlist.specs.declared.events.Event.TheVariants.{Module, Header, Declared, CellWord, Instance, Pin, Connection, Fault}
-use Rattle.verilog_netlist.specs.Grammar.{events, start, module_name as name_place, events_of, is_text}
+use Rattle.verilog_netlist.specs.Grammar.{events, start, events_of}
 use Rattle.verilog_netlist.specs.Modules.{module_name}
 use Rattle.verilog_netlist.specs.Events.{is_instance}
 use Rattle.verilog_netlist.specs.Faults.{is_empty, wrongs, strays, header_doubles, declaration_faults, nothing, instance_doubles, instance_excess, pin_doubles, whole_vectors, all_vectors, all_directed, all_declared, undirected, undeclared_bits, net_excess, stops, early_faults, net_faults, whole_faults, faults_of}
@@ -47,23 +47,13 @@ chosen : (s a b : List Wrong) → s ≡ [] → (if is_empty s then a else b) ≡
 chosen [] a b e h = h
 chosen (x ∷ s) a b e h = cc
 
--- what needs all declared nets, where their declarations have no fault
-pub least_declared : (best : Option Wrong) (es : List Event) → declaration_faults nothing es ≡ []
+-- what needs the whole text
+pub least_whole : (best : Option Wrong) (es : List Event)
     → least_from best (whole_faults es)
     ≡ least_from (least_from (least_from best (whole_vectors (all_vectors [] es) es)) (undirected (all_directed [] es) es)) (net_faults es)
-least_declared best es h =
-    least_append best (whole_vectors (all_vectors [] es) es ++ undirected (all_directed [] es) es) (if is_empty (declaration_faults nothing es) then net_faults es else [])
-    ∙ (ap (λ b. least_from b (if is_empty (declaration_faults nothing es) then net_faults es else [])) (least_append best (whole_vectors (all_vectors [] es) es) (undirected (all_directed [] es) es))
-    ∙ ap (λ d. least_from (least_from (least_from best (whole_vectors (all_vectors [] es) es)) (undirected (all_directed [] es) es)) (if is_empty d then net_faults es else [])) h)
-
-pub least_undeclared : (best : Option Wrong) (es : List Event) (w : Wrong) → declaration_faults nothing es ≡ w ∷ []
-    → least_from best (whole_faults es)
-    ≡ least_from (least_from best (whole_vectors (all_vectors [] es) es)) (undirected (all_directed [] es) es)
-unfolding least_from
-least_undeclared best es w h =
-    least_append best (whole_vectors (all_vectors [] es) es ++ undirected (all_directed [] es) es) (if is_empty (declaration_faults nothing es) then net_faults es else [])
-    ∙ (ap (λ b. least_from b (if is_empty (declaration_faults nothing es) then net_faults es else [])) (least_append best (whole_vectors (all_vectors [] es) es) (undirected (all_directed [] es) es))
-    ∙ ap (λ d. least_from (least_from (least_from best (whole_vectors (all_vectors [] es) es)) (undirected (all_directed [] es) es)) (if is_empty d then net_faults es else [])) h)
+least_whole best es =
+    least_append best (whole_vectors (all_vectors [] es) es ++ undirected (all_directed [] es) es) (net_faults es)
+    ∙ ap (λ b. least_from b (net_faults es)) (least_append best (whole_vectors (all_vectors [] es) es) (undirected (all_directed [] es) es))
 
 -- without a fault of the text there is none of each kind
 no_stop : (es : List Event) → faults_of es ≡ [] → stops es ≡ []
@@ -75,22 +65,11 @@ pub stop_none : (es : List Event) → faults_of es ≡ [] → least_from None (s
 unfolding least_from
 stop_none es h = ap (least_from None) (no_stop es h)
 
-pub no_declaration : (es : List Event) → faults_of es ≡ [] → declaration_faults nothing es ≡ []
-no_declaration es h =
-    let early : early_faults es ≡ [] =
-    back (stops es) (early_faults es)
-    (front (stops es ++ early_faults es) (if is_empty (stops es) then whole_faults es else whole_vectors [] es) h) in
-    back (header_doubles [] es) (declaration_faults nothing es)
-    (front (header_doubles [] es ++ declaration_faults nothing es) (instance_doubles [] es)
-    (front (header_doubles [] es ++ declaration_faults nothing es ++ instance_doubles [] es) (instance_excess 0 es)
-    (front (header_doubles [] es ++ declaration_faults nothing es ++ instance_doubles [] es ++ instance_excess 0 es) (pin_doubles [] es) early)))
-
 pub no_net_fault : (es : List Event) → faults_of es ≡ [] → net_faults es ≡ []
 no_net_fault es h =
-    chosen (declaration_faults nothing es) (net_faults es) [] (no_declaration es h)
-    (back (whole_vectors (all_vectors [] es) es ++ undirected (all_directed [] es) es) (if is_empty (declaration_faults nothing es) then net_faults es else [])
+    back (whole_vectors (all_vectors [] es) es ++ undirected (all_directed [] es) es) (net_faults es)
     (chosen (stops es) (whole_faults es) (whole_vectors [] es) (no_stop es h)
-    (back (stops es ++ early_faults es) (if is_empty (stops es) then whole_faults es else whole_vectors [] es) h)))
+    (back (stops es ++ early_faults es) (if is_empty (stops es) then whole_faults es else whole_vectors [] es) h))
 
 pub no_excess : (es : List Event) → net_faults es ≡ [] → net_excess (all_declared [] es) (all_vectors [] es) [] es ≡ []
 no_excess es h = back (undeclared_bits (all_declared [] es) es) (net_excess (all_declared [] es) (all_vectors [] es) [] es) h

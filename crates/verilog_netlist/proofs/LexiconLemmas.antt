@@ -1,7 +1,5 @@
 -- Numbers of at most nine digits.
-use Rattle.std.proofs.Common.{◌≡◌, ℕ, ◌^◌, ◌<◌, List, Bool, true, false, ◌&&◌, length, refl, arith}
-use Rattle.std.specs.List.{list_all}
-use Rattle.std.specs.Char.{is_ascii_digit}
+use Rattle.std.proofs.Common.{◌≡◌, ℕ, ◌^◌, ◌<◌, List, true, arith}
 use Rattle.sta_units.specs.Decimal.{number_on}
 use Rattle.sta_units.proofs.Digits.{number_short}
 use Rattle.verilog_netlist.specs.Lexicon.{is_number}

@@ -2,3 +2,6 @@ pub mod LexiconLemmas
 pub mod NamesLemmas
 pub mod BitLemmas
 pub mod FaultLemmas
+mod BracketLemmas
+mod CoverLemmas
+pub mod LateLemmas

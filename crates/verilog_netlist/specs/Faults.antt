@@ -1,7 +1,7 @@
 -- The faults of a netlist, each with its place. Of two things that clash the second is at fault. The
 -- names and bits of a module are those of all its declarations (IEEE 1364, "Nets and variables");
 -- what the limits are is own.
-use Rattle.std.specs.Prelude.{◌≡◌, ℕ, ◌+◌, List, [], ◌∷◌, ◌++◌, Bool, true, false, ◌&&◌, ◌||◌, not, nat_lt, length, if◌then◌else◌, Option, Some, None, Result, MatchResult}
+use Rattle.std.specs.Prelude.{ℕ, ◌+◌, List, [], ◌∷◌, ◌++◌, Bool, true, false, ◌&&◌, ◌||◌, not, nat_lt, length, if◌then◌else◌, Option, Some, None}
 use Rattle.std.specs.List.{list_any}
 use Rattle.timing_defs.specs.declared.codes.Code.{Code}
 use Rattle.timing_defs.specs.declared.codes.Code.TheVariants.{VerilogBadToken, VerilogLeftOut, VerilogUndeclared, VerilogDoubleName, VerilogTooMany}
@@ -85,9 +85,9 @@ abbrev pub is_wide : Option Span → Bool
 is_wide None = false
 is_wide (Some span) = nat_lt limit (width span)
 
--- with these names, or with a range alone, the nets pass the limit
-abbrev pub too_many : Option Span → List (List ℕ) → List (List ℕ) → Bool
-too_many span nets names = is_wide span || nat_lt limit (length (with_names nets names))
+-- the nets, or a range alone, pass the limit
+abbrev pub passes : Option Span → List (List ℕ) → Bool
+passes span nets = is_wide span || nat_lt limit (length nets)
 
 -- a fault that ends its check, or what follows where there is none
 abbrev pub told : Option Wrong → List Wrong → List Wrong
@@ -98,7 +98,7 @@ told (Some w) rest = w ∷ []
 abbrev pub declaration_fault : Known → Kind → List ℕ → ℕ → Option Wrong
 declaration_fault known kind name at =
     (if clashes (alike kind.role known) (nets_of kind.span name) then Some (wrong VerilogDoubleName at) else
-    (if too_many kind.span known.nets (nets_of kind.span name) then Some (wrong VerilogTooMany at) else None))
+    (if passes kind.span (with_names known.nets (nets_of kind.span name)) then Some (wrong VerilogTooMany at) else None))
 
 -- the first such name
 unfoldable pub declaration_faults : Known → List Event → List Wrong
@@ -162,11 +162,6 @@ all_declared nets [] = nets
 all_declared nets (Declared kind name at ∷ es) = all_declared (with_names nets (nets_of kind.span name)) es
 all_declared nets (e ∷ es) = all_declared nets es
 
--- the declared nets were found, or the fault of their declarations
-abbrev pub Declares : Result (List (List ℕ)) Wrong → List Event → Type 0
-Declares found es =
-    MatchResult found (λ nets. (declaration_faults nothing es ≡ []) × (nets ≡ all_declared [] es)) (λ w. declaration_faults nothing es ≡ w ∷ [])
-
 -- a port of the header to which no declaration gives a direction
 unfoldable pub undirected : List (List ℕ) → List Event → List Wrong
 undirected directed [] = []
@@ -198,16 +193,16 @@ all_nets declared vectors nets (Connection pin (Alone name at) ∷ es) =
 all_nets declared vectors nets (e ∷ es) = all_nets declared vectors nets es
 
 -- the nets pass the limit
-abbrev pub excess : List (List ℕ) → ℕ → Option Wrong
-excess nets at = (if nat_lt limit (length nets) then Some (wrong VerilogTooMany at) else None)
+abbrev pub excess : Option Span → List (List ℕ) → ℕ → Option Wrong
+excess span nets at = (if passes span nets then Some (wrong VerilogTooMany at) else None)
 
 -- the first name with which all nets do
 unfoldable pub net_excess : List (List ℕ) → List (List ℕ) → List (List ℕ) → List Event → List Wrong
 net_excess declared vectors nets [] = []
 net_excess declared vectors nets (Declared kind name at ∷ es) =
-    told (excess (with_names nets (nets_of kind.span name)) at) (net_excess declared vectors (with_names nets (nets_of kind.span name)) es)
+    told (excess kind.span (with_names nets (nets_of kind.span name)) at) (net_excess declared vectors (with_names nets (nets_of kind.span name)) es)
 net_excess declared vectors nets (Connection pin (Alone name at) ∷ es) =
-    told (excess (with_implicit declared vectors nets name) at) (net_excess declared vectors (with_implicit declared vectors nets name) es)
+    told (excess None (with_implicit declared vectors nets name) at) (net_excess declared vectors (with_implicit declared vectors nets name) es)
 net_excess declared vectors nets (e ∷ es) = net_excess declared vectors nets es
 
 -- faults that stand between tokens that were read, however the text goes on
@@ -215,7 +210,7 @@ abbrev pub early_faults : List Event → List Wrong
 early_faults es =
     header_doubles [] es ++ declaration_faults nothing es ++ instance_doubles [] es ++ instance_excess 0 es ++ pin_doubles [] es
 
--- faults that need all declarations, where these have no fault
+-- faults that need all declarations
 abbrev pub net_faults : List Event → List Wrong
 net_faults es =
     undeclared_bits (all_declared [] es) es ++ net_excess (all_declared [] es) (all_vectors [] es) [] es
@@ -223,8 +218,7 @@ net_faults es =
 -- faults that need the whole text
 abbrev pub whole_faults : List Event → List Wrong
 whole_faults es =
-    whole_vectors (all_vectors [] es) es ++ undirected (all_directed [] es) es
-    ++ (if is_empty (declaration_faults nothing es) then net_faults es else [])
+    whole_vectors (all_vectors [] es) es ++ undirected (all_directed [] es) es ++ net_faults es
 
 -- a token that does not fit ends the reading
 abbrev pub stops : List Event → List Wrong

@@ -1,6 +1,6 @@
 -- The grammar of a structural netlist (IEEE 1364, "Module definition", "Module instantiation"): what
 -- a text writes, as a list of events in the order of the text.
-use Rattle.std.specs.Prelude.{ℕ, List, [], ◌∷◌, ◌++◌, Bool, false, true, ◌==◌, ◌&&◌, codes, length, if◌then◌else◌, Option, Some, None}
+use Rattle.std.specs.Prelude.{ℕ, List, [], ◌∷◌, Bool, false, true, ◌&&◌, codes, length, if◌then◌else◌, Option, Some, None}
 use Rattle.std.specs.Str.{bytes_eq}
 use Rattle.sta_units.specs.Decimal.{number_on}
 use Rattle.timing_defs.specs.declared.codes.Code.{Code}
@@ -9,9 +9,7 @@ use Rattle.timing_defs.specs.declared.texts.Style.TheVariants.{Verilog}
 use Rattle.sta_text.specs.Tokens.{Tok, is_unclosed, tokens_of}
 use Rattle.verilog_netlist.specs.declared.events.Role.{Role}
 use Rattle.verilog_netlist.specs.declared.events.Role.TheVariants.{HeaderInput, HeaderOutput, Input, Output, Wire}
-use Rattle.verilog_netlist.specs.declared.events.Span.{Span}
 use Rattle.verilog_netlist.specs.declared.events.Kind.{Kind}
-use Rattle.verilog_netlist.specs.declared.events.Net.{Net}
 use Rattle.verilog_netlist.specs.declared.events.Net.TheVariants.{Tied, Alone, Bit}
 use Rattle.verilog_netlist.specs.declared.events.Event.{Event}
 use Rattle.verilog_netlist.specs.declared.events.Event.TheVariants.{Module, Header, Declared, CellWord, Instance, Pin, Connection, Fault}

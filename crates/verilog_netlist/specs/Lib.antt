@@ -5,4 +5,6 @@ pub mod Events
 pub mod Grammar
 pub mod Reads
 pub mod Faults
+pub mod Late
+pub mod Covers
 pub mod Modules

@@ -4,11 +4,13 @@
 
 mod body;
 mod checks;
+mod covers;
 mod cursor;
 mod declarations;
 mod events;
 mod header;
 mod known;
+mod late;
 mod lexicon;
 mod modules;
 mod names;

@@ -2,6 +2,7 @@
 
 ghost use Rattle.std.specs.Prelude.{◌≡◌, ◌<◌, ◌^◌, ◌++◌, ◌∷◌, [], true, string_bytes, ℕ, Some, IfOk};
 ghost use Rattle.std.specs.Fmt.{decimal};
+ghost use Rattle.std.specs.Str.{bytes_eq};
 ghost use Rattle.timing_defs.specs.Names.{is_name};
 ghost use Rattle.verilog_netlist.specs.Lexicon.{spelled, is_identifier};
 ghost use Rattle.verilog_netlist.specs.Nets.{bit_name, width, number_at, has_number, bits, nets_of};
@@ -87,7 +88,7 @@ impl Span {
 
 /// The number that a bit's name gives; any or none for another name.
 #[tactic(auto, using(sta_units::proofs::Digits::number_short, crate::proofs::BitLemmas::inside_bit, crate::proofs::BitLemmas::bit_name_long, crate::proofs::BitLemmas::decimal_digits, crate::proofs::BitLemmas::decimal_short, crate::proofs::BitLemmas::decimal_number))]
-fn bit_number(name: &[u8], net: &[u8]) -> Option<u64>
+pub(crate) fn bit_number(name: &[u8], net: &[u8]) -> Option<u64>
     ensures { (k : ℕ) → k < 2 ^ 32 → net.now ≡ bit_name name.now k → result ≡ Some k }
 {
     if net.len() < name.len() + 2 {
@@ -99,6 +100,13 @@ fn bit_number(name: &[u8], net: &[u8]) -> Option<u64>
         return None;
     }
     Some(digits_value(digits))
+}
+
+/// Whether the text is that of a bit's brackets with this number.
+pub(crate) fn is_place_text(alloc: Global, text: &[u8], k: u32) -> Result<bool, Memory>
+    ensures { IfOk result (λ is. is ≡ bytes_eq text.now (91 ∷ (decimal k ++ (93 ∷ [])))) }
+{
+    Ok(text == place_text(alloc, k)?.as_bytes())
 }
 
 /// The number that a net's name gives where it is that of a bit; any or none for another name.

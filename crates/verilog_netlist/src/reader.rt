@@ -1,9 +1,10 @@
 //! The reader: the module of a text, or its least fault.
 
-ghost use Rattle.std.specs.Prelude.{◌≡◌, ◌++◌, ◌∷◌, [], true, is_some, Some, None, IfOk, MatchResult};
+ghost use Rattle.std.specs.Prelude.{◌≡◌, ◌++◌, [], true, is_some, Some, None, IfOk, MatchResult};
+ghost use Rattle.std.specs.Option.{option_to_list};
 ghost use Rattle.sta_text.specs.Faults.{least_from, Fails};
 ghost use Rattle.verilog_netlist.specs.Grammar.{events_of};
-ghost use Rattle.verilog_netlist.specs.Faults.{stops, early_faults, declaration_faults, nothing, undeclared_bits, net_excess, net_faults, whole_vectors, whole_faults, faults_of, all_nets, all_vectors, Declares};
+ghost use Rattle.verilog_netlist.specs.Faults.{stops, early_faults, declaration_faults, nothing, undeclared_bits, net_excess, net_faults, whole_vectors, whole_faults, faults_of, all_declared, all_nets, all_vectors};
 ghost use Rattle.verilog_netlist.specs.Modules.{module_of, module_nets};
 
 use crate::body::events_of;
@@ -11,8 +12,9 @@ use crate::checks::{
     all_vectors, header_doubles, instance_doubles, instance_excess, pin_doubles, strays,
     undirected, whole_vectors, wrongs,
 };
-use crate::declarations::{all_nets, declared_nets, undeclared_bits};
+use crate::declarations::{Declarations, all_nets, declared_nets, undeclared_bits};
 use crate::events::Event;
+use crate::known::Declared;
 use crate::modules::module_of;
 use crate::nets::NetSet;
 use sta_text::{Names, Wrong, lesser};
@@ -35,19 +37,14 @@ fn stops(alloc: Global, events: &[Event]) -> Result<Option<Wrong>, Memory>
     strays(alloc, events, wrongs(events, None))
 }
 
-/// Notes the fault of the declarations, which are these.
+/// Notes the fault of the declarations.
 #[tactic(auto, unfolding(sta_text::specs::Faults::least_from))]
-fn note_declared(
-    events: &[Event],
-    declared: &Result<NetSet, Wrong>,
-    best: Option<Wrong>,
-) -> Option<Wrong>
-    requires { Declares declared.now events.now }
-    ensures { result ≡ least_from best (declaration_faults nothing events.now) }
+fn note_declared(found: Option<Wrong>, best: Option<Wrong>) -> Option<Wrong>
+    ensures { result ≡ least_from best (option_to_list found) }
 {
-    match declared {
-        Ok(_) => best,
-        Err(wrong) => lesser(best, *wrong),
+    match found {
+        None => best,
+        Some(wrong) => lesser(best, wrong),
     }
 }
 
@@ -56,14 +53,14 @@ fn note_declared(
 fn early(
     alloc: Global,
     events: &[Event],
-    declared: &Result<NetSet, Wrong>,
+    declared: Option<Wrong>,
     best: Option<Wrong>,
 ) -> Result<Option<Wrong>, Memory>
-    requires { Declares declared.now events.now }
+    requires { declaration_faults nothing events.now ≡ option_to_list declared }
     ensures { IfOk result (λ least. least ≡ least_from best (early_faults events.now)) }
 {
     let headers = header_doubles(alloc, events, best)?;
-    let declarations = note_declared(events, declared, headers);
+    let declarations = note_declared(declared, headers);
     let instances = instance_doubles(alloc, events, declarations)?;
     pin_doubles(alloc, events, instance_excess(events, instances))
 }
@@ -73,13 +70,13 @@ fn early(
 fn check_nets(
     alloc: Global,
     events: &[Event],
-    declared: &NetSet,
+    declared: &Declared<'_>,
     best: Option<Wrong>,
 ) -> Result<Checked, Memory>
     ensures fault { IfOk result (λ checked. checked.fault ≡ least_from best (undeclared_bits declared.now events.now ++ net_excess declared.now (all_vectors [] events.now) [] events.now)) }
     ensures nets { IfOk result (λ checked. net_excess declared.now (all_vectors [] events.now) [] events.now ≡ [] → checked.nets ≡ all_nets declared.now (all_vectors [] events.now) [] events.now) }
 {
-    let bits = undeclared_bits(declared, events, best);
+    let bits = undeclared_bits(alloc, declared, events, best)?;
     let vectors = all_vectors(alloc, events)?;
     match all_nets(alloc, declared, &vectors, events)? {
         Ok(nets) => Ok(Checked { fault: bits, nets }),
@@ -91,26 +88,20 @@ fn check_nets(
 }
 
 /// Checks what needs the whole text.
-#[tactic(auto, using(crate::proofs::FaultLemmas::least_declared, crate::proofs::FaultLemmas::least_undeclared, crate::proofs::FaultLemmas::no_excess))]
+#[tactic(auto, using(crate::proofs::FaultLemmas::least_whole, crate::proofs::FaultLemmas::no_excess))]
 fn check_whole(
     alloc: Global,
     events: &[Event],
-    declared: Result<NetSet, Wrong>,
+    declared: &Declared<'_>,
     best: Option<Wrong>,
 ) -> Result<Checked, Memory>
-    requires { Declares declared events.now }
+    requires { declared.now ≡ all_declared [] events.now }
     ensures fault { IfOk result (λ checked. checked.fault ≡ least_from best (whole_faults events.now)) }
-    ensures nets { IfOk result (λ checked. declaration_faults nothing events.now ≡ [] → net_faults events.now ≡ [] → checked.nets ≡ module_nets events.now) }
+    ensures nets { IfOk result (λ checked. net_faults events.now ≡ [] → checked.nets ≡ module_nets events.now) }
 {
     let vectors = whole_vectors(all_vectors(alloc, events)?, events, best)?;
     let ports = undirected(alloc, events, vectors)?;
-    match declared {
-        Ok(nets) => check_nets(alloc, events, &nets, ports),
-        Err(_) => Ok(Checked {
-            fault: ports,
-            nets: NetSet::new(alloc),
-        }),
-    }
+    check_nets(alloc, events, declared, ports)
 }
 
 /// Checks a text of which the grammar does not accept all.
@@ -123,19 +114,36 @@ fn check_broken(alloc: Global, events: &[Event], best: Option<Wrong>) -> Result<
     })
 }
 
+/// Checks what is left, where these are the least fault that ends the reading, and with those between tokens.
+#[tactic(auto, using(crate::proofs::FaultLemmas::least_accepted, crate::proofs::FaultLemmas::least_broken, crate::proofs::FaultLemmas::stop_none, crate::proofs::FaultLemmas::no_net_fault))]
+fn check_rest(
+    alloc: Global,
+    events: &[Event],
+    declared: &Declared<'_>,
+    stop: Option<Wrong>,
+    best: Option<Wrong>,
+) -> Result<Checked, Memory>
+    requires declared { declared.now ≡ all_declared [] events.now }
+    requires stop { stop ≡ least_from None (stops events.now) }
+    requires best { best ≡ least_from stop (early_faults events.now) }
+    ensures fault { IfOk result (λ checked. checked.fault ≡ least_from None (faults_of events.now)) }
+    ensures nets { IfOk result (λ checked. faults_of events.now ≡ [] → checked.nets ≡ module_nets events.now) }
+{
+    match stop {
+        Some(_) => check_broken(alloc, events, best),
+        None => check_whole(alloc, events, declared, best),
+    }
+}
+
 /// Checks a text.
-#[tactic(auto, using(crate::proofs::FaultLemmas::least_accepted, crate::proofs::FaultLemmas::least_broken, crate::proofs::FaultLemmas::stop_none, crate::proofs::FaultLemmas::no_declaration, crate::proofs::FaultLemmas::no_net_fault))]
 fn check(alloc: Global, events: &[Event]) -> Result<Checked, Memory>
     ensures fault { IfOk result (λ checked. checked.fault ≡ least_from None (faults_of events.now)) }
     ensures nets { IfOk result (λ checked. faults_of events.now ≡ [] → checked.nets ≡ module_nets events.now) }
 {
     let stop = stops(alloc, events)?;
-    let declared = declared_nets(alloc, events)?;
-    let best = early(alloc, events, &declared, stop)?;
-    match stop {
-        Some(_) => check_broken(alloc, events, best),
-        None => check_whole(alloc, events, declared, best),
-    }
+    let Declarations { fault, nets } = declared_nets(alloc, events)?;
+    let best = early(alloc, events, fault, stop)?;
+    check_rest(alloc, events, &nets, stop, best)
 }
 
 /// The module that a structural netlist writes (a subset of IEEE 1364).

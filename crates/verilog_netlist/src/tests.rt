@@ -58,6 +58,13 @@ V6 43 module m (); wire \\a[03] ; wire [200000:0] a; endmodule
 V6 37 module m (); wire [199999:0] a; wire b; endmodule
 V6 52 module m (); wire [199999:0] a; INV u (.A(a[0]), .Z(b)); endmodule
 V1 57 module m (); wire [199999:0] a; INV u (.A(a[0]), .Z(b)); 
+V3 33 module m (a); input a; INV u (.A(b[0])); wire c; wire c; endmodule
+V4 44 module m (); INV u (.A(b[7])); wire c; wire c; wire [999999999:0] b; endmodule
+V3 23 module m (); INV u (.A(b[7])); wire c; wire c; wire [999999999:8] b; endmodule
+V4 44 module m (); INV u (.A(b[3])); wire c; wire c; wire \\b[3] ; endmodule
+V4 44 module m (); INV u (.A(b[3])); wire c; wire c; wire [9:5] b; wire [4:2] b; endmodule
+V3 23 module m (); INV u (.A(b[03])); wire c; wire c; wire \\b[03] ; endmodule
+V3 23 module m (); INV u (.A(b[0])); wire [199999:0] a; wire [1:1] b; endmodule
 V4 32 module m (); INV u (.A(a)); INV u (.A(a)); endmodule
 V4 28 module m (); INV u (.A(a), .A(b)); endmodule
 V4 28 module m (); INV u (.A(a), .A";
