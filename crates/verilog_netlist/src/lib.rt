@@ -16,7 +16,5 @@ mod modules;
 mod names;
 mod nets;
 mod reader;
-#[cfg(test)]
-mod tests;
 
 pub use reader::read_module;

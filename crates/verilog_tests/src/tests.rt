@@ -1,9 +1,9 @@
 //! Texts of netlists, and texts with faults.
 
-use crate::read_module;
 use std::alloc::{AllocError, Global};
 use std::test::Fail;
 use timing_defs::{Conn, Dir, Inst, Module, Name, Port, ReadFault};
+use verilog_netlist::read_module;
 
 /// The code, the place and the text of each row.
 const FAULTY: &str = "V2 23 module m (a); input a; assign a = 1'b0; endmodule
