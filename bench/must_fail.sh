@@ -1,0 +1,14 @@
+#!/usr/bin/env bash
+# Tries the edits of one crate that stand outside the gate, to keep its time: bench/must_fail.sh CRATE.
+# Each edit makes a body wrong, and the check must refuse it. The crate's folder is left as it was.
+set -eu
+cd "$(dirname "$0")/.."
+crate=${1:?name a crate that has a folder in bench/must-fail}
+edits=bench/must-fail/$crate
+work=$(mktemp -d)
+trap 'rm -rf "$work"' EXIT
+git ls-files -z | xargs -0 cp --parents -t "$work"
+mkdir -p "$work/crates/$crate/must-fail"
+cp "$edits"/*.edit "$work/crates/$crate/must-fail/"
+cd "$work/crates/$crate"
+rt must-fail "$crate"
