@@ -38,7 +38,7 @@ const HEADER: &str = "*SPEF \"IEEE 1481-1998\"
 ";
 
 fn push_net(text: &mut String, alloc: Global, net: u32) -> Result<(), AllocError> {
-    let next = (net + 1) % NETS;
+    let next = net.wrapping_add(1) % NETS;
     let head = format!(in alloc; "*D_NET *{net} 9.25\n*CONN\n*I gate_{net}:Z O *C 10.5 20.25 *D BUF_X1\n")?;
     text.push_str(head.as_str())?;
     let pin = format!(in alloc; "*I gate_{next}:A I *C 12.5 20.25 *L 2.5\n*CAP\n1 *{net}:1 4.25\n2 *{net}:2 1.5\n")?;
