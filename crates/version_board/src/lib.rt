@@ -14,8 +14,6 @@ mod boards;
 mod plays;
 mod seats;
 mod sharing;
-#[cfg(test)]
-mod tests;
 mod turns;
 mod views;
 

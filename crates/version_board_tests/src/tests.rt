@@ -3,12 +3,12 @@ ghost use Rattle.std.specs.Prelude.{◌≡◌, ◌+◌, ◌^◌, ◌<◌, ◌≤
 ghost use Rattle.std.specs.Arc.{arc_value};
 ghost use Rattle.version_board.specs.Callers.{meaning, IsSeatOf, IsSame, IsNew};
 
-use crate::{Begun, Board, Seat, Stands, Unpublished};
 use sta_units::Memory;
 use std::alloc::{AllocError, Global};
 use std::sync::{Arc, Wait};
 use std::test::Fail;
 use std::thread::{Threads, join};
+use version_board::{Begun, Board, Seat, Stands, Unpublished};
 
 #[derive(Debug, Clone, Copy, PartialEq, Eq, Drop)]
 struct Note {
