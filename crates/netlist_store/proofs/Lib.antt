@@ -1,11 +1,14 @@
 mod CellLaws
 mod ConnLaws
 mod EditLaws
+mod FaultLaws
 mod FitLaws
 mod InOrder
+mod InUse
 mod LinkLaws
 mod LinkedEdits
 mod ListLaws
+mod NamedLaws
 mod NetPinLaws
 mod NewStores
 mod NewTables
@@ -15,6 +18,7 @@ mod OrderLaws
 mod PinLaws
 mod PinLists
 mod PinNames
+mod PinsByWord
 mod PlaceLaws
 mod RcLaws
 mod ShardLaws

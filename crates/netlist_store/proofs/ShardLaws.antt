@@ -1,14 +1,15 @@
 -- What a write of one shard does to the numbers of names.
 
-use Rattle.std.proofs.Common.{◌≡◌, ◌≢◌, ◌⊎◌, ℕ, zero, suc, ◌<◌, true, false, cond, List, [], length, set, get_or, replicate, Option, None, Some, refl, sym, ap, ◌∙◌, inl, inr, arith}
+use Rattle.std.proofs.Common.{◌≡◌, ◌≢◌, ◌⊎◌, ℕ, zero, suc, ◌<◌, Bool, true, false, cond, List, [], length, set, get_or, replicate, Option, None, Some, refl, sym, ap, ◌∙◌, inl, inr, arith}
 use Rattle.std.specs.List.{slice_get}
 use Rattle.std.specs.Map.{lookup}
 use Rattle.std.specs.Str.{bytes_eq}
-use Rattle.std.proofs.lemmas.Bool.{cases_Bool, cases_eq}
+use Rattle.std.proofs.lemmas.Bool.{cases_Bool, cases_eq, false≢true}
 use Rattle.std.proofs.lemmas.List.{get_or-set_same, get_or-set_other}
 use Rattle.std.proofs.lemmas.Option.{get_or_from_slice_get}
 use Rattle.std.proofs.lemmas.Slice.Eq.{bytes_eq-Decides}
-use Rattle.netlist_store.specs.Shards.{shard_of, number_under}
+use Rattle.timing_defs.specs.Names.{is_name}
+use Rattle.netlist_store.specs.Shards.{shard_of, number_under, HasNames}
 
 pub same_is : (a b : List ℕ) → bytes_eq a b ≡ true → a ≡ b
 same_is a b = (bytes_eq-Decides a b).0
@@ -48,3 +49,31 @@ none_under n shards e q = ap (λ m. number_under m q) e ∙ ap (lookup (bytes_eq
     empty zero i = refl
     empty (suc n) zero = refl
     empty (suc n) (suc i) = empty n i
+
+-- only names have numbers, as the number of a name is written or goes
+pub still_names : (old copy new : List (List ℕ × ℕ)) (name : List ℕ) (v : Option ℕ) → copy ≡ old → is_name name ≡ true
+    → ((q : List ℕ) → lookup (bytes_eq q) new ≡ cond (bytes_eq name q) v (lookup (bytes_eq q) copy)) → HasNames old → HasNames new
+still_names old copy new name v same named updates has = record {
+  none = λ q h.
+      let apart : bytes_eq name q ≡ false = elim (cases_Bool (bytes_eq name q)) [
+        | inl e ↦ absurd (false≢true (sym h ∙ ap is_name (sym (same_is name q e)) ∙ named))
+        | inr e ↦ e
+      ] in
+      updates q ∙ ap (λ b. cond b v (lookup (bytes_eq q) copy)) apart ∙ ap (lookup (bytes_eq q)) same ∙ has.none q h;
+}
+
+pub fewer_names : (old copy new : List (List ℕ × ℕ)) (name : List ℕ) → copy ≡ old
+    → ((q : List ℕ) → lookup (bytes_eq q) new ≡ cond (bytes_eq name q) None (lookup (bytes_eq q) copy)) → HasNames old → HasNames new
+fewer_names old copy new name same updates has = record {
+  none = λ q h. updates q ∙ either (bytes_eq name q) (lookup (bytes_eq q) copy) (ap (lookup (bytes_eq q)) same ∙ has.none q h);
+}
+  where
+    either : (b : Bool) (o : Option ℕ) → o ≡ None → cond b None o ≡ None
+    either true o e = refl
+    either false o e = e
+
+-- a look-up in a copy is one in what it was made of
+pub same_updates : (now old copy new : List (List ℕ × ℕ)) (name : List ℕ) (v : Option ℕ) → copy ≡ old → old ≡ now
+    → ((q : List ℕ) → lookup (bytes_eq q) new ≡ cond (bytes_eq name q) v (lookup (bytes_eq q) copy))
+    → (q : List ℕ) → lookup (bytes_eq q) new ≡ cond (bytes_eq name q) v (lookup (bytes_eq q) now)
+same_updates now old copy new name v e f updates q = updates q ∙ ap (λ es. cond (bytes_eq name q) v (lookup (bytes_eq q) es)) (e ∙ f)

@@ -1,9 +1,10 @@
 -- The last colon of a word, as it is read from the front.
 
 use Rattle.std.proofs.Common.{◌≡◌, ℕ, zero, suc, ◌+◌, ◌<◌, ◌≤◌, Bool, true, false, List, [], ◌∷◌, ◌++◌, length, take, drop, Option, None, Some, refl, sym, ap, subst, ◌∙◌, inl, inr, arith, add-one}
-use Rattle.std.specs.Prelude.{nat_eq, if◌then◌else◌, MatchOption}
-use Rattle.std.specs.List.{list_any}
-use Rattle.std.proofs.lemmas.Bool.{cases_Bool, false≢true, true≢false, or_parts, eqb-true, eq-eqb}
+use Rattle.std.specs.Prelude.{◌==◌, ◌&&◌, not, nat_eq, if◌then◌else◌, MatchOption}
+use Rattle.std.specs.List.{list_any, list_all}
+use Rattle.std.proofs.lemmas.Bool.{cases_Bool, false≢true, true≢false, and_parts, and_from, or_parts, not_from_false, eqb-true, eq-eqb, ne_eqb}
+use Rattle.timing_defs.specs.Names.{is_graphic, is_name}
 use Rattle.timing_defs.specs.Edits.{has_colon, before_last, after_last}
 use Rattle.netlist_store.specs.Words.{IsLastColon}
 
@@ -51,6 +52,9 @@ parts n last (b ∷ bs) h = elim (cases_Bool (list_any (nat_eq 58) bs)) [
     none : (b : ℕ) → nat_eq b 58 ≡ false → list_any (nat_eq 58) bs ≡ false → list_any (nat_eq 58) (b ∷ bs) ≡ false
     none b f e = rw (eq_sym b 58 f, e) refl
 
+pub whole_word : (word : List ℕ) → has_colon word ≡ true → before_last word ++ 58 ∷ after_last word ≡ word
+whole_word word h = (parts 0 None word h).whole
+
 take_before : (xs ys : List ℕ) → take (length xs) (xs ++ ys) ≡ xs
 take_before [] ys = refl
 take_before (x ∷ xs) ys = ap (λ zs. x ∷ zs) (take_before xs ys)
@@ -89,3 +93,26 @@ drop_past (b ∷ bs) (suc n) low = drop_past bs n (omega arith)
 pub colon_told : (word : List ℕ) (last : Option ℕ) (place : ℕ) → length word ≤ place → colon_from place last (drop place word) ≡ colon_from 0 None word
     → MatchOption last (has_colon word ≡ false) (λ colon. IsLastColon word colon)
 colon_told word last place low e = colon_found word last (sym (ap (colon_from place last) (drop_past word place low)) ∙ e)
+
+-- what is before a colon is a name, where it is not empty
+graphic_before : (n : ℕ) (word : List ℕ) → list_all is_graphic word ≡ true → list_all is_graphic (take n word) ≡ true
+graphic_before n [] h = ap (list_all is_graphic) (take_none n)
+  where
+    take_none : (n : ℕ) → take {A = ℕ} n [] ≡ []
+    take_none zero = refl
+    take_none (suc n) = refl
+graphic_before zero (b ∷ bs) h = refl
+graphic_before (suc n) (b ∷ bs) h =
+    let k = and_parts (is_graphic b) (list_all is_graphic bs) h in and_from (is_graphic b) (list_all is_graphic (take n bs)) k.0 (graphic_before n bs k.1)
+
+longer : (n : ℕ) (word : List ℕ) → 0 < n → n < length word → 0 < length (take n word)
+longer zero word low high = absurd (omega arith)
+longer (suc n) [] low high = absurd (omega arith)
+longer (suc n) (b ∷ bs) low high = omega arith
+
+pub name_before : (n : ℕ) (word : List ℕ) → is_name word ≡ true → 0 < n → n < length word → is_name (take n word) ≡ true
+name_before n word h low high =
+    let k = and_parts (not (length word == 0)) (list_all is_graphic word) h in
+    let long = longer n word low high in
+    and_from (not (length (take n word) == 0)) (list_all is_graphic (take n word))
+    (not_from_false (length (take n word) == 0) (ne_eqb (length (take n word)) 0 (λ e. omega (arith, long, e)))) (graphic_before n word k.1)

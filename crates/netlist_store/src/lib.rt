@@ -50,13 +50,17 @@
 
 mod agreement;
 mod building;
+mod cell_pins;
 mod cells;
 mod checks;
+mod edit_checks;
 mod held;
 mod links;
 mod name_maps;
 mod numberings;
+mod pin_words;
 mod rolls;
+mod sinks;
 mod stores;
 mod tables;
 mod words;

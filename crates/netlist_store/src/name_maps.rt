@@ -1,9 +1,10 @@
 //! Names to numbers, in shards that stores share.
 
-ghost use Rattle.std.specs.Prelude.{◌≡◌, ◌<◌, [], ℕ, List, None, Some, cond, length, get_or, IfOk, OnOk, OnErr};
+ghost use Rattle.std.specs.Prelude.{◌≡◌, ◌<◌, [], ℕ, false, List, None, Some, cond, length, get_or, IfOk, OnOk, OnErr};
 ghost use Rattle.std.specs.Map.{lookup};
 ghost use Rattle.std.specs.Str.{bytes_eq};
-ghost use Rattle.netlist_store.specs.Shards.{shard_of, shard_from, number_under};
+ghost use Rattle.timing_defs.specs.Names.{is_name};
+ghost use Rattle.netlist_store.specs.Shards.{shard_of, shard_from, number_under, HasNames};
 
 use crate::held::Held;
 use cow_table::CowTable;
@@ -24,10 +25,21 @@ pub(crate) struct Shard {
 
 impl Model for Shard {
     ghost use Rattle.std.specs.Prelude.{List, ℕ};
+    ghost use Rattle.netlist_store.specs.Shards.{HasNames};
 
     ghost Value = { List (List ℕ × ℕ) };
 
     ghost view = { λ s. s.numbers.entries };
+
+    ghost invariant = { λ s. HasNames s.numbers.entries };
+}
+
+/// A copy of the numbers of a shard.
+fn numbers_again(numbers: &IndexMap<Name, u32>) -> Result<IndexMap<Name, u32>, Memory>
+    ensures { IfOk result (λ copy. copy.entries ≡ numbers.now.entries) }
+{
+    let copy = numbers.clone()?;
+    Ok(copy)
 }
 
 impl Shard {
@@ -45,11 +57,18 @@ impl Shard {
         self.numbers.get(name).copied()
     }
 
+    /// What is no name has no number; the call does nothing.
+    fn law(&self)
+        ensures { HasNames self.now }
+    {
+        let _ = &self.numbers;
+    }
+
     /// The shard with another number for a name.
     fn with(&self, name: Name, number: u32) -> Result<Shard, Memory>
         ensures { IfOk result (λ shard. (q : List ℕ) → lookup (bytes_eq q) shard ≡ cond (bytes_eq name q) (Some number) (lookup (bytes_eq q) self.now)) }
     {
-        let mut numbers = self.numbers.clone()?;
+        let mut numbers = numbers_again(&self.numbers)?;
         match numbers.insert(name, number) {
             Ok(_) => Ok(Shard { numbers }),
             Err(_) => Err(Memory),
@@ -60,7 +79,7 @@ impl Shard {
     fn without(&self, name: &Name) -> Result<Shard, Memory>
         ensures { IfOk result (λ shard. (q : List ℕ) → lookup (bytes_eq q) shard ≡ cond (bytes_eq name.now q) None (lookup (bytes_eq q) self.now)) }
     {
-        let mut numbers = self.numbers.clone()?;
+        let mut numbers = numbers_again(&self.numbers)?;
         let _ = numbers.swap_remove(name);
         Ok(Shard { numbers })
     }
@@ -125,6 +144,15 @@ impl NameMap {
     {
         let place = shard_of(name.as_bytes());
         self.shards.get(place).get().number(name)
+    }
+
+    /// What is no name has no number; told to the proofs of callers.
+    pub(crate) fn nameless(&self, bytes: &[u8])
+        requires { is_name bytes.now ≡ false }
+        ensures { number_under self.now bytes.now ≡ None }
+    {
+        let place = shard_of(bytes);
+        self.shards.get(place).get().law();
     }
 
     /// Gives a name a number.

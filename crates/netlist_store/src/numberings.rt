@@ -1,7 +1,8 @@
 //! Names and their numbers.
 
-ghost use Rattle.std.specs.Prelude.{◌≡◌, ◌<◌, ◌≤◌, ◌^◌, ◌∷◌, ◌++◌, [], ℕ, List, true, length, map, set, slice_get, IfOk, IfSome};
+ghost use Rattle.std.specs.Prelude.{◌≡◌, ◌<◌, ◌≤◌, ◌^◌, ◌∷◌, ◌++◌, [], ℕ, List, true, false, None, length, map, set, slice_get, IfOk, IfSome};
 ghost use Rattle.std.specs.Option.{option_copied};
+ghost use Rattle.timing_defs.specs.Names.{is_name};
 ghost use Rattle.timing_defs.specs.Netlist.{are_distinct};
 ghost use Rattle.netlist_store.specs.Numbering.{name_at, number_of, is_number, with_name, AreNumbers, AreKept};
 ghost use Rattle.netlist_store.specs.Slots.{slot_name, slot_name_at};
@@ -133,6 +134,14 @@ impl Numbering {
         ensures { result ≡ number_of self.now name.now }
     {
         self.numbers.number(name)
+    }
+
+    /// What is no name has no number; told to the proofs of callers.
+    pub(crate) fn nameless(&self, bytes: &[u8])
+        requires { is_name bytes.now ≡ false }
+        ensures { number_of self.now bytes.now ≡ None }
+    {
+        self.numbers.nameless(bytes);
     }
 
     /// Whether a number stands for a name.

@@ -1,9 +1,11 @@
 //! Stores, their copies and look-ups.
 
-ghost use Rattle.std.specs.Prelude.{◌≡◌, ◌<◌, ◌^◌, ℕ, true, length, count_by, nat_eq, is_some, option_and_then, option_map, if◌then◌else◌, IfOk, IfSome};
+ghost use Rattle.std.specs.Prelude.{◌≡◌, ◌<◌, ◌^◌, ℕ, true, false, None, length, count_by, nat_eq, is_some, option_and_then, option_map, if◌then◌else◌, IfOk, IfSome};
 ghost use Rattle.std.specs.Option.{option_copied};
 ghost use Rattle.timing_defs.specs.Netlist.{cell_named, cell_of, net_of};
 ghost use Rattle.timing_defs.specs.Wires.{rc_of};
+ghost use Rattle.timing_defs.specs.Names.{is_name};
+ghost use Rattle.timing_defs.specs.Edits.{inst_named, net_in_use};
 ghost use Rattle.netlist_store.specs.Numbering.{name_at, number_of, is_number, inst_numbered, pin_numbered, owner_number, net_number, is_on_number, IsNumbered};
 ghost use Rattle.netlist_store.specs.Linked.{IsLinked, IsSized};
 ghost use Rattle.netlist_store.specs.Stores.{TellsInst, TellsPin};
@@ -287,5 +289,65 @@ fn cell_under<'a>(cells: &'a Cells, name: &Name) -> &'a Cell
     match cells.cell(name) {
         Some(cell) => cell,
         None => unreachable!(),
+    }
+}
+
+/// Look-ups by names, for the checks of edits.
+impl Store {
+    /// The cell of a name in the early library.
+    pub(crate) fn early_cell(&self, name: &Name) -> Option<&Cell>
+        ensures { option_copied result ≡ cell_named self.now.design.early.cells name.now }
+    {
+        self.frame.get().early.cell(name)
+    }
+
+    /// The cell of a name in the late library.
+    pub(crate) fn late_cell(&self, name: &Name) -> Option<&Cell>
+        ensures { option_copied result ≡ cell_named self.now.design.late.cells name.now }
+    {
+        self.frame.get().late.cell(name)
+    }
+
+    /// The instance of a name.
+    pub(crate) fn inst_named(&self, name: &Name) -> Option<&Inst>
+        ensures { option_copied result ≡ inst_named self.now.design.insts name.now }
+    {
+        self.laws();
+        match self.inst(name) {
+            Some(inst) => Some(self.inst_at(inst)),
+            None => None,
+        }
+    }
+
+    /// What is no name is the name of no instance; told to the proofs of callers.
+    fn nameless(&self, bytes: &[u8])
+        requires { is_name bytes.now ≡ false }
+        ensures { inst_named self.now.design.insts bytes.now ≡ None }
+    {
+        self.laws();
+        self.names.insts.nameless(bytes);
+    }
+
+    /// The instance that goes by these bytes.
+    pub(crate) fn inst_called(&self, alloc: Global, bytes: &[u8]) -> Result<Option<&Inst>, Memory>
+        ensures { IfOk result (λ inst. option_copied inst ≡ inst_named self.now.design.insts bytes.now) }
+    {
+        match Name::from_bytes(alloc, bytes)? {
+            Some(name) => Ok(self.inst_named(&name)),
+            None => {
+                self.nameless(bytes);
+                Ok(None)
+            }
+        }
+    }
+
+    /// Whether a net has a port or a pin; the net by its name and its number.
+    pub(crate) fn has_pins(&self, name: &Name, net: u32) -> bool
+        requires { number_of self.now.nets name.now ≡ Some net }
+        ensures { result ≡ net_in_use self.now.design name.now }
+    {
+        self.laws();
+        let _ = name;
+        !self.net_pins(net).is_empty()
     }
 }
