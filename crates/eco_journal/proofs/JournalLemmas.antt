@@ -45,9 +45,9 @@ line_fails t Memory told lines fails = tt
 line_fails t (At code offset) told lines fails = rw fails (stopped t (At code offset) lines)
 
 -- where edits are to come, one of them stands next
-pub some_edit : (t : Text) (left session todo : ℕ) (edits : List Edit) (all : List Entry) → 0 < todo
-    → edits_left t left session todo edits all ≡ edit left session todo edits all
-some_edit t left session todo edits all some = let no : (todo == 0) ≡ false = grind arith in rw no refl
+pub some_edit : (t : Text) (left session due : ℕ) (edits : List Edit) (all : List Entry) → 0 < due
+    → edits_left t left session due edits all ≡ edit left session due edits all
+some_edit t left session due edits all some = let no : (due == 0) ≡ false = grind arith in rw no refl
 
 -- where entries are to come, the head of one stands next
 pub some_entry : (t : Text) (left : ℕ) (all : List Entry) → 0 < left → entries_left t left all ≡ entry left all

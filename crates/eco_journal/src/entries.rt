@@ -123,7 +123,7 @@ fn head(alloc: Global, line: &Span<'_>, next: u128) -> Result<EntryHead, ReadFau
 /// The edit of the next line of a text of that length.
 #[tactic(auto, using(crate::proofs::JournalLemmas::stopped), unfolding(crate::specs::Journal::entries))]
 fn next_edit(alloc: Global, lines: &mut Lines<'_>, size: usize) -> Result<Edit, ReadFault>
-    ensures value { (t : Text) (left session todo : ℕ) (edits : List Edit) (all : List Entry) → t.size ≡ size → MatchResult result (λ e. entries t (Ok (edits_left t left session (todo - 1) (edits ++ e ∷ []) all)) lines.new ≡ entries t (Ok (edit left session todo edits all)) lines.old) (λ fault. Fails fault (entries t (Ok (edit left session todo edits all)) lines.old)) }
+    ensures value { (t : Text) (left session due : ℕ) (edits : List Edit) (all : List Entry) → t.size ≡ size → MatchResult result (λ e. entries t (Ok (edits_left t left session (due - 1) (edits ++ e ∷ []) all)) lines.new ≡ entries t (Ok (edit left session due edits all)) lines.old) (λ fault. Fails fault (entries t (Ok (edit left session due edits all)) lines.old)) }
     ensures fewer { IfOk result (λ _. length lines.new < length lines.old) }
 {
     let line = next_line(lines, size)?;
@@ -142,10 +142,10 @@ fn edits(
     ensures fewer { IfOk result (λ _. length lines.new ≤ length lines.old) }
 {
     let mut edits = Items::new(alloc);
-    let mut todo = count;
-    while todo > 0 {
+    let mut due = count;
+    while due > 0 {
         edits.push(next_edit(alloc, lines, size)?)?;
-        todo -= 1;
+        due -= 1;
     }
     Ok(edits)
 }

@@ -11,8 +11,6 @@ mod lines;
 mod numbers;
 mod saved;
 mod stops;
-#[cfg(test)]
-mod tests;
 mod texts;
 
 pub use edits::read_edit;

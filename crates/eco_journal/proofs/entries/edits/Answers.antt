@@ -2,14 +2,14 @@ use Rattle.std.proofs.Common.{arith}
 use Rattle.eco_journal.proofs.JournalLemmas.{some_edit}
 use Rattle.eco_journal.proofs.entries.edits.Goals as goal
 
-pub loop-todo-preserved : goal.loop-todo-preserved
-loop-todo-preserved c = (
+pub loop-due-preserved : goal.loop-due-preserved
+loop-due-preserved c = (
   λ t left session all same.
       grind (
         arith,
-        c.loop-todo.invariant.0 t left session all same,
-        c.in_ok-next_edit.ensures.value t left session c.loop-todo.todo c.loop-todo.edits all same,
-        some_edit t left session c.loop-todo.todo c.loop-todo.edits all,
+        c.loop-due.invariant.0 t left session all same,
+        c.in_ok-next_edit.ensures.value t left session c.loop-due.due c.loop-due.edits all same,
+        some_edit t left session c.loop-due.due c.loop-due.edits all,
       ),
   grind arith,
 )

@@ -1,6 +1,9 @@
 //! Journals and saved journals, read, refused and written.
 
-use crate::*;
+use eco_journal::{
+    block_read_back, block_text, eco_can_be_written, eco_read_back, entry_text, journal_read_back,
+    read_eco, read_entries, read_saved, saved_read_back,
+};
 use std::process::Abort;
 use std::test::Fail;
 use timing_defs::{Code, Derates, Entry, Items, ReadFault};
