@@ -354,6 +354,7 @@ module _ (net : NetRc) (root : List ℕ) (pins : List PinCap) (nodes : List RcNo
       pub tree_told : IsTreeOf net root pins (record { nodes = nodes; delays = map (λ (w : Wire). w.delay) ws; impulses = map (λ (w : Wire). w.impulse) ws; load = pos load })
       tree_told = record {
         members = joined.members;
+        once = apart;
         delays = by_number (λ (w : Wire). w.delay) (delay_of net root pins) told_delay;
         impulses = map_both pos (λ (w : Wire). w.impulse) ws ∙ by_number (λ (w : Wire). pos w.impulse) (impulse_of net root pins) impulse_told;
         load = total;

@@ -1,6 +1,6 @@
 -- Trees of resistors: which nodes one has, the first fault of a net that is none, and what is told of one.
 
-use Rattle.std.specs.Prelude.{ℕ, ℤ, pos, ◌+ℤ◌, ◌≡◌, ◌⊎◌, nat_lt, Bool, true, not, ◌&&◌, ◌||◌, if◌then◌else◌, List, [], ◌∷◌, ◌++◌, map, Option, Some, None, is_some}
+use Rattle.std.specs.Prelude.{ℕ, ℤ, pos, ◌+ℤ◌, ◌≡◌, ◌⊎◌, ◌<◌, nat_lt, Bool, true, not, ◌&&◌, ◌||◌, if◌then◌else◌, List, [], ◌∷◌, ◌++◌, map, length, get_or, Option, Some, None, is_some}
 use Rattle.std.specs.List.{list_any, list_all, AllByRecursion}
 use Rattle.sta_units.specs.Numbers.{limit, is_within}
 use Rattle.timing_defs.specs.declared.parasitics.RcNode.{RcNode}
@@ -69,9 +69,14 @@ pub record Told : Type 0 where
   pub impulses : List ℕ
   pub load : ℤ
 
+-- no node stands twice
+abbrev pub AreDistinct : List RcNode → Type 0
+AreDistinct nodes = (i j : ℕ) → i < length nodes → j < length nodes → get_or nodes i (rc_inner 0) ≡ get_or nodes j (rc_inner 0) → i ≡ j
+
 -- what is told is what the net's resistors and capacitances give
 pub record IsTreeOf (net : NetRc) (root : List ℕ) (pins : List PinCap) (told : Told) : Type 0 where
   pub members : (node : RcNode) → is_node told.nodes node ≡ is_node (tree_nodes net root pins) node
+  pub once : AreDistinct told.nodes
   pub delays : told.delays ≡ map (delay_of net root pins) told.nodes
   pub impulses : map pos told.impulses ≡ map (impulse_of net root pins) told.nodes
   pub load : told.load ≡ total_load net pins

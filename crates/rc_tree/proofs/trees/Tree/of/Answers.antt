@@ -63,4 +63,4 @@ returns-clause-tree c =
     let told = tree_told c.args.net.now c.args.root.now c.args.pins.now (numbered c.in_ok-nodes.nodes) c.in_ok-forest.forest joined c.in_ok-forest.ensures.apart c.in_ok-nodes.ensures.root c.in_ok-forest.ensures.found c.requires c.in_ok-check_reached.ensures.fine c.in_ok-check_size.ensures.fine c.in_ok-load.load total c.in_ok-load.ensures.load.1 c.in_ok-weights.weights.items c.in_ok-weights.ensures.len weighed c.in_ok-wires.wires c.in_ok-wires.ensures.wires in
     let low : c.in_ok-load.load < 2 ^ 63 = (let a : c.in_ok-load.load ≤ 10 ^ 12 = c.in_ok-load.ensures.load.1 in omega arith) in
     let same = to_z_pos w64 c.in_ok-load.load low in
-    record { members = told.members; delays = told.delays; impulses = told.impulses; load = same ∙ told.load }
+    record { members = told.members; once = told.once; delays = told.delays; impulses = told.impulses; load = same ∙ told.load }
