@@ -1,11 +1,11 @@
 -- A net is in use exactly where a pin is on its number.
 
-use Rattle.std.proofs.Common.{◌≡◌, ◌⊎◌, ℕ, suc, ◌+◌, Bool, true, false, List, [], ◌∷◌, ◌++◌, map, length, Option, None, Some, refl, sym, ap, subst, ◌∙◌, inl, inr, arith, not}
-use Rattle.std.specs.Prelude.{◌||◌, ◌==◌, nat_eq, find, option_and_then, option_map, is_some, count_by, cond, if◌then◌else◌}
+use Rattle.std.proofs.Common.{◌≡◌, ℕ, ◌+◌, Bool, true, false, List, [], ◌∷◌, ◌++◌, length, Option, None, Some, refl, sym, ap, ◌∙◌, inl, inr, arith, not}
+use Rattle.std.specs.Prelude.{◌==◌, nat_eq, find, option_and_then, option_map, is_some, count_by, cond, if◌then◌else◌}
 use Rattle.std.specs.List.{list_any, list_all}
 use Rattle.std.specs.Option.{option_map_or}
 use Rattle.std.specs.Str.{bytes_eq}
-use Rattle.std.proofs.lemmas.Bool.{cases_Bool, false≢true, true≢false, or_left, or_right, or_cases, not-true, eqb-true, eq-eqb, not_from_false, ne_eqb}
+use Rattle.std.proofs.lemmas.Bool.{cases_Bool, false≢true, or_left, or_right, or_cases, not-true, eqb-true, eq-eqb, not_from_false, ne_eqb}
 use Rattle.std.proofs.lemmas.List.Sums.{sum_by-cons}
 use Rattle.timing_defs.specs.declared.kinds.Split.TheVariants.{Late}
 use Rattle.timing_defs.specs.declared.netlist.Port.{Port}

@@ -21,6 +21,7 @@ mod PinNames
 mod PinsByWord
 mod PlaceLaws
 mod RcLaws
+mod SetLaws
 mod ShardLaws
 mod StoreLaws
 mod WordLaws

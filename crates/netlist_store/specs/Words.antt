@@ -1,6 +1,6 @@
 -- The last colon of a pin word, which parts the instance from the pin.
 
-use Rattle.std.specs.Prelude.{ℕ, suc, ◌+◌, ◌≡◌, ◌<◌, true, List, [], ◌∷◌, Option, Some, None, take, drop, length, nat_eq, if◌then◌else◌}
+use Rattle.std.specs.Prelude.{ℕ, ◌+◌, ◌≡◌, ◌<◌, true, List, take, drop, length}
 use Rattle.timing_defs.specs.Edits.{has_colon, before_last, after_last}
 
 -- a word's last colon stands at this place: the instance is before it, the pin after it

@@ -1,7 +1,8 @@
 //! Whether two cells have the same pins, arcs and tests, as sets.
 
-ghost use Rattle.std.specs.Prelude.{◌≡◌, ◌&&◌, ◌||◌, not};
+ghost use Rattle.std.specs.Prelude.{◌≡◌, ◌&&◌, ◌||◌, not, false, slice_get};
 ghost use Rattle.std.specs.List.{list_all, list_any};
+ghost use Rattle.std.specs.Option.{option_map_or};
 ghost use Rattle.timing_defs.specs.Netlist.{same_dir, same_tran};
 ghost use Rattle.timing_defs.specs.Clocking.{comb_kind};
 ghost use Rattle.timing_defs.specs.Tests.{same_kind};
@@ -75,40 +76,100 @@ fn same_test(a: &CellTest, b: &CellTest) -> bool
         && same_kind(a.kind, b.kind)
 }
 
-fn has_pin(pins: &[CellPin], pin: &CellPin) -> bool
+/// Whether a pin stands at a place.
+fn is_pin_at(pins: &[CellPin], at: usize, pin: &CellPin) -> bool
+    ensures { result ≡ option_map_or (same_cell_pin pin.now) (slice_get pins.now at) false }
+{
+    match pins.get(at) {
+        Some(other) => same_pin(pin, other),
+        None => false,
+    }
+}
+
+/// Whether a pin is among others; the place where it is looked for first is the one that it has in
+/// a library of the same order.
+fn has_pin(pins: &[CellPin], at: usize, pin: &CellPin) -> bool
     ensures { result ≡ list_any (same_cell_pin pin.now) pins.now }
 {
+    if is_pin_at(pins, at, pin) {
+        return true;
+    }
     pins.iter().any(|other| same_pin(pin, other))
 }
 
-fn has_arc(arcs: &[CellArc], arc: &CellArc) -> bool
+/// Whether an arc stands at a place.
+fn is_arc_at(arcs: &[CellArc], at: usize, arc: &CellArc) -> bool
+    ensures { result ≡ option_map_or (same_arc arc.now) (slice_get arcs.now at) false }
+{
+    match arcs.get(at) {
+        Some(other) => same_arc(arc, other),
+        None => false,
+    }
+}
+
+/// Whether an arc is among others; the place where it is looked for first is the one that it has in
+/// a library of the same order.
+fn has_arc(arcs: &[CellArc], at: usize, arc: &CellArc) -> bool
     ensures { result ≡ list_any (same_arc arc.now) arcs.now }
 {
+    if is_arc_at(arcs, at, arc) {
+        return true;
+    }
     arcs.iter().any(|other| same_arc(arc, other))
 }
 
-fn has_test(tests: &[CellTest], test: &CellTest) -> bool
+/// Whether a test stands at a place.
+fn is_test_at(tests: &[CellTest], at: usize, test: &CellTest) -> bool
+    ensures { result ≡ option_map_or (same_test test.now) (slice_get tests.now at) false }
+{
+    match tests.get(at) {
+        Some(other) => same_test(test, other),
+        None => false,
+    }
+}
+
+/// Whether a test is among others; the place where it is looked for first is the one that it has in
+/// a library of the same order.
+fn has_test(tests: &[CellTest], at: usize, test: &CellTest) -> bool
     ensures { result ≡ list_any (same_test test.now) tests.now }
 {
+    if is_test_at(tests, at, test) {
+        return true;
+    }
     tests.iter().any(|other| same_test(test, other))
 }
 
 fn pins_within(pins: &[CellPin], others: &[CellPin]) -> bool
     ensures { result ≡ list_all (λ pin. list_any (same_cell_pin pin) others.now) pins.now }
 {
-    pins.iter().all(|pin| has_pin(others, pin))
+    for (at, pin) in pins.iter().enumerate() {
+        if !has_pin(others, at, pin) {
+            return false;
+        }
+    }
+    true
 }
 
 fn arcs_within(arcs: &[CellArc], others: &[CellArc]) -> bool
     ensures { result ≡ list_all (λ arc. list_any (same_arc arc) others.now) arcs.now }
 {
-    arcs.iter().all(|arc| has_arc(others, arc))
+    for (at, arc) in arcs.iter().enumerate() {
+        if !has_arc(others, at, arc) {
+            return false;
+        }
+    }
+    true
 }
 
 fn tests_within(tests: &[CellTest], others: &[CellTest]) -> bool
     ensures { result ≡ list_all (λ test. list_any (same_test test) others.now) tests.now }
 {
-    tests.iter().all(|test| has_test(others, test))
+    for (at, test) in tests.iter().enumerate() {
+        if !has_test(others, at, test) {
+            return false;
+        }
+    }
+    true
 }
 
 fn same_pins(a: &[CellPin], b: &[CellPin]) -> bool

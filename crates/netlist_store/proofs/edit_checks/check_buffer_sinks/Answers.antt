@@ -1,4 +1,4 @@
-use Rattle.std.proofs.Common.{sym, subst, ◌∷◌, ◌++◌, [], map, List, Option}
+use Rattle.std.proofs.Common.{sym, subst, ◌∷◌, ◌++◌, [], map, Option}
 use Rattle.timing_defs.specs.declared.faults.Fault.{Fault}
 use Rattle.timing_defs.specs.declared.faults.Fault.TheVariants.{PinsDiffer}
 use Rattle.timing_defs.specs.Edits.{need_sink, free_inst, free_net, unless, is_buffer, sink_faults, first_fault}

@@ -1,4 +1,4 @@
-use Rattle.std.proofs.Common.{◌≡◌, ◌∷◌, drop, None}
+use Rattle.std.proofs.Common.{◌≡◌, drop, None}
 use Rattle.netlist_store.proofs.WordLaws.{colon_from}
 use Rattle.netlist_store.proofs.words.last_colon.Given as goal
 
