@@ -24,4 +24,5 @@ mod RcLaws
 mod SetLaws
 mod ShardLaws
 mod StoreLaws
+mod TouchLaws
 mod WordLaws

@@ -7,4 +7,5 @@ pub mod Places
 pub mod Shards
 pub mod Slots
 pub mod Stores
+pub mod Touching
 pub mod Words

@@ -63,6 +63,8 @@ mod rolls;
 mod sinks;
 mod stores;
 mod tables;
+mod touched;
 mod words;
 
 pub use stores::Store;
+pub use touched::Touched;
