@@ -1,0 +1,20 @@
+//! The bytes that a run writes: the journal, the rows of each session and the totals.
+//!
+//! Each line ends with a line feed, and one blank stands between words. A time is in picoseconds
+//! with three decimals, or `none`; every number is decimal. The output is
+//! - `journal 1 COUNT` and the entries, or a block of a saved journal;
+//! - for each session `session S rows R` and its rows;
+//! - `final COUNT setup W T hold W T`, the worst slack and the total negative slack of both kinds.
+//!
+//! Each call gives exactly the bytes of its definition, whatever its arguments are, and takes time
+//! linear in these bytes. Want of memory is the only error.
+#![tactic(auto)]
+
+mod faults;
+mod outputs;
+mod pieces;
+mod reports;
+mod rows;
+
+pub use outputs::{journal_bytes, output_bytes, output_saved_bytes};
+pub use rows::report_bytes;

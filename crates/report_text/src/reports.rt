@@ -1,0 +1,259 @@
+//! The lines of reports.
+
+ghost use Rattle.std.specs.Prelude.{◌≡◌, ◌++◌, OnOk, codes, length};
+ghost use Rattle.std.specs.List.{flat_map};
+ghost use Rattle.sta_units.specs.Picoseconds.{ps_text};
+ghost use Rattle.timing_defs.specs.declared.reports.Report.TheVariants.{Shown};
+ghost use Rattle.timing_defs.specs.Output.{line, word, number, time_text, clock_text, edge_text, query_word, edge_time_text, path_node_text, path_head, path_of, end_text, report_text};
+
+use crate::pieces::{
+    push, push_count, push_end, push_kind, push_number, push_ps, push_time, push_tran, push_word,
+};
+use sta_units::{Fs, Memory};
+use std::alloc::Global;
+use timing_defs::{Clock, EdgeTime, EndRow, Path, PathNode, Query, Report, Tran};
+
+/// A blank and the name of the clock at a place, from 0; no name where there is no such clock.
+fn push_clock(out: &mut Vec<u8>, clocks: &[Clock], place: u32) -> Result<(), Memory>
+    ensures { OnOk result (out.new.items ≡ out.old.items ++ word (clock_text clocks.now place)) }
+{
+    match clocks.get(place as usize) {
+        Some(clock) => push_word(out, clock.name.as_bytes()),
+        None => push(out, b" "),
+    }
+}
+
+/// A launch or capture edge: its clock and its transition.
+fn push_edge(out: &mut Vec<u8>, clocks: &[Clock], clock: u32, tran: Tran) -> Result<(), Memory>
+    ensures { OnOk result (out.new.items ≡ out.old.items ++ edge_text clocks.now clock tran) }
+{
+    push_clock(out, clocks, clock)?;
+    push_tran(out, tran)
+}
+
+/// A launch edge and the time there.
+fn push_edge_time(
+    alloc: Global,
+    out: &mut Vec<u8>,
+    clocks: &[Clock],
+    time: &EdgeTime,
+) -> Result<(), Memory>
+    ensures { OnOk result (out.new.items ≡ out.old.items ++ edge_time_text clocks.now time.now) }
+{
+    push_edge(out, clocks, time.clock, time.tran)?;
+    push_ps(alloc, out, time.time)
+}
+
+#[tactic(auto, using(std::proofs::lemmas::List::drop_more))]
+fn push_edge_times(
+    alloc: Global,
+    out: &mut Vec<u8>,
+    clocks: &[Clock],
+    times: &[EdgeTime],
+) -> Result<(), Memory>
+    ensures { OnOk result (out.new.items ≡ out.old.items ++ flat_map (edge_time_text clocks.now) times.now) }
+{
+    for time in times {
+        push_edge_time(alloc, out, clocks, time)?;
+    }
+    Ok(())
+}
+
+/// The line of a node of a path: its pin, its transition and its arrival.
+fn push_path_node(alloc: Global, out: &mut Vec<u8>, node: &PathNode) -> Result<(), Memory>
+    ensures { OnOk result (out.new.items ≡ out.old.items ++ path_node_text node.now) }
+{
+    push(out, node.pin.as_bytes())?;
+    push_tran(out, node.tran)?;
+    push_ps(alloc, out, node.time)?;
+    push_end(out)
+}
+
+#[tactic(auto, using(std::proofs::lemmas::List::drop_more))]
+fn push_path_nodes(alloc: Global, out: &mut Vec<u8>, nodes: &[PathNode]) -> Result<(), Memory>
+    ensures { OnOk result (out.new.items ≡ out.old.items ++ flat_map path_node_text nodes.now) }
+{
+    for node in nodes {
+        push_path_node(alloc, out, node)?;
+    }
+    Ok(())
+}
+
+/// The slack and the credit of a path.
+fn push_slack(alloc: Global, out: &mut Vec<u8>, slack: Fs, credit: Fs) -> Result<(), Memory>
+    ensures { OnOk result (out.new.items ≡ out.old.items ++ (codes " slack" ++ word (ps_text slack.0) ++ codes " credit" ++ word (ps_text credit.0))) }
+{
+    push(out, b" slack")?;
+    push_ps(alloc, out, slack)?;
+    push(out, b" credit")?;
+    push_ps(alloc, out, credit)
+}
+
+/// The launch and the capture edge of a path.
+fn push_edges(out: &mut Vec<u8>, clocks: &[Clock], path: &Path) -> Result<(), Memory>
+    ensures { OnOk result (out.new.items ≡ out.old.items ++ (codes " from" ++ edge_text clocks.now path.now.launch_clock path.now.launch_tran ++ codes " to" ++ edge_text clocks.now path.now.capture_clock path.now.capture_tran)) }
+{
+    push(out, b" from")?;
+    push_edge(out, clocks, path.launch_clock, path.launch_tran)?;
+    push(out, b" to")?;
+    push_edge(out, clocks, path.capture_clock, path.capture_tran)
+}
+
+/// What the first line of a path says of the path itself.
+fn push_path_head(
+    alloc: Global,
+    out: &mut Vec<u8>,
+    clocks: &[Clock],
+    path: &Path,
+) -> Result<(), Memory>
+    ensures { OnOk result (out.new.items ≡ out.old.items ++ path_head clocks.now path.now) }
+{
+    push_slack(alloc, out, path.slack, path.credit)?;
+    push_edges(out, clocks, path)?;
+    push_count(alloc, out, b" nodes", path.nodes.len() as u64)
+}
+
+/// What the first line of a path says of the question: its kind and its endpoint.
+fn push_path_of(out: &mut Vec<u8>, query: &Query) -> Result<(), Memory>
+    ensures { OnOk result (out.new.items ≡ out.old.items ++ path_of query.now) }
+{
+    match query {
+        Query::WorstPath { pin, kind } => {
+            push_kind(out, *kind)?;
+            push_word(out, pin.as_bytes())
+        }
+        Query::Slew { .. }
+        | Query::At { .. }
+        | Query::Rat { .. }
+        | Query::Slack { .. }
+        | Query::Endpoint { .. }
+        | Query::Wns { .. }
+        | Query::Tns { .. }
+        | Query::Worst { .. } => Ok(()),
+    }
+}
+
+fn push_path(
+    alloc: Global,
+    out: &mut Vec<u8>,
+    clocks: &[Clock],
+    query: &Query,
+    path: &Path,
+) -> Result<(), Memory>
+    ensures { OnOk result (out.new.items ≡ out.old.items ++ (line (codes "path" ++ path_of query.now ++ path_head clocks.now path.now) ++ flat_map path_node_text path.now.nodes)) }
+{
+    push(out, b"path")?;
+    push_path_of(out, query)?;
+    push_path_head(alloc, out, clocks, path)?;
+    push_end(out)?;
+    push_path_nodes(alloc, out, path.nodes.as_slice())
+}
+
+/// The path of least slack, or that there is none.
+fn push_shown(
+    alloc: Global,
+    out: &mut Vec<u8>,
+    clocks: &[Clock],
+    query: &Query,
+    path: &Option<Path>,
+) -> Result<(), Memory>
+    ensures { OnOk result (out.new.items ≡ out.old.items ++ report_text clocks.now query.now (Shown path.now)) }
+{
+    match path {
+        None => push(out, b"path none\n"),
+        Some(path) => push_path(alloc, out, clocks, query, path),
+    }
+}
+
+/// The line of an endpoint: its pin and its slack.
+fn push_end_row(alloc: Global, out: &mut Vec<u8>, row: &EndRow) -> Result<(), Memory>
+    ensures { OnOk result (out.new.items ≡ out.old.items ++ end_text row.now) }
+{
+    push(out, row.pin.as_bytes())?;
+    push_ps(alloc, out, row.slack)?;
+    push_end(out)
+}
+
+#[tactic(auto, using(std::proofs::lemmas::List::drop_more))]
+fn push_end_rows(alloc: Global, out: &mut Vec<u8>, rows: &[EndRow]) -> Result<(), Memory>
+    ensures { OnOk result (out.new.items ≡ out.old.items ++ flat_map end_text rows.now) }
+{
+    for row in rows {
+        push_end_row(alloc, out, row)?;
+    }
+    Ok(())
+}
+
+/// The worst endpoints: how many, and a line for each.
+fn push_ends(alloc: Global, out: &mut Vec<u8>, rows: &[EndRow]) -> Result<(), Memory>
+    ensures { OnOk result (out.new.items ≡ out.old.items ++ (line (codes "worst" ++ number (length rows.now)) ++ flat_map end_text rows.now)) }
+{
+    push_count(alloc, out, b"worst", rows.len() as u64)?;
+    push_end(out)?;
+    push_end_rows(alloc, out, rows)
+}
+
+/// The word of a question.
+fn push_query_word(out: &mut Vec<u8>, query: &Query) -> Result<(), Memory>
+    ensures { OnOk result (out.new.items ≡ out.old.items ++ query_word query.now) }
+{
+    match query {
+        Query::Slew { .. } => push(out, b"slew"),
+        Query::At { .. } => push(out, b"at"),
+        Query::Rat { .. } => push(out, b"rat"),
+        Query::Slack { .. } => push(out, b"slack"),
+        Query::Endpoint { .. } => push(out, b"endpoint"),
+        Query::WorstPath { .. } => push(out, b"path"),
+        Query::Wns { .. } => push(out, b"wns"),
+        Query::Tns { .. } => push(out, b"tns"),
+        Query::Worst { .. } => push(out, b"worst"),
+    }
+}
+
+/// The word of a question and one time, or `none`.
+fn push_value(
+    alloc: Global,
+    out: &mut Vec<u8>,
+    query: &Query,
+    time: Option<Fs>,
+) -> Result<(), Memory>
+    ensures { OnOk result (out.new.items ≡ out.old.items ++ line (query_word query.now ++ word (time_text time))) }
+{
+    push_query_word(out, query)?;
+    push_time(alloc, out, time)?;
+    push_end(out)
+}
+
+/// The word of a question, how many launch edges have a time, and these.
+fn push_times(
+    alloc: Global,
+    out: &mut Vec<u8>,
+    clocks: &[Clock],
+    query: &Query,
+    times: &[EdgeTime],
+) -> Result<(), Memory>
+    ensures { OnOk result (out.new.items ≡ out.old.items ++ line (query_word query.now ++ number (length times.now) ++ flat_map (edge_time_text clocks.now) times.now)) }
+{
+    push_query_word(out, query)?;
+    push_number(alloc, out, times.len() as u64)?;
+    push_edge_times(alloc, out, clocks, times)?;
+    push_end(out)
+}
+
+/// A report by its question.
+pub(crate) fn push_report(
+    alloc: Global,
+    out: &mut Vec<u8>,
+    clocks: &[Clock],
+    query: &Query,
+    report: &Report,
+) -> Result<(), Memory>
+    ensures { OnOk result (out.new.items ≡ out.old.items ++ report_text clocks.now query.now report.now) }
+{
+    match report {
+        Report::Value(time) => push_value(alloc, out, query, *time),
+        Report::Times(times) => push_times(alloc, out, clocks, query, times.as_slice()),
+        Report::Shown(path) => push_shown(alloc, out, clocks, query, path),
+        Report::Ends(rows) => push_ends(alloc, out, rows.as_slice()),
+    }
+}
