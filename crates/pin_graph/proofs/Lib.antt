@@ -1,11 +1,19 @@
 mod ArcLaws
 mod DriverLaws
+mod FanLaws
+mod GraphLaws
+mod GraphOf
+mod GraphPlaces
 mod JoinLaws
+mod LevelLaws
 mod LoopLaws
 mod Members
+mod MergeLaws
 mod NetworkLaws
+pub mod NodeLaws
 mod PinLaws
 mod PinNames
+mod PlaceLaws
 mod StartLaws
 mod TreeLaws
 mod WalkLaws

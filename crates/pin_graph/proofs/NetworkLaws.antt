@@ -308,7 +308,7 @@ module _ (s : Stored) (num : IsNumbered s) (linked : IsLinked s.design) (fault :
                 (ap (λ o. drives_as o p.dir) own ∙ parts.0),
           )
 
-  ports_begin : (p : Pin) (m : ℕ) → HasNumber s p m → list_any (nat_eq m) (clock_ports s) ≡ is_clock_port s.design p
+  pub ports_begin : (p : Pin) (m : ℕ) → HasNumber s p m → list_any (nat_eq m) (clock_ports s) ≡ is_clock_port s.design p
   ports_begin p m h =
       both_same (list_any (nat_eq m) (clock_ports s)) (is_clock_port s.design p)
       (λ e.

@@ -1,6 +1,12 @@
+pub mod Fans
+pub mod Graphs
 pub mod Joins
 pub mod Loops
 pub mod Networks
+pub mod NodeArcs
+pub mod NodeGraphs
+pub mod Nodes
 pub mod PinGraphs
+pub mod Placing
 pub mod Refusals
 pub mod Trees

@@ -1,14 +1,31 @@
-//! Checks of a design's timing graph, over the numbers of a store: that no walk over its arcs is
-//! cyclic, and that its clock network is a tree.
+//! The timing graph of a design over the numbers of a store, and its checks: that no walk over its arcs
+//! is cyclic, and that its clock network is a tree.
+//!
+//! The rise node of the pin with the number `n` has the number `2 n`, its fall node `2 n + 1`; a number
+//! whose pin is a gap is no node. Arcs are first found between pins (`drivers`, `pin_arcs`), with the
+//! pins' levels (`loops`), the clock network (`networks`) and its tree (`trees`). From these come the
+//! arcs between nodes that stand (`node_arcs`), one for several between the same two nodes (`merging`),
+//! side by side by their ends (`fans`), the nodes' levels (`node_levels`) and the places of the clock
+//! network's nodes (`places`). A `Graph` keeps a copy of its store, which shares the store's tables.
 #![tactic(auto)]
 
+mod arcs;
 mod checks;
 mod drivers;
+mod fans;
+mod graphs;
 mod loops;
+mod merging;
 mod networks;
+mod node_arcs;
+mod node_levels;
+mod nodes;
 mod pin_arcs;
 mod pin_links;
 mod pins;
+mod places;
 mod trees;
 
+pub use arcs::{GraphArc, GraphKind};
 pub use checks::check_graph;
+pub use graphs::Graph;

@@ -73,7 +73,7 @@ fn clock_port(store: &Store, clock: &Clock) -> Option<u32>
 
 /// The ports of the clocks.
 #[tactic(auto, using(crate::proofs::ArcLaws::first_mapped_more))]
-fn clock_ports(alloc: Global, store: &Store) -> Result<Items<u32>, Memory>
+pub(crate) fn clock_ports(alloc: Global, store: &Store) -> Result<Items<u32>, Memory>
     ensures { IfOk result (λ ports. ports ≡ clock_ports store.now) }
 {
     let mut ports = Items::new(alloc);

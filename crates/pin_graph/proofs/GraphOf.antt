@@ -1,0 +1,119 @@
+-- What is found of a design's nodes makes its graph.
+
+use Rattle.std.proofs.Common.{◌≡◌, ℕ, ◌+◌, ◌<◌, ◌==◌, Bool, List, map, filter, length, get_or, Option, None, Some, sym, ap, subst, ◌∙◌}
+use Rattle.std.specs.Prelude.{All}
+use Rattle.std.proofs.lemmas.List.Elements.{Contains-get_or}
+use Rattle.timing_defs.specs.Checks.{net_fault, clock_not_tree, HasNoLoop}
+use Rattle.netlist_store.specs.Linked.{IsLinked}
+use Rattle.netlist_store.specs.Numbering.{Stored, number_of, IsNumbered}
+use Rattle.levelizer.specs.Levels.{greatest, AreLevels}
+use Rattle.pin_graph.specs.declared.arcs.GraphArc.{GraphArc}
+use Rattle.pin_graph.specs.declared.fans.End.TheVariants.{From, To}
+use Rattle.pin_graph.specs.declared.graphs.NodeGraph.{NodeGraph}
+use Rattle.pin_graph.specs.declared.pin_arcs.PinArc.{PinArc}
+use Rattle.pin_graph.specs.declared.pins.PinGraph.{PinGraph}
+use Rattle.pin_graph.specs.Fans.{IsFanOf}
+use Rattle.pin_graph.specs.Graphs.{fan_at, from_of, to_of, AreArcs, AreNodeLevels, IsGraph}
+use Rattle.pin_graph.specs.Joins.{before, pin_arcs}
+use Rattle.pin_graph.specs.Networks.{clock_ports, IsNetwork}
+use Rattle.pin_graph.specs.NodeArcs.{node_arcs, node_link, AreNodes, AreMerged}
+use Rattle.pin_graph.specs.NodeGraphs.{graphed, IsNodeGraph}
+use Rattle.pin_graph.specs.Nodes.{node_bound}
+use Rattle.pin_graph.specs.PinGraphs.{IsPinGraph}
+use Rattle.pin_graph.specs.Placing.{ArePlaced}
+use Rattle.pin_graph.proofs.PinLaws.{told_at, below_bound}
+use Rattle.pin_graph.proofs.FanLaws.{room_holds, is_fan}
+use Rattle.pin_graph.proofs.JoinLaws.{net_arc_back, placed_back}
+use Rattle.pin_graph.proofs.NodeLaws.{raw_within}
+use Rattle.pin_graph.proofs.GraphLaws.{arcs_into, arcs_out_of}
+use Rattle.pin_graph.proofs.GraphPlaces.{places_are}
+use Rattle.pin_graph.proofs.LevelLaws.{before_node}
+
+module _ (s : Stored) (num : IsNumbered s) (linked : IsLinked s.design) where
+  pub before_low : (pin from : ℕ) → before s pin ≡ Some from → from < length s.pins
+  before_low pin from e = (net_arc_back s num linked from pin e).source_number.below
+
+  pub library_within : (network : List Bool) (library : List PinArc) → length network ≡ length s.pins → library ≡ pin_arcs s
+      → All (λ arc. (arc.from < length network) × (arc.to < length network)) library
+  library_within network library long is =
+      subst (λ (xs : List PinArc). All (λ arc. (arc.from < length network) × (arc.to < length network)) xs) (sym is)
+      (λ k d low.
+      let p = placed_back s num linked (get_or (pin_arcs s) k d) (Contains-get_or (pin_arcs s) k d low) in
+      (subst (λ (n : ℕ). (get_or (pin_arcs s) k d).from < n) (sym long) p.from_number.below, subst (λ (n : ℕ). (get_or (pin_arcs s) k d).to < n) (sym long) p.to_number.below))
+
+  module _ (network : List Bool) (net : IsNetwork s network) where
+    pub nodes_within : (n : ℕ) (raw : List GraphArc) → n ≡ node_bound s → raw ≡ node_arcs s network → AreNodes n raw
+    nodes_within n raw long is =
+        subst (λ (m : ℕ). AreNodes m raw) (sym long)
+        (subst (λ (xs : List GraphArc). AreNodes (node_bound s) xs) (sym is)
+        (λ k d low. raw_within s num linked network net (get_or (node_arcs s network) k d) (Contains-get_or (node_arcs s network) k d low)))
+
+    pub merged_as : (n : ℕ) (raw arcs : List GraphArc) → n ≡ node_bound s → raw ≡ node_arcs s network → AreMerged n raw arcs → AreMerged (node_bound s) (node_arcs s network) arcs
+    merged_as n raw arcs long is h =
+        subst (λ (xs : List GraphArc). AreMerged (node_bound s) xs arcs) is (subst (λ (m : ℕ). AreMerged m raw arcs) long h)
+
+    module _ (arcs : List GraphArc) (merged : AreMerged (node_bound s) (node_arcs s network) arcs) where
+      pub nodes_of : (n : ℕ) → n ≡ node_bound s → AreNodes n arcs
+      nodes_of n long = subst (λ (m : ℕ). AreNodes m arcs) (sym long) merged.nodes
+
+      levels_are : (nodes : NodeGraph) → ((t : ℕ) → t < node_bound s → fan_at nodes.ins t ≡ filter (λ arc. arc.to == t) arcs)
+          → AreLevels (node_bound s) (map node_link arcs) nodes.levels → AreNodeLevels (graphed s network nodes)
+      levels_are nodes ins_is are = record {
+        count = are.count;
+        level = λ node low.
+            are.level node low
+            ∙ ap greatest (before_node arcs (λ from. get_or nodes.levels from 0 + 1) node
+            ∙ ap (map (λ (arc : GraphArc). get_or nodes.levels arc.from 0 + 1)) (sym (ins_is node low)));
+      }
+
+      pub node_graph_is : (fault : net_fault s.design ≡ None) (nodes : NodeGraph) → IsFanOf (node_bound s) To arcs nodes.ins → IsFanOf (node_bound s) From arcs nodes.outs
+          → AreLevels (node_bound s) (map node_link arcs) nodes.levels → ArePlaced (node_bound s) network (clock_ports s) arcs nodes.levels nodes.places
+          → IsNodeGraph s network nodes
+      node_graph_is fault nodes ins outs are placed =
+          let ins_is : (t : ℕ) → t < node_bound s → fan_at nodes.ins t ≡ filter (λ arc. arc.to == t) arcs = λ t low. room_holds To (node_bound s) arcs nodes.ins ins t low in
+          let outs_is : (t : ℕ) → t < node_bound s → fan_at nodes.outs t ≡ filter (λ arc. arc.from == t) arcs = λ t low. room_holds From (node_bound s) arcs nodes.outs outs t low in
+          record {
+            in_fan = is_fan To (node_bound s) arcs nodes.ins ins;
+            out_fan = is_fan From (node_bound s) arcs nodes.outs outs;
+            ins = λ t low. subst (λ (xs : List GraphArc). AreArcs s to_of from_of t xs) (sym (ins_is t low)) (arcs_into s num linked network net arcs merged t low);
+            outs = λ t low. subst (λ (xs : List GraphArc). AreArcs s from_of to_of t xs) (sym (outs_is t low)) (arcs_out_of s num linked network net arcs merged t low);
+            levels = levels_are nodes ins_is are;
+            places = places_are s num linked fault network net arcs merged.nodes nodes ins_is are placed;
+          }
+
+      -- as the calls have it
+      pub node_graph_as : (fault : net_fault s.design ≡ None) (nodes : NodeGraph) (n : ℕ) (network2 : List Bool) (ports ports2 levels2 : List ℕ) → n ≡ node_bound s
+          → network2 ≡ network → ports ≡ clock_ports s → ports2 ≡ ports → levels2 ≡ nodes.levels
+          → IsFanOf n To arcs nodes.ins → IsFanOf n From arcs nodes.outs → AreLevels n (map node_link arcs) nodes.levels → ArePlaced n network2 ports2 arcs levels2 nodes.places
+          → IsNodeGraph s network nodes
+      node_graph_as fault nodes n network2 ports ports2 levels2 long a b c e ins outs are placed =
+          node_graph_is fault nodes (subst (λ (m : ℕ). IsFanOf m To arcs nodes.ins) long ins) (subst (λ (m : ℕ). IsFanOf m From arcs nodes.outs) long outs)
+          (subst (λ (m : ℕ). AreLevels m (map node_link arcs) nodes.levels) long are)
+          (subst (λ (ls : List ℕ). ArePlaced (node_bound s) network (clock_ports s) arcs ls nodes.places) e
+          (subst (λ (ps : List ℕ). ArePlaced (node_bound s) network ps arcs levels2 nodes.places) (c ∙ b)
+          (subst (λ (ns : List Bool). ArePlaced (node_bound s) ns ports2 arcs levels2 nodes.places) a
+          (subst (λ (m : ℕ). ArePlaced m network2 ports2 arcs levels2 nodes.places) long placed))))
+
+pub number_low : (names : List (Option (List ℕ))) (name : List ℕ) (n : ℕ) → Some n ≡ number_of names name → n < length names
+number_low names name n e = below_bound names name n (told_at names name n (sym e))
+
+pub ports_as : (s : Stored) (network network2 : List Bool) (ports ports2 : List ℕ) → All (λ q. q < length s.pins) (clock_ports s) → length network ≡ length s.pins → network2 ≡ network
+    → ports ≡ clock_ports s → ports2 ≡ ports → All (λ q. q < length network2) ports2
+ports_as s network network2 ports ports2 within long a b c =
+    subst (λ (ps : List ℕ). All (λ q. q < length network2) ps) (sym (c ∙ b)) (subst (λ (n : ℕ). All (λ q. q < n) (clock_ports s)) (sym (ap length a ∙ long)) within)
+
+pub graph_is : (s s2 : Stored) (pins : PinGraph) (nodes : NodeGraph) → s2 ≡ s → HasNoLoop s.design → clock_not_tree s.design ≡ None → IsPinGraph s pins → IsNodeGraph s pins.network nodes
+    → IsGraph (record { stored = s2; ins = nodes.ins; outs = nodes.outs; network = pins.network; levels = nodes.levels; places = nodes.places })
+graph_is s s2 pins nodes same no_loop tree are n =
+    subst (λ (t : Stored). IsGraph (record { stored = t; ins = nodes.ins; outs = nodes.outs; network = pins.network; levels = nodes.levels; places = nodes.places })) (sym same)
+    (record {
+      in_fan = n.in_fan;
+      out_fan = n.out_fan;
+      ins = n.ins;
+      outs = n.outs;
+      network = record { count = are.marked.count; each = are.marked.each };
+      levels = n.levels;
+      places = n.places;
+      no_loop = no_loop;
+      tree = tree;
+    })

@@ -1,0 +1,19 @@
+-- What is found of a design's nodes: arcs, levels and places.
+
+use Rattle.std.specs.Prelude.{ℕ, ◌<◌, Bool, List}
+use Rattle.netlist_store.specs.Numbering.{Stored}
+use Rattle.pin_graph.specs.declared.graphs.NodeGraph.{NodeGraph}
+use Rattle.pin_graph.specs.Nodes.{node_bound}
+use Rattle.pin_graph.specs.Graphs.{Graphed, fan_at, from_of, to_of, IsFan, AreArcs, AreNodeLevels, ArePlaces}
+
+abbrev pub graphed : Stored → List Bool → NodeGraph → Graphed
+graphed s network nodes =
+    record { stored = s; ins = nodes.ins; outs = nodes.outs; network = network; levels = nodes.levels; places = nodes.places }
+
+pub record IsNodeGraph (s : Stored) (network : List Bool) (nodes : NodeGraph) : Type 0 where
+  pub in_fan : IsFan (node_bound s) nodes.ins
+  pub out_fan : IsFan (node_bound s) nodes.outs
+  pub ins : (node : ℕ) → node < node_bound s → AreArcs s to_of from_of node (fan_at nodes.ins node)
+  pub outs : (node : ℕ) → node < node_bound s → AreArcs s from_of to_of node (fan_at nodes.outs node)
+  pub levels : AreNodeLevels (graphed s network nodes)
+  pub places : ArePlaces (graphed s network nodes)

@@ -1,0 +1,233 @@
+//! The timing graph of a design, by nodes.
+
+ghost use Rattle.std.specs.Prelude.{◌≡◌, ◌<◌, None, Some, if◌then◌else◌, IfOk, IfErr, IfSome};
+ghost use Rattle.timing_defs.specs.Checks.{net_fault, clock_not_tree, HasNoLoop};
+ghost use Rattle.netlist_store.specs.Numbering.{is_number};
+ghost use Rattle.pin_graph.specs.Refusals.{IsGraphRefused};
+ghost use Rattle.pin_graph.specs.Nodes.{node_bound, number_at, pin_under, tran_under};
+ghost use Rattle.pin_graph.specs.NodeArcs.{node_arcs, AreMerged};
+ghost use Rattle.pin_graph.specs.NodeGraphs.{IsNodeGraph};
+ghost use Rattle.pin_graph.specs.PinGraphs.{IsPinGraph};
+ghost use Rattle.pin_graph.specs.Graphs.{fan_at, network_at, level_at, place_at, IsGraph};
+
+use crate::arcs::GraphArc;
+use crate::fans::{End, Fan};
+use crate::merging::merged;
+use crate::networks::clock_ports;
+use crate::node_arcs::node_arcs;
+use crate::node_levels::node_levels;
+use crate::nodes::{node_number, pin_under, tran_under};
+use crate::pins::{PinGraph, pin_graph};
+use crate::places::places;
+use crate::trees::check_tree;
+use netlist_store::Store;
+use sta_units::Memory;
+use std::alloc::Global;
+use std::marker::Model;
+use timing_defs::{Fault, Items, Name, Tran};
+
+/// The timing graph of a store's design, over the numbers of nodes. Contracts see the store and, by
+/// number, the arcs into and out of each node, its level, its place, and which pins are of the clock
+/// network.
+#[derive(Debug, Drop)]
+pub struct Graph {
+    store: Store,
+    ins: Fan,
+    outs: Fan,
+    network: Items<bool>,
+    levels: Items<u32>,
+    places: Items<Option<u32>>,
+}
+
+impl Model for Graph {
+    ghost use Rattle.pin_graph.specs.Graphs.{Graphed, IsGraph};
+
+    ghost Value = { Graphed };
+
+    ghost view = { λ g. record { stored = g.store; ins = g.ins; outs = g.outs; network = g.network; levels = g.levels; places = g.places } };
+
+    ghost invariant = { λ g. IsGraph (record { stored = g.store; ins = g.ins; outs = g.outs; network = g.network; levels = g.levels; places = g.places }) };
+}
+
+/// What is found of nodes.
+#[derive(Debug, Drop)]
+struct NodeGraph {
+    ins: Fan,
+    outs: Fan,
+    levels: Items<u32>,
+    places: Items<Option<u32>>,
+}
+
+/// The arcs between nodes, one for all library arcs between the same two.
+fn merged_arcs(alloc: Global, store: &Store, pins: &PinGraph) -> Result<Items<GraphArc>, Memory>
+    requires { IsPinGraph store.now pins.now }
+    ensures { IfOk result (AreMerged (node_bound store.now) (node_arcs store.now pins.now.network)) }
+{
+    store.laws();
+    let raw = node_arcs(
+        alloc,
+        store,
+        pins.network.as_slice(),
+        pins.befores.as_slice(),
+        pins.arcs.as_slice(),
+    )?;
+    merged(alloc, 2 * store.pin_bound(), raw.as_slice())
+}
+
+/// The levels, places and arcs of nodes.
+fn node_graph(
+    alloc: Global,
+    store: &Store,
+    pins: &PinGraph,
+    arcs: &[GraphArc],
+) -> Result<NodeGraph, Memory>
+    requires fault { net_fault store.now.design ≡ None }
+    requires pins { IsPinGraph store.now pins.now }
+    requires arcs { AreMerged (node_bound store.now) (node_arcs store.now pins.now.network) arcs.now }
+    ensures { IfOk result (IsNodeGraph store.now pins.now.network) }
+{
+    store.laws();
+    let n = 2 * store.pin_bound();
+    let levels = node_levels(alloc, n, arcs)?;
+    let ports = clock_ports(alloc, store)?;
+    let places = places(
+        alloc,
+        n,
+        pins.network.as_slice(),
+        ports.as_slice(),
+        arcs,
+        levels.as_slice(),
+    )?;
+    let ins = Fan::of(alloc, n, End::To, arcs)?;
+    let outs = Fan::of(alloc, n, End::From, arcs)?;
+    Ok(NodeGraph {
+        ins,
+        outs,
+        levels,
+        places,
+    })
+}
+
+/// The graph of a store without a loop, whose clock network is a tree.
+fn graph_of(alloc: Global, store: &Store, pins: PinGraph) -> Result<Graph, Memory>
+    requires fault { net_fault store.now.design ≡ None }
+    requires no_loop { HasNoLoop store.now.design }
+    requires tree { clock_not_tree store.now.design ≡ None }
+    requires pins { IsPinGraph store.now pins }
+    ensures { IfOk result (λ graph. graph.stored ≡ store.now) }
+{
+    let arcs = merged_arcs(alloc, store, &pins)?;
+    let nodes = node_graph(alloc, store, &pins, arcs.as_slice())?;
+    let store = store.copy()?;
+    Ok(Graph {
+        store,
+        ins: nodes.ins,
+        outs: nodes.outs,
+        network: pins.network,
+        levels: nodes.levels,
+        places: nodes.places,
+    })
+}
+
+impl Graph {
+    /// The timing graph of a store. A design in which a walk over net arcs, combinational and edge arcs
+    /// is cyclic is refused by the names of the pins of one such walk (`E11`); else one whose clock
+    /// network is no tree, by the least name of a pin that breaks it (`E12`). Takes as many steps as
+    /// the design has pins and its cells have arcs, and those of sorting the network's nodes.
+    pub fn of(alloc: Global, store: &Store) -> Result<Graph, Fault>
+        requires { net_fault store.now.design ≡ None }
+        ensures graph { IfOk result (λ graph. graph.stored ≡ store.now) }
+        ensures refused { IfErr result (IsGraphRefused store.now.design) }
+    {
+        let pins = pin_graph(alloc, store)?;
+        check_tree(alloc, store, pins.network.as_slice(), pins.arcs.as_slice())?;
+        Ok(graph_of(alloc, store, pins)?)
+    }
+
+    /// What every graph keeps, told to the proofs of callers; the call does nothing.
+    pub fn laws(&self)
+        ensures { IsGraph self.now }
+    {
+        let _ = &self.levels;
+    }
+
+    /// A number above that of every node.
+    pub fn count(&self) -> u32
+        ensures { result ≡ node_bound self.now.stored }
+    {
+        2 * self.store.pin_bound()
+    }
+
+    /// The number of a pin's node; none exactly where no pin has that name. Takes no memory.
+    #[tactic(auto, using(crate::proofs::GraphOf::number_low))]
+    pub fn node(&self, pin: &Name, tran: Tran) -> Option<u32>
+        ensures value { result ≡ number_at self.now.stored pin.now tran }
+        ensures below { IfSome result (λ node. node < node_bound self.now.stored) }
+    {
+        self.store.laws();
+        let pin = self.store.pin(pin)?;
+        Some(node_number(pin, tran))
+    }
+
+    /// The store's number of a node's pin; none where the number is of no node. Takes no memory.
+    pub fn pin_of(&self, node: u32) -> Option<u32>
+        requires { node < node_bound self.now.stored }
+        ensures { result ≡ (if is_number self.now.stored.pins (pin_under node) then Some (pin_under node) else None) }
+    {
+        let pin = pin_under(node);
+        if self.store.has_pin(pin) {
+            Some(pin)
+        } else {
+            None
+        }
+    }
+
+    /// The transition of a node.
+    pub fn tran_of(&self, node: u32) -> Tran
+        requires { node < node_bound self.now.stored }
+        ensures { result ≡ tran_under node }
+    {
+        tran_under(node)
+    }
+
+    /// The arcs into a node; none of a number that is of no node. Takes no memory.
+    pub fn arcs_in(&self, node: u32) -> &[GraphArc]
+        requires { node < node_bound self.now.stored }
+        ensures { result.now ≡ fan_at self.now.ins node }
+    {
+        self.ins.at(node)
+    }
+
+    /// The arcs out of a node; none of a number that is of no node. Takes no memory.
+    pub fn arcs_out(&self, node: u32) -> &[GraphArc]
+        requires { node < node_bound self.now.stored }
+        ensures { result.now ≡ fan_at self.now.outs node }
+    {
+        self.outs.at(node)
+    }
+
+    /// Whether a node is of the clock network.
+    pub fn is_network(&self, node: u32) -> bool
+        requires { node < node_bound self.now.stored }
+        ensures { result ≡ network_at self.now node }
+    {
+        self.network.as_slice()[pin_under(node) as usize]
+    }
+
+    /// The level of a node: 0 without arcs in, else one more than its greatest predecessor's.
+    pub fn level(&self, node: u32) -> u32
+        requires { node < node_bound self.now.stored }
+        ensures { result ≡ level_at self.now node }
+    {
+        self.levels.as_slice()[node as usize]
+    }
+
+    /// The place of a node in the clock network, lower than those of the nodes behind it; none exactly
+    /// where no walk over network nodes leads to it from a clock port's node.
+    pub fn place(&self, node: u32) -> Option<u32>
+        requires { node < node_bound self.now.stored }
+        ensures { result ≡ place_at self.now node }
+    {
+        self.places.as_slice()[node as usize]
+    }
+}
