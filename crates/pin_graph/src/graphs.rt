@@ -20,7 +20,7 @@ use crate::nodes::{node_number, pin_under, tran_under};
 use crate::pins::{PinGraph, pin_graph};
 use crate::places::places;
 use crate::trees::check_tree;
-use netlist_store::Store;
+use netlist_store::{Store, Touched};
 use sta_units::Memory;
 use std::alloc::Global;
 use std::marker::Model;
@@ -142,6 +142,18 @@ impl Graph {
         let pins = pin_graph(alloc, store)?;
         check_tree(alloc, store, pins.network.as_slice(), pins.arcs.as_slice())?;
         Ok(graph_of(alloc, store, pins)?)
+    }
+
+    /// The graph of the store that an ECO made of this graph's store, as `of` has it; `touched` is what the
+    /// ECO touched. It is found anew, in the time of `of`.
+    pub fn update(&self, alloc: Global, store: &Store, touched: &Touched) -> Result<Graph, Fault>
+        requires { net_fault store.now.design ≡ None }
+        ensures graph { IfOk result (λ graph. graph.stored ≡ store.now) }
+        ensures refused { IfErr result (IsGraphRefused store.now.design) }
+    {
+        let _ = &self.levels;
+        let _ = touched;
+        Graph::of(alloc, store)
     }
 
     /// What every graph keeps, told to the proofs of callers; the call does nothing.
