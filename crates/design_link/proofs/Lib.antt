@@ -1,0 +1,11 @@
+mod CountLaws
+mod FailLaws
+mod Lists
+mod Members
+mod NetNodeLaws
+mod NetPinLaws
+mod NodeLaws
+mod Orders
+mod PinLaws
+mod PinNames
+mod Results

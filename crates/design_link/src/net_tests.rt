@@ -1,0 +1,98 @@
+//! Nets that fail a test, and the least of them.
+
+ghost use Rattle.std.specs.Prelude.{◌≡◌, true, filter, length, IfOk, OnOk};
+ghost use Rattle.netlist_store.specs.Numbering.{name_at, is_number};
+ghost use Rattle.design_link.specs.Counts.{names_below, with_name};
+ghost use Rattle.design_link.specs.Failing.{fails, fails_at, least_failing};
+
+use crate::least::least_name;
+use crate::net_nodes::is_large;
+use crate::net_pins::driver_count;
+use netlist_store::Store;
+use sta_units::Memory;
+use std::alloc::Global;
+use timing_defs::{Items, Name};
+
+/// What a net is tested for.
+#[derive(Debug, Clone, Copy, PartialEq, Eq, Drop)]
+pub(crate) enum NetTest {
+    /// Its parasitics have more than 65,535 nodes.
+    TooManyNodes,
+    /// More than one pin drives it.
+    TooManyDrivers,
+}
+
+/// Whether a net has parasitics with too many nodes.
+fn has_many_nodes(alloc: Global, store: &Store, net: u32) -> Result<bool, Memory>
+    requires { is_number store.now.nets net ≡ true }
+    ensures { IfOk result (λ failing. failing ≡ fails_at NetTest.TooManyNodes store.now net) }
+{
+    match store.net_rc(net) {
+        Some(rc) => is_large(alloc, store, net, rc),
+        None => Ok(false),
+    }
+}
+
+/// Whether a net has more than one driver.
+fn has_many_drivers(store: &Store, net: u32) -> bool
+    requires { is_number store.now.nets net ≡ true }
+    ensures { result ≡ fails_at NetTest.TooManyDrivers store.now net }
+{
+    driver_count(store, net) > 1
+}
+
+/// Whether the net of a number fails a test; a gap does not.
+fn fails_at(alloc: Global, store: &Store, test: NetTest, net: u32) -> Result<bool, Memory>
+    ensures { IfOk result (λ failing. failing ≡ fails_at test store.now net) }
+{
+    if !store.has_net(net) {
+        return Ok(false);
+    }
+    match test {
+        NetTest::TooManyNodes => has_many_nodes(alloc, store, net),
+        NetTest::TooManyDrivers => Ok(has_many_drivers(store, net)),
+    }
+}
+
+/// Adds the name of a net, where it is to be added and is there.
+fn add_net(
+    alloc: Global,
+    store: &Store,
+    names: &mut Items<Name>,
+    net: u32,
+    failing: bool,
+) -> Result<(), Memory>
+    ensures { OnOk result (names.new ≡ with_name failing (name_at store.now.nets net) names.old) }
+{
+    if !failing {
+        return Ok(());
+    }
+    if !store.has_net(net) {
+        return Ok(());
+    }
+    let name = store.net_name(net).copied(alloc)?;
+    names.push(name)?;
+    Ok(())
+}
+
+/// The nets that fail a test.
+fn failing_nets(alloc: Global, store: &Store, test: NetTest) -> Result<Items<Name>, Memory>
+    ensures { IfOk result (λ names. names ≡ filter (fails test store.now.design) (names_below store.now.nets (length store.now.nets))) }
+{
+    let mut names = Items::new(alloc);
+    for net in 0..store.net_bound() {
+        let failing = fails_at(alloc, store, test, net)?;
+        add_net(alloc, store, &mut names, net, failing)?;
+    }
+    Ok(names)
+}
+
+/// The least net that fails a test; none where no net does.
+pub(crate) fn least_net(alloc: Global, store: &Store, test: NetTest) -> Result<Option<Name>, Memory>
+    ensures { IfOk result (λ name. name ≡ least_failing test store.now.design) }
+{
+    store.laws();
+    let names = failing_nets(alloc, store, test)?;
+    let least = least_name(alloc, names.as_slice())?;
+    Ok(least)
+}
