@@ -1,0 +1,3 @@
+pub mod ArcLaws
+pub mod PortLaws
+pub mod ResultLaws
