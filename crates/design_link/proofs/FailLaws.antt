@@ -15,12 +15,12 @@ use Rattle.timing_defs.specs.declared.faults.Large.TheVariants.{Net as large_net
 use Rattle.timing_defs.specs.Netlist.{pins, is_listed, are_distinct}
 use Rattle.timing_defs.specs.Edits.{first_fault, unless, link_inst, link_net}
 use Rattle.timing_defs.specs.Wires.{first_some, rc_of}
-use Rattle.timing_defs.specs.Checks.{most, is_large_net, nets_where, least, large, many_drivers, first_of_two, net_fault}
+use Rattle.timing_defs.specs.Checks.{most, is_large_net, is_tree, pins_agree, nets_where, least, large, many_drivers, first_of_two, net_fault}
 use Rattle.netlist_store.specs.Linked.{is_net_rc, IsLinked}
 use Rattle.netlist_store.specs.Numbering.{Stored, IsNumbered}
 use Rattle.netlist_store.specs.Applying.{IsChecked}
 use Rattle.design_link.specs.declared.net_tests.NetTest.{NetTest}
-use Rattle.design_link.specs.declared.net_tests.NetTest.TheVariants.{TooManyNodes, TooManyDrivers}
+use Rattle.design_link.specs.declared.net_tests.NetTest.TheVariants.{TooManyNodes, TooManyDrivers, NoTree, OtherPins}
 use Rattle.design_link.specs.Counts.{names_below, large_count}
 use Rattle.design_link.specs.Failing.{rc_that, is_crowded, fails, least_failing}
 use Rattle.design_link.proofs.PinNames.{same_is}
@@ -104,6 +104,8 @@ module _ (s : Stored) (num : IsNumbered s) (linked : IsLinked s.design) where
   pub least_found : (test : NetTest) → least (filter (fails test s.design) (names_below s.nets (length s.nets))) ≡ least_failing test s.design
   least_found TooManyNodes = least_where (is_large_net s.design)
   least_found TooManyDrivers = least_of_nets (is_crowded s.design)
+  least_found NoTree = least_where (λ rc. not (is_tree s.design rc))
+  least_found OtherPins = least_where (λ rc. not (pins_agree s.design rc))
 
 -- too large by counts, or else by nodes
 large_parts : (d : Design) → large d ≡ option_map_or Some (large_count d) (option_map large_net (least (nets_where (is_large_net d) d)))
@@ -149,3 +151,16 @@ module _ (d : Design) where
       whole =
           ap (λ o. first_of_two (option_map TooLarge o) (option_map ManyDrivers (many_drivers d))) (large_by_nodes a)
           ∙ ap (λ o. first_of_two o (option_map ManyDrivers (many_drivers d))) b
+
+-- two checks, one after the other
+pub first_of : (fault : Fault) (a b : Option Fault) → (fault ≡ Memory) ⊎ (a ≡ Some fault) → (fault ≡ Memory) ⊎ (first_of_two a b ≡ Some fault)
+first_of fault a b (inl e) = inl e
+first_of fault a b (inr e) = inr (ap (λ o. first_of_two o b) e)
+
+pub second_of : (fault : Fault) (a b c : Option Fault) → a ≡ None → (fault ≡ Memory) ⊎ (b ≡ Some fault) → (fault ≡ Memory) ⊎ (first_of_two a (first_of_two b c) ≡ Some fault)
+second_of fault a b c none (inl e) = inl e
+second_of fault a b c none (inr e) = inr (ap (λ o. first_of_two o (first_of_two b c)) none ∙ ap (λ o. first_of_two o c) e)
+
+pub last_of : (r : Result (Unit {0}) Fault) (a b c : Option Fault) → a ≡ None → b ≡ None → IsChecked r c → IsChecked r (first_of_two a (first_of_two b c))
+last_of r a b c none also told =
+    subst (λ o. IsChecked r o) (sym (ap (λ o. first_of_two o (first_of_two b c)) none ∙ ap (λ o. first_of_two o c) also)) told

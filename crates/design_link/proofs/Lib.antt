@@ -1,4 +1,5 @@
 mod CountLaws
+mod DanglingLaws
 mod FailLaws
 mod Lists
 mod Members
@@ -8,4 +9,8 @@ mod NodeLaws
 mod Orders
 mod PinLaws
 mod PinNames
+mod RcPinLaws
+mod RootedLaws
+mod WordLaws
 mod Results
+mod TreeLaws

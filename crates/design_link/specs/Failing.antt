@@ -1,15 +1,15 @@
 -- Nets that fail a test, and the least of them by bytes.
 
-use Rattle.std.specs.Prelude.{ℕ, ◌≡◌, nat_lt, Bool, false, List, length, Option, Some, option_and_then}
+use Rattle.std.specs.Prelude.{ℕ, ◌≡◌, nat_lt, Bool, false, not, List, length, Option, None, Some, option_and_then}
 use Rattle.std.specs.Option.{option_map_or}
 use Rattle.timing_defs.specs.declared.parasitics.NetRc.{NetRc}
 use Rattle.timing_defs.specs.declared.design.Design.{Design}
 use Rattle.timing_defs.specs.Netlist.{drivers}
 use Rattle.timing_defs.specs.Wires.{rc_of}
-use Rattle.timing_defs.specs.Checks.{is_large_net, nets_where, least, many_drivers}
+use Rattle.timing_defs.specs.Checks.{is_large_net, nets_where, least, many_drivers, is_tree, rc_not_tree, pins_agree, rc_pins_differ, net_fault}
 use Rattle.netlist_store.specs.Numbering.{Stored, name_at}
 use Rattle.design_link.specs.declared.net_tests.NetTest.{NetTest}
-use Rattle.design_link.specs.declared.net_tests.NetTest.TheVariants.{TooManyNodes, TooManyDrivers}
+use Rattle.design_link.specs.declared.net_tests.NetTest.TheVariants.{TooManyNodes, TooManyDrivers, NoTree, OtherPins}
 
 -- the parasitics of a net fail a test, where it has some
 abbrev pub rc_that : (NetRc → Bool) → Design → List ℕ → Bool
@@ -22,11 +22,22 @@ is_crowded d net = nat_lt 1 (length (drivers d net))
 abbrev pub fails : NetTest → Design → List ℕ → Bool
 fails TooManyNodes d net = rc_that (is_large_net d) d net
 fails TooManyDrivers d net = is_crowded d net
+fails NoTree d net = rc_that (λ rc. not (is_tree d rc)) d net
+fails OtherPins d net = rc_that (λ rc. not (pins_agree d rc)) d net
 
 -- the least net that fails a test
 abbrev pub least_failing : NetTest → Design → Option (List ℕ)
 least_failing TooManyNodes d = least (nets_where (is_large_net d) d)
 least_failing TooManyDrivers d = many_drivers d
+least_failing NoTree d = rc_not_tree d
+least_failing OtherPins d = rc_pins_differ d
+
+-- whether a net is a tree is asked of a design of which no net has two drivers
+abbrev pub IsReadyFor : NetTest → Design → Type 0
+IsReadyFor TooManyNodes d = Unit {0}
+IsReadyFor TooManyDrivers d = Unit {0}
+IsReadyFor NoTree d = net_fault d ≡ None
+IsReadyFor OtherPins d = Unit {0}
 
 -- whether the net of a number fails a test; a gap does not
 abbrev pub fails_at : NetTest → Stored → ℕ → Bool

@@ -3,10 +3,15 @@
 
 mod checks;
 mod counts;
+mod dangling;
 mod least;
 mod net_nodes;
 mod net_pins;
 mod net_tests;
 mod node_sets;
+mod objects;
+mod pin_words;
+mod rc_pins;
+mod rooted;
 
-pub use checks::check_nets;
+pub use checks::{check_data, check_nets};

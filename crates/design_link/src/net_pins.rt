@@ -1,7 +1,8 @@
 //! The pins on a net, and those that drive it.
 
-ghost use Rattle.std.specs.Prelude.{◌≡◌, ◌≤◌, ℕ, All, Contains, Some, true, length, count_by, nat_eq, option_map, if◌then◌else◌};
-ghost use Rattle.timing_defs.specs.Netlist.{same_dir, is_driver, drivers};
+ghost use Rattle.std.specs.Prelude.{◌≡◌, ◌≤◌, ℕ, All, Contains, Some, true, length, count_by, nat_eq, option_map, option_and_then, None, IfSome, if◌then◌else◌};
+ghost use Rattle.timing_defs.specs.Netlist.{same_dir, is_driver, drivers, driver};
+ghost use Rattle.timing_defs.specs.Checks.{net_fault};
 ghost use Rattle.netlist_store.specs.Numbering.{name_at, is_number, is_on_number, pin_numbered};
 ghost use Rattle.design_link.specs.Nodes.{drives_at};
 
@@ -64,4 +65,20 @@ pub(crate) fn driver_count(store: &Store, net: u32) -> usize
         count += one_if(is_driving(store, *pin));
     }
     count
+}
+
+/// The driver of a net of which there is at most one; none where it has none.
+pub(crate) fn net_driver(store: &Store, net: u32) -> Option<u32>
+    requires net { is_number store.now.nets net ≡ true }
+    requires fault { net_fault store.now.design ≡ None }
+    ensures number { IfSome result (λ pin. is_number store.now.pins pin ≡ true) }
+    ensures driver { option_and_then (pin_numbered store.now) result ≡ option_and_then (driver store.now.design) (name_at store.now.nets net) }
+{
+    store.laws();
+    for pin in pins_on(store, net) {
+        if drives(store, *pin) {
+            return Some(*pin);
+        }
+    }
+    None
 }

@@ -1,17 +1,20 @@
 //! Nets that fail a test, and the least of them.
 
-ghost use Rattle.std.specs.Prelude.{◌≡◌, true, filter, length, IfOk, OnOk};
+ghost use Rattle.std.specs.Prelude.{◌≡◌, None, true, not, filter, length, IfOk, OnOk};
+ghost use Rattle.timing_defs.specs.Checks.{is_tree, pins_agree, net_fault};
 ghost use Rattle.netlist_store.specs.Numbering.{name_at, is_number};
 ghost use Rattle.design_link.specs.Counts.{names_below, with_name};
-ghost use Rattle.design_link.specs.Failing.{fails, fails_at, least_failing};
+ghost use Rattle.design_link.specs.Failing.{IsRcOf, IsReadyFor, fails, fails_at, least_failing};
 
 use crate::least::least_name;
 use crate::net_nodes::is_large;
-use crate::net_pins::driver_count;
+use crate::net_pins::{driver_count, net_driver};
+use crate::rc_pins::pins_agree;
+use crate::rooted::is_rooted;
 use netlist_store::Store;
 use sta_units::Memory;
 use std::alloc::Global;
-use timing_defs::{Items, Name};
+use timing_defs::{Items, Name, NetRc};
 
 /// What a net is tested for.
 #[derive(Debug, Clone, Copy, PartialEq, Eq, Drop)]
@@ -20,6 +23,10 @@ pub(crate) enum NetTest {
     TooManyNodes,
     /// More than one pin drives it.
     TooManyDrivers,
+    /// Its parasitics are no tree from its driver.
+    NoTree,
+    /// Its parasitics do not name its pins.
+    OtherPins,
 }
 
 /// Whether a net has parasitics with too many nodes.
@@ -41,8 +48,67 @@ fn has_many_drivers(store: &Store, net: u32) -> bool
     driver_count(store, net) > 1
 }
 
+/// Whether the parasitics of a net are a tree from its driver.
+fn is_tree(alloc: Global, store: &Store, net: u32, rc: &NetRc) -> Result<bool, Memory>
+    requires net { is_number store.now.nets net ≡ true }
+    requires rc { IsRcOf store.now net rc.now }
+    requires fault { net_fault store.now.design ≡ None }
+    ensures { IfOk result (λ tree. tree ≡ is_tree store.now.design rc.now) }
+{
+    store.laws();
+    match net_driver(store, net) {
+        Some(pin) => is_rooted(alloc, rc, store.pin_name(pin)),
+        None => Ok(false),
+    }
+}
+
+/// Whether the parasitics of a net are no tree.
+fn is_no_tree(alloc: Global, store: &Store, net: u32, rc: &NetRc) -> Result<bool, Memory>
+    requires net { is_number store.now.nets net ≡ true }
+    requires rc { IsRcOf store.now net rc.now }
+    requires fault { net_fault store.now.design ≡ None }
+    ensures { IfOk result (λ failing. failing ≡ not (is_tree store.now.design rc.now)) }
+{
+    let tree = is_tree(alloc, store, net, rc)?;
+    Ok(!tree)
+}
+
+/// Whether the parasitics of a net do not name its pins.
+fn pins_differ(alloc: Global, store: &Store, net: u32, rc: &NetRc) -> Result<bool, Memory>
+    requires net { is_number store.now.nets net ≡ true }
+    requires rc { IsRcOf store.now net rc.now }
+    ensures { IfOk result (λ failing. failing ≡ not (pins_agree store.now.design rc.now)) }
+{
+    let agree = pins_agree(alloc, store, net, rc)?;
+    Ok(!agree)
+}
+
+/// Whether a net has parasitics that are no tree.
+fn has_no_tree(alloc: Global, store: &Store, net: u32) -> Result<bool, Memory>
+    requires net { is_number store.now.nets net ≡ true }
+    requires fault { net_fault store.now.design ≡ None }
+    ensures { IfOk result (λ failing. failing ≡ fails_at NetTest.NoTree store.now net) }
+{
+    match store.net_rc(net) {
+        Some(rc) => is_no_tree(alloc, store, net, rc),
+        None => Ok(false),
+    }
+}
+
+/// Whether a net has parasitics that do not name its pins.
+fn has_other_pins(alloc: Global, store: &Store, net: u32) -> Result<bool, Memory>
+    requires { is_number store.now.nets net ≡ true }
+    ensures { IfOk result (λ failing. failing ≡ fails_at NetTest.OtherPins store.now net) }
+{
+    match store.net_rc(net) {
+        Some(rc) => pins_differ(alloc, store, net, rc),
+        None => Ok(false),
+    }
+}
+
 /// Whether the net of a number fails a test; a gap does not.
 fn fails_at(alloc: Global, store: &Store, test: NetTest, net: u32) -> Result<bool, Memory>
+    requires { IsReadyFor test store.now.design }
     ensures { IfOk result (λ failing. failing ≡ fails_at test store.now net) }
 {
     if !store.has_net(net) {
@@ -51,6 +117,8 @@ fn fails_at(alloc: Global, store: &Store, test: NetTest, net: u32) -> Result<boo
     match test {
         NetTest::TooManyNodes => has_many_nodes(alloc, store, net),
         NetTest::TooManyDrivers => Ok(has_many_drivers(store, net)),
+        NetTest::NoTree => has_no_tree(alloc, store, net),
+        NetTest::OtherPins => has_other_pins(alloc, store, net),
     }
 }
 
@@ -77,6 +145,7 @@ fn add_net(
 
 /// The nets that fail a test.
 fn failing_nets(alloc: Global, store: &Store, test: NetTest) -> Result<Items<Name>, Memory>
+    requires { IsReadyFor test store.now.design }
     ensures { IfOk result (λ names. names ≡ filter (fails test store.now.design) (names_below store.now.nets (length store.now.nets))) }
 {
     let mut names = Items::new(alloc);
@@ -89,6 +158,7 @@ fn failing_nets(alloc: Global, store: &Store, test: NetTest) -> Result<Items<Nam
 
 /// The least net that fails a test; none where no net does.
 pub(crate) fn least_net(alloc: Global, store: &Store, test: NetTest) -> Result<Option<Name>, Memory>
+    requires { IsReadyFor test store.now.design }
     ensures { IfOk result (λ name. name ≡ least_failing test store.now.design) }
 {
     store.laws();

@@ -4,7 +4,7 @@ ghost use Rattle.std.specs.Prelude.{◌≡◌, ◌∷◌, ◌++◌, [], ℕ, map
 ghost use Rattle.std.specs.List.{flat_map};
 ghost use Rattle.timing_defs.specs.declared.parasitics.RcNode.TheVariants.{Pin as rc_pin, Inner as rc_inner};
 ghost use Rattle.timing_defs.specs.Checks.{different};
-ghost use Rattle.design_link.specs.Nodes.{nodes_in, HaveSameNodes};
+ghost use Rattle.design_link.specs.Nodes.{is_node, nodes_in, HaveSameNodes};
 
 use indexmap::IndexSet;
 use sta_units::Memory;
@@ -101,5 +101,12 @@ impl NodeSet {
         ensures { result ≡ different [] (nodes_in self.now) }
     {
         self.pins.len() + self.inners.len()
+    }
+
+    /// Whether a pin is there.
+    pub(crate) fn has_pin(&self, pin: &Name) -> bool
+        ensures { result ≡ is_node (nodes_in self.now) (rc_pin pin.now) }
+    {
+        self.pins.contains(pin)
     }
 }

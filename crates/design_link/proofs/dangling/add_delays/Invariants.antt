@@ -1,0 +1,6 @@
+use Rattle.std.proofs.Common.{◌≡◌, ◌++◌, map, take}
+use Rattle.timing_defs.specs.Checks.{not_ports}
+use Rattle.design_link.proofs.dangling.add_delays.Given as goal
+
+abbrev pub invariant-loop-delay : goal.invariant-loop-delay
+invariant-loop-delay l = l.names ≡ l.initial.names ++ not_ports l.store.design l.dir (map (λ i. i.port) (take l.delay-index l.delays))

@@ -1,0 +1,16 @@
+use Rattle.std.proofs.Common.{◌≡◌, ◌∙◌, not, sym}
+use Rattle.timing_defs.specs.declared.parasitics.NetRc.{NetRc}
+use Rattle.timing_defs.specs.Checks.{pins_agree}
+use Rattle.design_link.specs.declared.net_tests.NetTest.TheVariants.{OtherPins}
+use Rattle.design_link.specs.Failing.{fails_at}
+use Rattle.design_link.proofs.NetNodeLaws.{rc_test, no_rc_test}
+use Rattle.design_link.proofs.Results.{if_ok}
+use Rattle.design_link.proofs.net_tests.has_other_pins.Goals as goal
+
+pub returns-in-Some : goal.returns-in-Some
+returns-in-Some c =
+    if_ok c.pins_differ.result (λ x. x ≡ (λ (r : NetRc). not (pins_agree c.args.store.now.design r)) c.in-Some.rc.now) (λ x. x ≡ fails_at OtherPins c.args.store.now c.args.net)
+    (λ x e. e ∙ rc_test c.args.store.now (λ (r : NetRc). not (pins_agree c.args.store.now.design r)) c.args.net c.in-Some.rc.now (sym c.in-Some.ensures)) c.pins_differ.ensures
+
+pub returns-in-None : goal.returns-in-None
+returns-in-None c = no_rc_test c.args.store.now (λ (r : NetRc). not (pins_agree c.args.store.now.design r)) c.args.net (sym c.in-None.ensures)

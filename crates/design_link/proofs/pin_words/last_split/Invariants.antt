@@ -1,0 +1,12 @@
+use Rattle.std.proofs.Common.{◌≡◌, ℕ, ◌<◌, ◌≤◌, false, length, get_or}
+use Rattle.timing_defs.specs.Rules.{is_split}
+use Rattle.design_link.proofs.pin_words.last_split.Given as goal
+
+abbrev pub invariant-loop-end : goal.invariant-loop-end
+invariant-loop-end l = record {
+  within : l.end ≤ length l.word;
+  clear : (k : ℕ) → l.end ≤ k → k < length l.word → is_split (get_or l.word k 0) ≡ false;
+}
+
+abbrev pub decreases-loop-end : goal.decreases-loop-end
+decreases-loop-end l = l.end
