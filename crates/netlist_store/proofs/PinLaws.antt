@@ -114,7 +114,7 @@ pub record FirstPin (c : Cell) (dir : Dir) : Type 0 where
   pub same : same_dir its_dir dir ≡ true
 
 module _ (c : Cell) (distinct : are_distinct (map (λ p. p.name) c.pins) ≡ true) where
-  first_is : (dir : Dir) → nat_eq (length (pins_of_dir dir c)) 1 ≡ true → FirstPin c dir
+  pub first_is : (dir : Dir) → nat_eq (length (pins_of_dir dir c)) 1 ≡ true → FirstPin c dir
   first_is dir h =
       let found = one_found (λ p. same_dir p.dir dir) c.pins h in
       let called : first_pin dir c ≡ found.0.name = ap (λ o. option_map_or (λ p. p.name) o []) found.1 in
@@ -130,7 +130,7 @@ one_way : (dir : Dir) → same_dir dir Input ≡ true → same_dir dir Output �
 one_way Input h k = false≢true k
 one_way Output h k = false≢true h
 
-apart_pins : (c : Cell) → FirstPin c Input → FirstPin c Output → bytes_eq (first_pin Input c) (first_pin Output c) ≡ false
+pub apart_pins : (c : Cell) → FirstPin c Input → FirstPin c Output → bytes_eq (first_pin Input c) (first_pin Output c) ≡ false
 apart_pins c one two = elim (cases_Bool (bytes_eq (first_pin Input c) (first_pin Output c))) [
   | inl e ↦
       let names = same_is (first_pin Input c) (first_pin Output c) e in
@@ -153,7 +153,7 @@ abbrev buffer_with : List ℕ → List ℕ → List ℕ → List ℕ → Option 
 buffer_with net inst fresh cell o = record { name = inst; cell = cell; conns = option_map_or (buffer_conns net fresh) o [] }
 
 module _ (d : Design) (linked : IsLinked d) where
-  distinct_pins : (cell : List ℕ) (c : Cell) → cell_for d cell ≡ Some c → are_distinct (map (λ p. p.name) c.pins) ≡ true
+  pub distinct_pins : (cell : List ℕ) (c : Cell) → cell_for d cell ≡ Some c → are_distinct (map (λ p. p.name) c.pins) ≡ true
   distinct_pins cell c usable =
       let cells = and_parts _ (list_all is_cell d.late.cells) linked.late in
       let ok : is_cell c ≡ true = found_keeps (λ x. bytes_eq x.name cell) is_cell d.late.cells c cells.1 (usable_late d.early d.late cell c usable) in

@@ -33,7 +33,7 @@ after_is [] own h = rw h refl
 after_is (b ∷ bs) own h = rw (colon_in bs own) (after_is bs own h)
 
 -- the first of two lists that has one
-found_in : {X : Type 0} (test : X → Bool) (xs ys : List X) → find test xs ≡ None → find test (xs ++ ys) ≡ find test ys
+pub found_in : {X : Type 0} (test : X → Bool) (xs ys : List X) → find test xs ≡ None → find test (xs ++ ys) ≡ find test ys
 found_in test [] ys h = refl
 found_in test (x ∷ xs) ys h = elim (cases_Bool (test x)) [
   | inl e ↦ let f = rw e at h in absurd (cc)
@@ -54,7 +54,7 @@ module _ (inst own name : List ℕ) (plain : has_colon own ≡ false) (colon : h
       ∙ ap (λ xs. bytes_eq (inst ++ 58 ∷ own) (inst ++ 58 ∷ xs)) (sym f)
       ∙ same_self (inst ++ 58 ∷ own)
 
-  other_inst : bytes_eq inst (before_last name) ≡ false → bytes_eq (inst ++ 58 ∷ own) name ≡ false
+  pub other_inst : bytes_eq inst (before_last name) ≡ false → bytes_eq (inst ++ 58 ∷ own) name ≡ false
   other_inst apart = elim (cases_Bool (bytes_eq (inst ++ 58 ∷ own) name)) [
     | inl h ↦
         let p = parts_same h in
@@ -62,7 +62,7 @@ module _ (inst own name : List ℕ) (plain : has_colon own ≡ false) (colon : h
     | inr h ↦ h
   ]
 
-  same_inst : inst ≡ before_last name → bytes_eq (inst ++ 58 ∷ own) name ≡ bytes_eq own (after_last name)
+  pub same_inst : inst ≡ before_last name → bytes_eq (inst ++ 58 ∷ own) name ≡ bytes_eq own (after_last name)
   same_inst e = elim (cases_Bool (bytes_eq own (after_last name))) [
     | inl h ↦ parts_make e (same_is own (after_last name) h) ∙ sym h
     | inr h ↦ elim (cases_Bool (bytes_eq (inst ++ 58 ∷ own) name)) [

@@ -1,5 +1,6 @@
 pub mod Applying
 pub mod Building
+pub mod Drafts
 pub mod Linked
 pub mod Numbering
 pub mod Orders

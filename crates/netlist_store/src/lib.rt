@@ -1,6 +1,5 @@
 //! The design as a store: instances, nets and pins by numbers, and copies that share what neither
-//! changes. `Store::of` makes a store of a linked design. A store is not yet edited here; what is said
-//! below of edits is what the tables are made for.
+//! changes. `Store::of` makes a store of a linked design, and `Store::apply` a new one of an ECO.
 //!
 //! # What a store keeps
 //!
@@ -13,10 +12,9 @@
 //!   a library with an `IndexMap` from names to places.
 //! - `Numbering`, one for each kind: the name of each number, in a `CowTable`, and a `NameMap` back.
 //!   A `NameMap` is an `IndexMap` cut into 16,381 shards by a hash of the name. Versions share the
-//!   shards, and an edit copies the few that it changes; a resize copies none. A gap holds the next
-//!   gap, so numbers are used again at constant cost. Numbers that an ECO frees are released when it
-//!   ends, and a name that comes back within it gets its old number: thus a number of the base never
-//!   stands for another name in the edited store.
+//!   shards, and an edit copies the few that it changes; a resize copies none. A name that goes leaves
+//!   a gap, and one that comes back within the ECO gets its old number: thus a number of the base
+//!   never stands for another name in the edited store. Gaps are not yet used for other names.
 //! - `insts`, `rcs`, `net_pins`, `pins`: by numbers, what is known of each. `insts` and `rcs` hold
 //!   the `Inst` and the `NetRc` of the design. `net_pins` lists the pins on a net. `pins` has the
 //!   owner, the net and the direction of each pin. Rows are held by `Arc`, so the copy of a chunk
@@ -38,6 +36,16 @@
 //! is its place in the design: pins in the order of the ports, then of the instances and, within one,
 //! of its cell. A net's pins are found by one pass over the rows of the pins.
 //!
+//! # How a store is edited
+//!
+//! `ecos` goes over the edits of an ECO: `edit_checks` finds the first fault of an edit, `touched`
+//! adds what it touches, and `edit_steps` makes the store after it. Each effect is a function of a
+//! store by value, whose contract says what the whole design and the numbers are afterwards:
+//! `rc_edits`, `net_edits`, `join_edits` (a pin joins a net, or leaves it), `gate_edits`,
+//! `gate_removals`, `cell_edits` and `buffer_edits`. A buffer is a net that comes, sinks that join it,
+//! a gate that comes, and its two pins that join nets. `proofs/Sound` says what the tables keep name
+//! by name; an effect proves that of the tables that it writes, and the invariant follows.
+//!
 //! # Costs
 //!
 //! A store is made in time of the design's pins, nets and parasitics; but each name that comes copies
@@ -49,17 +57,31 @@
 #![tactic(auto)]
 
 mod agreement;
+mod buffer_edits;
 mod building;
+mod cell_edits;
 mod cell_pins;
 mod cells;
 mod checks;
+mod conn_edits;
+mod ecos;
 mod edit_checks;
+mod edit_steps;
+mod gate_edits;
+mod gate_removals;
 mod held;
+mod join_edits;
 mod links;
 mod name_maps;
+mod net_edits;
+mod net_lists;
 mod numberings;
+mod pin_edits;
+mod pin_tables;
 mod pin_words;
+mod rc_edits;
 mod rolls;
+mod row_edits;
 mod sinks;
 mod stores;
 mod tables;

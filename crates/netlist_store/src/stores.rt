@@ -25,10 +25,10 @@ use timing_defs::{Cell, Constraints, Design, Dir, Inst, Name, NetRc, Port, Split
 /// its base as it is; the two share what the edit does not change.
 #[derive(Debug, Drop)]
 pub struct Store {
-    frame: Held<Frame>,
-    names: Names,
-    rows: Rows,
-    orders: Orders,
+    pub(crate) frame: Held<Frame>,
+    pub(crate) names: Names,
+    pub(crate) rows: Rows,
+    pub(crate) orders: Orders,
 }
 
 impl Model for Store {

@@ -1,0 +1,63 @@
+//! ECOs on a store: all edits in order, or the first fault.
+
+ghost use Rattle.std.specs.Prelude.{◌≡◌, ◌∷◌, List, true, Ok, Err, IfOk, IfErr};
+ghost use Rattle.timing_defs.specs.declared.edits.Edit.{Edit};
+ghost use Rattle.timing_defs.specs.Edits.{edit, edited};
+ghost use Rattle.timing_defs.specs.Cones.{touched_list};
+ghost use Rattle.netlist_store.specs.Touching.{touched_with};
+ghost use Rattle.netlist_store.specs.Numbering.{KeepsNumbers};
+ghost use Rattle.netlist_store.specs.Linked.{IsSized, is_eco, is_edit};
+ghost use Rattle.netlist_store.specs.Applying.{IsEdited, IsRefused};
+ghost use Rattle.netlist_store.specs.Drafts.{FollowsAll};
+
+use crate::edit_checks::check_edit;
+use crate::stores::Store;
+use crate::touched::Touched;
+use std::alloc::Global;
+use timing_defs::{Eco, Edit, Fault};
+
+impl Store {
+    /// The store after one edit, or the edit's first fault. What the edit touches is added.
+    fn after(
+        self,
+        alloc: Global,
+        base: &Store,
+        touched: &mut Touched,
+        change: &Edit,
+    ) -> Result<Store, Fault>
+        requires edit { is_edit change.now ≡ true }
+        requires follows { FollowsAll base.now self }
+        ensures edited { IsEdited result (edit self.design change.now) }
+        ensures follows { IfOk result (λ after. FollowsAll base.now after) }
+        ensures touched { IfOk result (λ after. (edits : List Edit) → touched_with touched.new after.design edits ≡ touched_with touched.old self.design (change.now ∷ edits)) }
+    {
+        check_edit(&self, alloc, change)?;
+        touched.touch(alloc, &self, change)?;
+        let after = self.changed(alloc, base, change)?;
+        Ok(after)
+    }
+
+    /// The store after all edits of an ECO in order, or the first fault. The base stays as it is, and
+    /// shares with the edited store what the edits do not change. The time grows with the edits, the
+    /// pins of their cells and the connections of their instances and nets, and not with the design.
+    /// A name keeps its number, and a number that the base has stands for no other name.
+    #[tactic(auto, using(crate::proofs::EditEnds::follows_copy))]
+    pub fn apply(&self, alloc: Global, eco: &Eco) -> Result<(Store, Touched), Fault>
+        requires eco { is_eco eco.now ≡ true }
+        requires sized { IsSized self.now.design }
+        ensures design { IfOk result (λ made. edited self.now.design eco.now ≡ Ok made.0.design) }
+        ensures insts { IfOk result (λ made. made.1.insts ≡ (touched_list self.now.design eco.now.edits).insts) }
+        ensures nets { IfOk result (λ made. made.1.nets ≡ (touched_list self.now.design eco.now.edits).nets) }
+        ensures numbers { IfOk result (λ made. KeepsNumbers self.now made.0) }
+        ensures fault { IfErr result (λ fault. IsRefused self.now.design eco.now fault) }
+    {
+        let edits = eco.edits.as_slice();
+        let copy = self.copy()?;
+        let mut store = copy;
+        let mut touched = Touched::none(alloc);
+        for edit in edits {
+            store = store.after(alloc, self, &mut touched, edit)?;
+        }
+        Ok((store, touched))
+    }
+}

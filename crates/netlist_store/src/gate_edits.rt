@@ -1,0 +1,144 @@
+//! Gates as they come, with open pins.
+
+ghost use Rattle.std.specs.Prelude.{◌≡◌, ◌≤◌, ◌++◌, ◌∷◌, [], ℕ, List, true, false, length, map, is_some, nat_eq, Some, None, if◌then◌else◌, IfOk, OnOk};
+ghost use Rattle.std.specs.List.{list_any};
+ghost use Rattle.std.specs.Option.{option_or};
+ghost use Rattle.timing_defs.specs.Netlist.{are_distinct, cell_named, cell_pins};
+ghost use Rattle.timing_defs.specs.Edits.{cell_for};
+ghost use Rattle.netlist_store.specs.Numbering.{name_at, number_of, with_name, AreKept};
+ghost use Rattle.netlist_store.specs.Stores.{at};
+ghost use Rattle.netlist_store.specs.Drafts.{Follows, IsFilled, KeepsNames, row_named, inst_row, row_among};
+
+use crate::held::Held;
+use crate::pin_edits::put_inst_pins;
+use crate::row_edits::set_row;
+use crate::stores::Store;
+use crate::tables::{Names, Orders, PinRow};
+use cow_table::CowTable;
+use sta_units::{Again, Memory};
+use std::alloc::Global;
+use timing_defs::{CellPin, Inst, Items, Name};
+
+/// Writes the row of an instance.
+pub(crate) fn put_inst(
+    rows: &mut CowTable<Option<Held<Inst>>>,
+    alloc: Global,
+    number: u32,
+    inst: Inst,
+) -> Result<(), Memory>
+    ensures { OnOk result ((n : ℕ) → at rows.new n ≡ (if nat_eq number n then Some inst else at rows.old n)) }
+{
+    let held = Held::of(alloc, inst)?;
+    set_row(rows, number, Some(held))
+}
+
+impl Names {
+    /// The names with those of a new instance and of its pins, and its number. The rows of the pins
+    /// are written.
+    fn with_inst_names(
+        self,
+        alloc: Global,
+        base: &Names,
+        inst: &Inst,
+        cell_pins: &[CellPin],
+        rows: &mut CowTable<PinRow>,
+    ) -> Result<(Names, u32), Memory>
+        requires fresh { number_of self.insts inst.now.name ≡ None }
+        requires insts { Follows base.now.insts self.insts }
+        requires distinct { are_distinct (map (λ p. p.name) cell_pins.now) ≡ true }
+        requires pins { Follows base.now.pins self.pins }
+        requires filled { IsFilled self.pins rows.old }
+        ensures added { IfOk result (λ made. made.0.insts ≡ with_name self.insts made.1 inst.now.name) }
+        ensures gap { IfOk result (λ made. name_at self.insts made.1 ≡ None) }
+        ensures within { IfOk result (λ made. made.1 ≤ length self.insts) }
+        ensures insts { IfOk result (λ made. AreKept base.now.insts made.0.insts) }
+        ensures nets { IfOk result (λ made. made.0.nets ≡ self.nets) }
+        ensures rows { IfOk result (λ made. (q : List ℕ) → row_named made.0.pins rows.new q ≡ option_or (row_among inst.now.name (inst_row self.nets inst.now made.1) cell_pins.now q) (row_named self.pins rows.old q)) }
+        ensures kept { IfOk result (λ made. KeepsNames self.pins made.0.pins) }
+        ensures pins { IfOk result (λ made. Follows base.now.pins made.0.pins) }
+        ensures filled { IfOk result (λ made. IsFilled made.0.pins rows.new) }
+    {
+        let Names { insts, nets, pins } = self;
+        let name = inst.name.copied(alloc)?;
+        let made = insts.with(&base.insts, name)?;
+        let (insts, number) = made;
+        let pins = put_inst_pins(
+            pins, rows, alloc, &base.pins, &nets, inst, number, cell_pins,
+        )?;
+        Ok((Names { insts, nets, pins }, number))
+    }
+}
+
+impl Orders {
+    /// The orders with a new instance as the last one.
+    fn with_inst(self, inst: u32) -> Result<Orders, Memory>
+        requires { list_any (nat_eq inst) self.insts ≡ false }
+        ensures { IfOk result (λ after. after ≡ record self { insts = self.insts ++ inst ∷ [] }) }
+    {
+        let Orders { insts, nets, rcs } = self;
+        let insts = insts.with(inst)?;
+        Ok(Orders { insts, nets, rcs })
+    }
+}
+
+/// An instance with all pins open.
+fn open_inst(alloc: Global, name: &Name, cell: &Name) -> Result<Inst, Memory>
+    ensures { IfOk result (λ made. made ≡ record { name = name.now; cell = cell.now; conns = [] }) }
+{
+    let name = name.copied(alloc)?;
+    let cell = cell.copied(alloc)?;
+    let conns = Items::new(alloc);
+    Ok(Inst { name, cell, conns })
+}
+
+impl Store {
+    /// The pins of a cell of the late library, which has it.
+    pub(crate) fn pins_of_cell(&self, alloc: Global, cell: &Name) -> Result<Items<CellPin>, Memory>
+        requires { is_some (cell_named self.now.design.late.cells cell.now) ≡ true }
+        ensures { IfOk result (λ pins. pins ≡ cell_pins (cell_named self.now.design.late.cells cell.now)) }
+    {
+        match self.late_cell(cell) {
+            Some(cell) => cell.pins.again(alloc),
+            None => unreachable!(),
+        }
+    }
+
+    /// The store with a new gate, whose pins are open, as the last instance.
+    pub(crate) fn with_gate(
+        self,
+        alloc: Global,
+        base: &Store,
+        inst: &Name,
+        cell: &Name,
+    ) -> Result<Store, Memory>
+        requires cell { is_some (cell_for self.design cell.now) ≡ true }
+        requires fresh { number_of self.insts inst.now ≡ None }
+        requires insts { Follows base.now.insts self.insts }
+        requires pins { Follows base.now.pins self.pins }
+        ensures design { IfOk result (λ after. after.design ≡ record self.design { insts = self.design.insts ++ record { name = inst.now; cell = cell.now; conns = [] } ∷ [] }) }
+        ensures nets { IfOk result (λ after. after.nets ≡ self.nets) }
+        ensures insts { IfOk result (λ after. Follows base.now.insts after.insts) }
+        ensures pins { IfOk result (λ after. Follows base.now.pins after.pins) }
+    {
+        let cell_pins = self.pins_of_cell(alloc, cell)?;
+        let gate = open_inst(alloc, inst, cell)?;
+        let Store {
+            frame,
+            names,
+            mut rows,
+            orders,
+        } = self;
+        let pins = cell_pins.as_slice();
+        let made = names.with_inst_names(alloc, &base.names, &gate, pins, &mut rows.pins)?;
+        let (names, number) = made;
+        names.laws();
+        put_inst(&mut rows.insts, alloc, number, gate)?;
+        let orders = orders.with_inst(number)?;
+        Ok(Store {
+            frame,
+            names,
+            rows,
+            orders,
+        })
+    }
+}

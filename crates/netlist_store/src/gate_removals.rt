@@ -1,0 +1,92 @@
+//! Gates as they go.
+
+ghost use Rattle.std.specs.Prelude.{◌≡◌, ◌≤◌, [], ℕ, List, true, not, nat_eq, filter, length, set, None, Some, option_and_then, if◌then◌else◌, IfOk};
+ghost use Rattle.std.specs.List.{list_any};
+ghost use Rattle.std.specs.Option.{option_map_or};
+ghost use Rattle.std.specs.Str.{bytes_eq};
+ghost use Rattle.timing_defs.specs.declared.kinds.Split.TheVariants.{Late};
+ghost use Rattle.timing_defs.specs.Netlist.{cell_of, cell_pins};
+ghost use Rattle.timing_defs.specs.Edits.{inst_named, is_open};
+ghost use Rattle.netlist_store.specs.Numbering.{number_of, is_number, inst_numbered};
+ghost use Rattle.netlist_store.specs.Drafts.{IsPart, is_lost};
+
+use crate::pin_edits::without_lost_pins;
+use crate::row_edits::set_row;
+use crate::stores::Store;
+use crate::tables::{Names, Orders};
+use sta_units::{Again, Memory};
+use std::alloc::Global;
+use timing_defs::{CellPin, Items, Name, Split};
+
+impl Orders {
+    /// The orders without an instance.
+    fn without_inst(self, inst: u32) -> Result<Orders, Memory>
+        requires { list_any (nat_eq inst) self.insts ≡ true }
+        ensures { IfOk result (λ after. after ≡ record self { insts = filter (λ n. not (nat_eq inst n)) self.insts }) }
+    {
+        let Orders { insts, nets, rcs } = self;
+        let insts = insts.without(inst)?;
+        Ok(Orders { insts, nets, rcs })
+    }
+}
+
+impl Names {
+    /// The names without those of an instance and of its pins.
+    fn without_inst_names(
+        self,
+        alloc: Global,
+        name: &Name,
+        inst: u32,
+        cell_pins: &[CellPin],
+    ) -> Result<Names, Memory>
+        requires { is_number self.insts inst ≡ true }
+        ensures insts { IfOk result (λ after. after.insts ≡ set self.insts inst None) }
+        ensures nets { IfOk result (λ after. after.nets ≡ self.nets) }
+        ensures pins { IfOk result (λ after. (q : List ℕ) → number_of after.pins q ≡ (if list_any (is_lost name.now [] q) cell_pins.now then None else number_of self.pins q)) }
+        ensures longer { IfOk result (λ after. length self.pins ≤ length after.pins) }
+    {
+        let Names { insts, nets, pins } = self;
+        let insts = insts.without(inst)?;
+        let pins = without_lost_pins(pins, alloc, name, cell_pins, &[])?;
+        Ok(Names { insts, nets, pins })
+    }
+}
+
+impl Store {
+    /// The pins of the cell of an instance, in the late library.
+    pub(crate) fn pins_of_inst(&self, alloc: Global, inst: u32) -> Result<Items<CellPin>, Memory>
+        requires { is_number self.now.insts inst ≡ true }
+        ensures { IfOk result (λ pins. pins ≡ cell_pins (option_and_then (cell_of self.now.design Late) (inst_numbered self.now inst))) }
+    {
+        self.cell_at(inst, Split::Late).pins.again(alloc)
+    }
+
+    /// The store without a gate whose pins are all open.
+    pub(crate) fn without_gate(self, alloc: Global, name: &Name, inst: u32) -> Result<Store, Memory>
+        requires number { number_of self.insts name.now ≡ Some inst }
+        requires opened { option_map_or is_open (inst_named self.design.insts name.now) true ≡ true }
+        ensures design { IfOk result (λ after. after.design ≡ record self.design { insts = filter (λ i. not (bytes_eq i.name name.now)) self.design.insts }) }
+        ensures nets { IfOk result (λ after. after.nets ≡ self.nets) }
+        ensures insts { IfOk result (λ after. IsPart after.insts self.insts) }
+        ensures pins { IfOk result (λ after. IsPart after.pins self.pins) }
+    {
+        let cell_pins = self.pins_of_inst(alloc, inst)?;
+        let Store {
+            frame,
+            names,
+            mut rows,
+            orders,
+        } = self;
+        let pins = cell_pins.as_slice();
+        let names = names.without_inst_names(alloc, name, inst, pins)?;
+        names.laws();
+        set_row(&mut rows.insts, inst, None)?;
+        let orders = orders.without_inst(inst)?;
+        Ok(Store {
+            frame,
+            names,
+            rows,
+            orders,
+        })
+    }
+}
