@@ -1,2 +1,5 @@
 pub mod Between
+pub mod Evaluation
+pub mod NetPins
 pub mod PortTables
+pub mod WireTables

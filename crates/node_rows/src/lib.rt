@@ -1,9 +1,20 @@
-//! What a node's row is made of: what the tables of a cell's arcs give between two of its nodes, and
-//! what constraints say of ports.
+//! The row of a node, from the rows of the nodes before it: what the arcs of cells and wires give,
+//! what the constraints say of ports, and the slews and arrivals that are merged of these.
 #![tactic(auto)]
 
 mod arcs;
+mod merges;
+mod pin_wires;
+mod pins;
 mod ports;
+mod rows;
+mod scaling;
+mod settings;
+mod unfit;
+mod values;
 
 pub use arcs::{ArcEnds, ArcValues, arc_values};
+pub use pin_wires::{NetLoad, PinWire, SinkWire, Wires};
 pub use ports::Ports;
+pub use rows::node_row;
+pub use settings::{Before, NodeAt, Setting};

@@ -1,0 +1,30 @@
+//! Nodes by the numbers of a store, and what their rows are evaluated over.
+
+use crate::pin_wires::Wires;
+use crate::ports::Ports;
+use netlist_store::Store;
+use timing_defs::{NodeRow, Tran};
+
+/// A node: the number of its pin in a store, its transition, and whether its pin is on the clock
+/// network.
+#[derive(Debug, Clone, Copy, PartialEq, Eq, Drop)]
+pub struct NodeAt {
+    pub pin: u32,
+    pub tran: Tran,
+    pub network: bool,
+}
+
+/// A node from which an arc leads to another, and its row.
+#[derive(Clone, Copy, Drop)]
+pub struct Before<'a> {
+    pub node: NodeAt,
+    pub row: &'a NodeRow,
+}
+
+/// A store, with the tables of its wires and of its ports.
+#[derive(Clone, Copy, Drop)]
+pub struct Setting<'a> {
+    pub store: &'a Store,
+    pub wires: &'a Wires,
+    pub ports: &'a Ports,
+}
