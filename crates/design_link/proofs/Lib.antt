@@ -1,6 +1,8 @@
+mod CellLaws
 mod CountLaws
 mod DanglingLaws
 mod FailLaws
+mod LinkLaws
 mod Lists
 mod Members
 mod NetNodeLaws
@@ -8,7 +10,7 @@ mod NetPinLaws
 mod NodeLaws
 mod Orders
 mod PinLaws
-mod PinNames
+pub mod PinNames
 mod RcPinLaws
 mod RootedLaws
 mod WordLaws

@@ -1,5 +1,6 @@
 pub mod Counts
 pub mod Dangling
+pub mod Documents
 pub mod Failing
 pub mod Nodes
 pub mod Rooted

@@ -1,10 +1,12 @@
-//! Checks of a whole design over the numbers of a store.
+//! Documents linked to a design, and the checks of a whole design over the numbers of a store.
 #![tactic(auto)]
 
+mod cell_tables;
 mod checks;
 mod counts;
 mod dangling;
 mod least;
+mod linking;
 mod net_nodes;
 mod net_pins;
 mod net_tests;
@@ -15,3 +17,4 @@ mod rc_pins;
 mod rooted;
 
 pub use checks::{check_data, check_nets};
+pub use linking::link;

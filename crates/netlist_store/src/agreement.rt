@@ -191,7 +191,7 @@ fn same_tests(a: &[CellTest], b: &[CellTest]) -> bool
 }
 
 /// Whether two cells have the same pins with their directions, arcs with their kinds, and tests.
-pub(crate) fn cells_agree(a: &Cell, b: &Cell) -> bool
+pub fn cells_agree(a: &Cell, b: &Cell) -> bool
     ensures { result ≡ cells_agree a.now b.now }
 {
     same_pins(a.pins.as_slice(), b.pins.as_slice())

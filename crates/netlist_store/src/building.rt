@@ -43,7 +43,7 @@ fn full_name_bytes(alloc: Global, inst: &Name, own: &Name) -> Result<Vec<u8>, Me
 }
 
 /// The name of a pin of an instance, `instance:pin`.
-pub(crate) fn full_name(alloc: Global, inst: &Name, own: &Name) -> Result<Name, Memory>
+pub fn full_name(alloc: Global, inst: &Name, own: &Name) -> Result<Name, Memory>
     ensures { IfOk result (λ name. name ≡ inst.now ++ 58 ∷ own.now) }
 {
     let bytes = full_name_bytes(alloc, inst, own)?;

@@ -88,5 +88,7 @@ mod tables;
 mod touched;
 mod words;
 
+pub use agreement::cells_agree;
+pub use building::full_name;
 pub use stores::Store;
 pub use touched::Touched;
