@@ -19,8 +19,9 @@ mod InstEdits
 mod InstPins
 mod JoinSteps
 mod Joins
+pub mod LeftChecks
 mod LinkLaws
-mod LinkedEdits
+pub mod LinkedEdits
 mod ListLaws
 mod NamedLaws
 mod NetEdits
@@ -43,10 +44,12 @@ mod PinsOfInst
 mod PlaceLaws
 mod RcEdits
 mod RcLaws
+pub mod SeenPins
 mod SetLaws
 mod ShardLaws
 mod Sound
 mod StoreLaws
 mod TableLaws
 mod TouchLaws
+pub mod Untouched
 mod WordLaws
