@@ -1,7 +1,7 @@
 -- The names that numbers stand for are those of the design, each once.
 
-use Rattle.std.proofs.Common.{◌≡◌, ℕ, zero, suc, ◌+◌, ◌<◌, Bool, true, false, List, [], ◌∷◌, ◌++◌, map, filter, length, Option, None, Some, refl, sym, ap, ◌∙◌, inl, inr, arith, length-append}
-use Rattle.std.specs.Prelude.{is_some, if◌then◌else◌}
+use Rattle.std.proofs.Common.{◌≡◌, ℕ, zero, suc, ◌+◌, ◌<◌, ◌≤◌, Bool, true, false, List, [], ◌∷◌, ◌++◌, map, filter, length, Option, None, Some, refl, sym, ap, subst, ◌∙◌, inl, inr, arith, le-ltb, length-append}
+use Rattle.std.specs.Prelude.{is_some, nat_lt, if◌then◌else◌}
 use Rattle.std.specs.List.{filter_map, range_with_len}
 use Rattle.std.specs.Option.{option_map_or, option_to_list}
 use Rattle.std.specs.Str.{bytes_eq}
@@ -11,6 +11,7 @@ use Rattle.std.proofs.lemmas.List.Elements.{filter-append, filter_map-append}
 use Rattle.std.proofs.lemmas.List.FromFn.{map-range_with_len_more, length-range_with_len, get_or-range_with_len}
 use Rattle.timing_defs.specs.declared.netlist.Inst.{Inst}
 use Rattle.timing_defs.specs.Netlist.{name_of, pins, is_listed, are_distinct}
+use Rattle.timing_defs.specs.Checks.{most}
 use Rattle.netlist_store.specs.Linked.{IsLinked}
 use Rattle.netlist_store.specs.Numbering.{Stored, name_at, number_of, is_number, AreNumbers, IsNumbered}
 use Rattle.design_link.specs.Counts.{names_below, with_name}
@@ -135,6 +136,43 @@ module _ (s : Stored) (num : IsNumbered s) (linked : IsLinked s.design) where
   nets_counted n count e had =
       had ∙ ap (λ k. length (names_below s.nets k)) e
       ∙ same_names (names_below s.nets (length s.nets)) s.design.nets (below_apart s.nets num.nets (length s.nets)) (nets_apart s.design linked) nets_listed
+
+-- no more names than numbers
+few_below : (names : List (Option (List ℕ))) (n : ℕ) → length (names_below names n) ≤ n
+few_below names zero = let e = ap length (no_names names) in omega (arith, e)
+few_below names (suc n) =
+    let e : suc n ≡ n + 1 = omega arith in
+    let had = few_below names n in
+    let one = at_most (name_at names n) in
+    let more = ap length (names_more names n) ∙ length-append (names_below names n) (option_to_list (name_at names n)) in
+    let low : length (names_below names (n + 1)) ≤ n + 1 = omega (arith, had, one, more) in
+    subst (λ (k : ℕ). length (names_below names k) ≤ k) (sym e) low
+  where
+    at_most : (o : Option (List ℕ)) → length (option_to_list o) ≤ 1
+    at_most None = omega arith
+    at_most (Some name) = omega arith
+
+few_is : (count bound : ℕ) → count ≤ bound → bound ≤ most → nat_lt most count ≡ false
+few_is count bound low few = le-ltb most count (omega (arith, low, few))
+
+module _ (s : Stored) (num : IsNumbered s) (linked : IsLinked s.design) where
+  pub few_pins : length s.pins ≤ most → false ≡ nat_lt most (length (pins s.design))
+  few_pins few =
+      let e = pins_counted s num linked (length s.pins) (length (names_below s.pins (length s.pins))) refl refl in
+      let low = few_below s.pins (length s.pins) in
+      sym (few_is (length (pins s.design)) (length s.pins) (omega (arith, e, low)) few)
+
+  pub few_insts : length s.insts ≤ most → false ≡ nat_lt most (length s.design.insts)
+  few_insts few =
+      let e = insts_counted s num linked (length s.insts) (length (names_below s.insts (length s.insts))) refl refl in
+      let low = few_below s.insts (length s.insts) in
+      sym (few_is (length s.design.insts) (length s.insts) (omega (arith, e, low)) few)
+
+  pub few_nets : length s.nets ≤ most → false ≡ nat_lt most (length s.design.nets)
+  few_nets few =
+      let e = nets_counted s num linked (length s.nets) (length (names_below s.nets (length s.nets))) refl refl in
+      let low = few_below s.nets (length s.nets) in
+      sym (few_is (length s.design.nets) (length s.nets) (omega (arith, e, low)) few)
 
 -- the nets that fail, with one number more
 pub failing_more : (test : List ℕ → Bool) (names : List (Option (List ℕ))) (n : ℕ) (failing : Bool) (found found2 : List (List ℕ))

@@ -22,6 +22,7 @@ use Rattle.netlist_store.specs.Applying.{IsChecked}
 use Rattle.design_link.specs.declared.net_tests.NetTest.{NetTest}
 use Rattle.design_link.specs.declared.net_tests.NetTest.TheVariants.{TooManyNodes, TooManyDrivers, NoTree, OtherPins}
 use Rattle.design_link.specs.Counts.{names_below, large_count}
+use Rattle.design_link.specs.After.{net_fault_among}
 use Rattle.design_link.specs.Failing.{rc_that, is_crowded, fails, least_failing}
 use Rattle.design_link.proofs.PinNames.{same_is}
 use Rattle.design_link.proofs.Orders.{least_same}
@@ -69,31 +70,35 @@ net_linked nets (r ∷ rs) q e h = by (is_listed nets r.net) refl (bytes_eq q r.
         rest e2 h2
     by false f b g rest = absurd (false≢true (ap is_some (sym e ∙ ap (λ t. option_map_or Some (unless t (UnknownNet r.net)) (first_some (link_net nets) rs)) f)))
 
-module _ (s : Stored) (num : IsNumbered s) (linked : IsLinked s.design) where
-  rcs_apart : are_distinct (map (λ rc. rc.net) s.design.rcs) ≡ true
-  rcs_apart = (and_parts (are_distinct (map (λ rc. rc.net) s.design.rcs)) (list_all is_net_rc s.design.rcs) linked.parasitics).0
+-- the nets that fail a test of their parasitics are those that are there and fail
+module _ (d : Design) (linked : IsLinked d) where
+  rcs_apart : are_distinct (map (λ rc. rc.net) d.rcs) ≡ true
+  rcs_apart = (and_parts (are_distinct (map (λ rc. rc.net) d.rcs)) (list_all is_net_rc d.rcs) linked.parasitics).0
 
-  rc_listed : (q : List ℕ) → is_some (rc_of s.design q) ≡ true → is_listed s.design.nets q ≡ true
+  rc_listed : (q : List ℕ) → is_some (rc_of d q) ≡ true → is_listed d.nets q ≡ true
   rc_listed q e =
-      net_linked s.design.nets s.design.rcs q
-      (no_first (first_some (link_inst s.design.early s.design.late) s.design.insts) (first_some (link_net s.design.nets) s.design.rcs) linked.linked)
-      (sym (found_listed (λ (rc : NetRc). rc.net) s.design.rcs q) ∙ e)
+      net_linked d.nets d.rcs q
+      (no_first (first_some (link_inst d.early d.late) d.insts) (first_some (link_net d.nets) d.rcs) linked.linked)
+      (sym (found_listed (λ (rc : NetRc). rc.net) d.rcs q) ∙ e)
 
+  pub where_fails : (test : NetRc → Bool) (q : List ℕ) → is_listed (nets_where test d) q ≡ (is_listed d.nets q && rc_that test d q)
+  where_fails test q = where_listed test d.rcs rcs_apart q ∙ sym (inside (rc_of d q) refl)
+    where
+      inside : (o : Option NetRc) → rc_of d q ≡ o → (is_listed d.nets q && option_map_or test (rc_of d q) false) ≡ option_map_or test (rc_of d q) false
+      inside None e = rw e (none (is_listed d.nets q))
+        where
+          none : (b : Bool) → (b && false) ≡ false
+          none true = refl
+          none false = refl
+      inside (Some rc) e = ap (λ b. b && option_map_or test (rc_of d q) false) (rc_listed q (ap is_some e))
+
+module _ (s : Stored) (num : IsNumbered s) (linked : IsLinked s.design) where
   least_where : (test : NetRc → Bool) → least (filter (rc_that test s.design) (names_below s.nets (length s.nets))) ≡ least (nets_where test s.design)
   least_where test =
       least_same (filter (rc_that test s.design) (names_below s.nets (length s.nets))) (nets_where test s.design) (λ q.
       listed_filter (rc_that test s.design) (names_below s.nets (length s.nets)) q
       ∙ ap (λ b. b && rc_that test s.design q) (nets_listed s num linked q)
-      ∙ inside q (rc_of s.design q) refl
-      ∙ sym (where_listed test s.design.rcs rcs_apart q))
-    where
-      inside : (q : List ℕ) (o : Option NetRc) → rc_of s.design q ≡ o → (is_listed s.design.nets q && option_map_or test (rc_of s.design q) false) ≡ option_map_or test (rc_of s.design q) false
-      inside q None e = rw e (none (is_listed s.design.nets q))
-        where
-          none : (b : Bool) → (b && false) ≡ false
-          none true = refl
-          none false = refl
-      inside q (Some rc) e = ap (λ b. b && option_map_or test (rc_of s.design q) false) (rc_listed q (ap is_some e))
+      ∙ sym (where_fails s.design linked test q))
 
   least_of_nets : (test : List ℕ → Bool) → least (filter test (names_below s.nets (length s.nets))) ≡ least (filter test s.design.nets)
   least_of_nets test =
@@ -108,7 +113,7 @@ module _ (s : Stored) (num : IsNumbered s) (linked : IsLinked s.design) where
   least_found OtherPins = least_where (λ rc. not (pins_agree s.design rc))
 
 -- too large by counts, or else by nodes
-large_parts : (d : Design) → large d ≡ option_map_or Some (large_count d) (option_map large_net (least (nets_where (is_large_net d) d)))
+pub large_parts : (d : Design) → large d ≡ option_map_or Some (large_count d) (option_map large_net (least (nets_where (is_large_net d) d)))
 large_parts d = by (nat_lt most (length (pins d))) refl (nat_lt most (length d.insts)) refl (nat_lt most (length d.nets)) refl
   where
     by : (a : Bool) → nat_lt most (length (pins d)) ≡ a → (b : Bool) → nat_lt most (length d.insts) ≡ b → (c : Bool) → nat_lt most (length d.nets) ≡ c
@@ -118,39 +123,17 @@ large_parts d = by (nat_lt most (length (pins d))) refl (nat_lt most (length d.i
     by false ea false eb true ec = rw (ea, eb, ec) refl
     by false ea false eb false ec = rw (ea, eb, ec) refl
 
--- the first of the three checks that refuses gives the fault of the nets
-module _ (d : Design) where
-  pub first_refuses : (fault : Fault) → (fault ≡ Memory) ⊎ (option_map TooLarge (large_count d) ≡ Some fault) → (fault ≡ Memory) ⊎ (net_fault d ≡ Some fault)
-  first_refuses fault (inl e) = inl e
-  first_refuses fault (inr e) = inr (by (large_count d) refl e)
-    where
-      by : (o : Option Large) → large_count d ≡ o → option_map TooLarge o ≡ Some fault → net_fault d ≡ Some fault
-      by None h g = absurd (cc)
-      by (Some l) h g =
-          ap (λ o. first_of_two (option_map TooLarge o) (option_map ManyDrivers (many_drivers d))) (large_parts d ∙ ap (λ o. option_map_or Some o (option_map large_net (least (nets_where (is_large_net d) d)))) h) ∙ g
-
-  none_of : (o : Option Large) → option_map TooLarge o ≡ None → o ≡ None
-  none_of None e = refl
-  none_of (Some l) e = absurd (cc)
-
-  large_by_nodes : option_map TooLarge (large_count d) ≡ None → large d ≡ option_map large_net (least_failing TooManyNodes d)
-  large_by_nodes e = large_parts d ∙ ap (λ o. option_map_or Some o (option_map large_net (least (nets_where (is_large_net d) d)))) (none_of (large_count d) e)
-
-  pub second_refuses : (fault : Fault) → option_map TooLarge (large_count d) ≡ None
-      → (fault ≡ Memory) ⊎ (option_map TooLarge (option_map large_net (least_failing TooManyNodes d)) ≡ Some fault) → (fault ≡ Memory) ⊎ (net_fault d ≡ Some fault)
-  second_refuses fault a (inl e) = inl e
-  second_refuses fault a (inr e) =
-      inr (ap (λ o. first_of_two (option_map TooLarge o) (option_map ManyDrivers (many_drivers d))) (large_by_nodes a)
-      ∙ ap (λ o. first_of_two o (option_map ManyDrivers (many_drivers d))) e)
-
-  pub last_tells : (r : Result (Unit {0}) Fault) → option_map TooLarge (large_count d) ≡ None → option_map TooLarge (option_map large_net (least_failing TooManyNodes d)) ≡ None
-      → IsChecked r (option_map ManyDrivers (least_failing TooManyDrivers d)) → IsChecked r (net_fault d)
-  last_tells r a b c = subst (λ o. IsChecked r o) (sym whole) c
-    where
-      whole : net_fault d ≡ option_map ManyDrivers (least_failing TooManyDrivers d)
-      whole =
-          ap (λ o. first_of_two (option_map TooLarge o) (option_map ManyDrivers (many_drivers d))) (large_by_nodes a)
-          ∙ ap (λ o. first_of_two o (option_map ManyDrivers (many_drivers d))) b
+-- the checks of all nets give the fault of the nets
+pub net_all : (d : Design) → net_fault_among None d ≡ net_fault d
+net_all d =
+    by (large_count d) ∙ ap (λ o. first_of_two (option_map TooLarge o) (option_map ManyDrivers (many_drivers d))) (sym (large_parts d))
+  where
+    by : (a : Option Large)
+        → first_of_two (option_map TooLarge a)
+        (first_of_two (option_map TooLarge (option_map large_net (least (nets_where (is_large_net d) d)))) (option_map ManyDrivers (many_drivers d)))
+        ≡ first_of_two (option_map TooLarge (option_map_or Some a (option_map large_net (least (nets_where (is_large_net d) d))))) (option_map ManyDrivers (many_drivers d))
+    by None = refl
+    by (Some l) = refl
 
 -- two checks, one after the other
 pub first_of : (fault : Fault) (a b : Option Fault) → (fault ≡ Memory) ⊎ (a ≡ Some fault) → (fault ≡ Memory) ⊎ (first_of_two a b ≡ Some fault)

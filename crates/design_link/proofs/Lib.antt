@@ -1,3 +1,4 @@
+mod AfterLaws
 mod CellLaws
 mod CountLaws
 mod DanglingLaws

@@ -1,10 +1,10 @@
 -- Nets that fail a test, and the least of them by bytes.
 
-use Rattle.std.specs.Prelude.{ℕ, ◌≡◌, nat_lt, Bool, false, not, List, length, Option, None, Some, option_and_then}
+use Rattle.std.specs.Prelude.{ℕ, ◌≡◌, nat_lt, Bool, false, not, ◌&&◌, List, filter, length, Option, None, Some, option_and_then}
 use Rattle.std.specs.Option.{option_map_or}
 use Rattle.timing_defs.specs.declared.parasitics.NetRc.{NetRc}
 use Rattle.timing_defs.specs.declared.design.Design.{Design}
-use Rattle.timing_defs.specs.Netlist.{drivers}
+use Rattle.timing_defs.specs.Netlist.{drivers, is_listed}
 use Rattle.timing_defs.specs.Wires.{rc_of}
 use Rattle.timing_defs.specs.Checks.{is_large_net, nets_where, least, many_drivers, is_tree, rc_not_tree, pins_agree, rc_pins_differ, net_fault}
 use Rattle.netlist_store.specs.Numbering.{Stored, name_at}
@@ -31,6 +31,15 @@ least_failing TooManyNodes d = least (nets_where (is_large_net d) d)
 least_failing TooManyDrivers d = many_drivers d
 least_failing NoTree d = rc_not_tree d
 least_failing OtherPins d = rc_pins_differ d
+
+-- a net that is there and fails a test
+abbrev pub fails_here : NetTest → Design → List ℕ → Bool
+fails_here test d net = is_listed d.nets net && fails test d net
+
+-- the least net that fails a test, of all or of some
+abbrev pub least_among : Option (List (List ℕ)) → NetTest → Design → Option (List ℕ)
+least_among None test d = least_failing test d
+least_among (Some nets) test d = least (filter (fails_here test d) nets)
 
 -- whether a net is a tree is asked of a design of which no net has two drivers
 abbrev pub IsReadyFor : NetTest → Design → Type 0

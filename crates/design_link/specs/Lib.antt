@@ -1,3 +1,4 @@
+pub mod After
 pub mod Counts
 pub mod Dangling
 pub mod Documents

@@ -1,6 +1,7 @@
 //! How many pins, instances and nets a design has.
 
-ghost use Rattle.std.specs.Prelude.{◌≡◌, ◌≤◌, length, if◌then◌else◌};
+ghost use Rattle.std.specs.Prelude.{◌≡◌, ◌≤◌, nat_lt, length, if◌then◌else◌};
+ghost use Rattle.timing_defs.specs.Checks.{most};
 ghost use Rattle.timing_defs.specs.Netlist.{pins};
 ghost use Rattle.design_link.specs.Counts.{large_count};
 
@@ -51,17 +52,50 @@ fn net_count(store: &Store) -> u32
     count
 }
 
+/// Whether there are too many pins; they are counted only where their numbers pass the limit.
+fn has_many_pins(store: &Store) -> bool
+    ensures { result ≡ nat_lt most (length (pins store.now.design)) }
+{
+    store.laws();
+    if store.pin_bound() <= MOST {
+        return false;
+    }
+    pin_count(store) > MOST
+}
+
+/// Whether there are too many instances; they are counted only where their numbers pass the limit.
+fn has_many_insts(store: &Store) -> bool
+    ensures { result ≡ nat_lt most (length store.now.design.insts) }
+{
+    store.laws();
+    if store.inst_bound() <= MOST {
+        return false;
+    }
+    inst_count(store) > MOST
+}
+
+/// Whether there are too many nets; they are counted only where their numbers pass the limit.
+fn has_many_nets(store: &Store) -> bool
+    ensures { result ≡ nat_lt most (length store.now.design.nets) }
+{
+    store.laws();
+    if store.net_bound() <= MOST {
+        return false;
+    }
+    net_count(store) > MOST
+}
+
 /// Which of pins, instances and nets there are too many of, the first of them.
 pub(crate) fn large_count(store: &Store) -> Option<Large>
     ensures { result ≡ large_count store.now.design }
 {
-    if pin_count(store) > MOST {
+    if has_many_pins(store) {
         return Some(Large::Pins);
     }
-    if inst_count(store) > MOST {
+    if has_many_insts(store) {
         return Some(Large::Insts);
     }
-    if net_count(store) > MOST {
+    if has_many_nets(store) {
         return Some(Large::Nets);
     }
     None

@@ -2,9 +2,11 @@
 
 ghost use Rattle.std.specs.Prelude.{◌≡◌, ◌++◌, ◌∷◌, [], is_none, map, filter, IfOk, OnOk};
 ghost use Rattle.std.specs.List.{filter_map, flat_map};
+ghost use Rattle.std.specs.Option.{option_copied};
 ghost use Rattle.timing_defs.specs.declared.kinds.Dir.TheVariants.{Input as input, Output as output};
-ghost use Rattle.timing_defs.specs.Checks.{port_named, not_ports, dangling_exception};
+ghost use Rattle.timing_defs.specs.Checks.{port_named, not_ports, dangling_exception, least};
 ghost use Rattle.design_link.specs.Dangling.{dangling_ports, dangling_names};
+ghost use Rattle.design_link.specs.After.{dangling_among};
 
 use crate::objects::{add_if, add_objects, is_port, port_dir};
 use netlist_store::Store;
@@ -169,8 +171,22 @@ fn dangling_ports(alloc: Global, store: &Store) -> Result<Items<Name>, Memory>
     Ok(names)
 }
 
+/// The names of exceptions that stand for nothing.
+fn exception_names(alloc: Global, store: &Store) -> Result<Items<Name>, Memory>
+    ensures { IfOk result (λ names. names ≡ flat_map (dangling_exception store.now.design) store.now.design.constraints.exceptions) }
+{
+    let mut names = Items::new(alloc);
+    add_exceptions(
+        alloc,
+        store,
+        &mut names,
+        store.constraints().exceptions.as_slice(),
+    )?;
+    Ok(names)
+}
+
 /// All names of constraints that stand for nothing, or for a port of the wrong direction.
-pub(crate) fn dangling_names(alloc: Global, store: &Store) -> Result<Items<Name>, Memory>
+fn dangling_names(alloc: Global, store: &Store) -> Result<Items<Name>, Memory>
     ensures { IfOk result (λ names. names ≡ dangling_names store.now.design) }
 {
     let mut names = dangling_ports(alloc, store)?;
@@ -181,4 +197,18 @@ pub(crate) fn dangling_names(alloc: Global, store: &Store) -> Result<Items<Name>
         store.constraints().exceptions.as_slice(),
     )?;
     Ok(names)
+}
+
+/// The names that stand for nothing: of all constraints, or of exceptions alone, since ports stay.
+pub(crate) fn dangling_among(
+    alloc: Global,
+    store: &Store,
+    among: Option<&Items<Name>>,
+) -> Result<Items<Name>, Memory>
+    ensures { IfOk result (λ names. least names ≡ dangling_among (option_copied among.entry) store.now.design) }
+{
+    match among {
+        Some(_) => exception_names(alloc, store),
+        None => dangling_names(alloc, store),
+    }
 }

@@ -16,5 +16,5 @@ mod pin_words;
 mod rc_pins;
 mod rooted;
 
-pub use checks::{check_data, check_nets};
+pub use checks::{check_data, check_data_after, check_nets, check_nets_after};
 pub use linking::link;

@@ -1,10 +1,11 @@
 //! Nets that fail a test, and the least of them.
 
-ghost use Rattle.std.specs.Prelude.{◌≡◌, None, true, not, filter, length, IfOk, OnOk};
-ghost use Rattle.timing_defs.specs.Checks.{is_tree, pins_agree, net_fault};
+ghost use Rattle.std.specs.Prelude.{◌≡◌, ◌++◌, ◌∷◌, [], None, true, not, filter, length, IfOk, OnOk};
+ghost use Rattle.std.specs.Option.{option_copied};
+ghost use Rattle.timing_defs.specs.Checks.{is_tree, pins_agree, net_fault, least};
 ghost use Rattle.netlist_store.specs.Numbering.{name_at, is_number};
 ghost use Rattle.design_link.specs.Counts.{names_below, with_name};
-ghost use Rattle.design_link.specs.Failing.{IsRcOf, IsReadyFor, fails, fails_at, least_failing};
+ghost use Rattle.design_link.specs.Failing.{IsRcOf, IsReadyFor, fails, fails_at, fails_here, least_among};
 
 use crate::least::least_name;
 use crate::net_nodes::is_large;
@@ -156,13 +157,73 @@ fn failing_nets(alloc: Global, store: &Store, test: NetTest) -> Result<Items<Nam
     Ok(names)
 }
 
-/// The least net that fails a test; none where no net does.
-pub(crate) fn least_net(alloc: Global, store: &Store, test: NetTest) -> Result<Option<Name>, Memory>
+/// Adds the name of a net, where it is there and fails a test.
+fn add_failing(
+    alloc: Global,
+    store: &Store,
+    test: NetTest,
+    names: &mut Items<Name>,
+    net: &Name,
+) -> Result<(), Memory>
     requires { IsReadyFor test store.now.design }
-    ensures { IfOk result (λ name. name ≡ least_failing test store.now.design) }
+    ensures { OnOk result (names.new ≡ names.old ++ filter (fails_here test store.now.design) (net.now ∷ [])) }
 {
     store.laws();
-    let names = failing_nets(alloc, store, test)?;
+    let Some(number) = store.net(net) else {
+        return Ok(());
+    };
+    let failing = fails_at(alloc, store, test, number)?;
+    if failing {
+        names.push(net.copied(alloc)?)?;
+    }
+    Ok(())
+}
+
+/// The nets that fail a test, of some that may be there.
+fn failing_of(
+    alloc: Global,
+    store: &Store,
+    test: NetTest,
+    nets: &[Name],
+) -> Result<Items<Name>, Memory>
+    requires { IsReadyFor test store.now.design }
+    ensures { IfOk result (λ names. names ≡ filter (fails_here test store.now.design) nets.now) }
+{
+    let mut names = Items::new(alloc);
+    for net in nets {
+        add_failing(alloc, store, test, &mut names, net)?;
+    }
+    Ok(names)
+}
+
+/// The nets that fail a test, of all or of some.
+fn failing_among(
+    alloc: Global,
+    store: &Store,
+    test: NetTest,
+    among: Option<&Items<Name>>,
+) -> Result<Items<Name>, Memory>
+    requires { IsReadyFor test store.now.design }
+    ensures { IfOk result (λ names. least names ≡ least_among (option_copied among.entry) test store.now.design) }
+{
+    store.laws();
+    match among {
+        Some(nets) => failing_of(alloc, store, test, nets.as_slice()),
+        None => failing_nets(alloc, store, test),
+    }
+}
+
+/// The least net that fails a test, of all or of some; none where no net does.
+pub(crate) fn least_net(
+    alloc: Global,
+    store: &Store,
+    test: NetTest,
+    among: Option<&Items<Name>>,
+) -> Result<Option<Name>, Memory>
+    requires { IsReadyFor test store.now.design }
+    ensures { IfOk result (λ name. name ≡ least_among (option_copied among.entry) test store.now.design) }
+{
+    let names = failing_among(alloc, store, test, among)?;
     let least = least_name(alloc, names.as_slice())?;
     Ok(least)
 }
