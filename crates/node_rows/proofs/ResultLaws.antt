@@ -32,3 +32,11 @@ carried (Err e) P Q P2 Q2 R2 f g a b c = g e c
 pub handed_up : {T E : Type 0} (r : Result T E) (e : E) (P : E → Type 0) → IsErrAnd r (λ y. y ≡ e) → P e → IfErr r P
 handed_up (Ok x) e P is h = absurd is
 handed_up (Err y) e P is h = subst P (sym is) h
+
+pub ok_more : {T E : Type 0} (r : Result T E) (P Q : T → Type 0) → ((x : T) → P x → Q x) → IfOk r P → IfOk r Q
+ok_more (Ok x) P Q f h = f x h
+ok_more (Err e) P Q f h = tt
+
+pub err_more : {T E : Type 0} (r : Result T E) (P Q : E → Type 0) → ((e : E) → P e → Q e) → IfErr r P → IfErr r Q
+err_more (Ok x) P Q f h = tt
+err_more (Err e) P Q f h = f e h

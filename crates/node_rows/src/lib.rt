@@ -3,7 +3,9 @@
 #![tactic(auto)]
 
 mod arcs;
+mod loads;
 mod merges;
+mod net_trees;
 mod pin_wires;
 mod pins;
 mod ports;
@@ -12,6 +14,7 @@ mod scaling;
 mod settings;
 mod unfit;
 mod values;
+mod wire_tables;
 
 pub use arcs::{ArcEnds, ArcValues, arc_values};
 pub use pin_wires::{NetLoad, PinWire, SinkWire, Wires};

@@ -1,0 +1,164 @@
+//! The wires of a net with resistors: one tree a split, from its driver.
+
+ghost use Rattle.std.specs.Prelude.{◌≡◌, ℕ, List, [], nat_eq, true, false, None, Some, All, Contains, map, length, find, IfOk, OnOk};
+ghost use Rattle.std.specs.List.{list_any};
+ghost use Rattle.std.specs.Option.{unwrap_or};
+ghost use Rattle.timing_defs.specs.declared.parasitics.RcNode.TheVariants.{Pin as rc_pin};
+ghost use Rattle.timing_defs.specs.declared.kinds.Split.{Split};
+ghost use Rattle.timing_defs.specs.declared.parasitics.NetRc.{NetRc};
+ghost use Rattle.timing_defs.specs.declared.rows.PinCap.{PinCap};
+ghost use Rattle.netlist_store.specs.Numbering.{is_number, name_at};
+ghost use Rattle.rc_tree.specs.Trees.{IsTreeOf, is_node};
+ghost use Rattle.node_rows.specs.PortTables.{ArePorts};
+ghost use Rattle.node_rows.specs.WireTables.{wire_at};
+ghost use Rattle.node_rows.specs.NetPins.{pin_cap_at, drives_at};
+ghost use Rattle.node_rows.specs.NetTrees.{IsSink, HasWire};
+
+use crate::pin_wires::{PinWire, SinkWire};
+use crate::pins::{drives, pin_cap};
+use crate::ports::Ports;
+use cow_table::CowTable;
+use netlist_store::Store;
+use rc_tree::Tree;
+use sta_units::{Af, Fs, Memory};
+use std::alloc::Global;
+use timing_defs::{Items, Name, NetRc, PinCap, Split};
+
+/// The trees of a net in both splits.
+#[derive(Drop)]
+pub(crate) struct NetTrees {
+    pub(crate) early: Tree,
+    pub(crate) late: Tree,
+}
+
+/// A pin with its capacitance.
+fn pin_cap_of(
+    alloc: Global,
+    store: &Store,
+    ports: &Ports,
+    split: Split,
+    pin: u32,
+) -> Result<PinCap, Memory>
+    requires pin { is_number store.now.pins pin ≡ true }
+    requires ports { ArePorts store.now.design.constraints ports.now }
+    ensures { IfOk result (λ cap. cap ≡ pin_cap_at store.now split pin) }
+{
+    let name = store.pin_name(pin).copied(alloc)?;
+    let cap = pin_cap(store, ports, split, pin);
+    Ok(PinCap {
+        pin: name,
+        cap: Af(cap),
+    })
+}
+
+/// Pins with their capacitances.
+pub(crate) fn pin_caps(
+    alloc: Global,
+    store: &Store,
+    ports: &Ports,
+    split: Split,
+    pins: &[u32],
+) -> Result<Items<PinCap>, Memory>
+    requires pins { All (λ pin. is_number store.now.pins pin ≡ true) pins.now }
+    requires ports { ArePorts store.now.design.constraints ports.now }
+    ensures { IfOk result (λ caps. caps ≡ map (pin_cap_at store.now split) pins.now) }
+{
+    let mut caps = Items::with_room(alloc, pins.len())?;
+    for pin in pins {
+        let cap = pin_cap_of(alloc, store, ports, split, *pin)?;
+        caps.push(cap)?;
+    }
+    Ok(caps)
+}
+
+/// Whether a pin drives its net.
+fn is_driving(store: &Store, pin: u32) -> bool
+    requires { is_number store.now.pins pin ≡ true }
+    ensures { result ≡ drives_at store.now pin }
+{
+    drives(store, pin)
+}
+
+/// The first of some pins that drives.
+pub(crate) fn driver_of(store: &Store, pins: &[u32]) -> Option<u32>
+    requires { All (λ pin. is_number store.now.pins pin ≡ true) pins.now }
+    ensures { result ≡ find (drives_at store.now) pins.now }
+{
+    for pin in pins {
+        if is_driving(store, *pin) {
+            return Some(*pin);
+        }
+    }
+    None
+}
+
+/// The wire to a pin that is a node of a tree.
+fn sink_wire(tree: &Tree, pin: &Name) -> SinkWire
+    requires { is_node tree.now.nodes (rc_pin pin.now) ≡ true }
+    ensures { (net : NetRc) (root : List ℕ) (caps : List PinCap) → IsTreeOf net root caps tree.now → IsSink net root caps pin.now result }
+{
+    match tree.find(pin) {
+        Some(node) => SinkWire {
+            delay: tree.delay(node),
+            impulse: tree.impulse(node),
+        },
+        None => SinkWire {
+            delay: Fs(0),
+            impulse: 0,
+        },
+    }
+}
+
+/// The wire to a pin that is a node of both trees.
+fn pin_wire(trees: &NetTrees, pin: &Name) -> PinWire
+    requires early { is_node trees.now.early.nodes (rc_pin pin.now) ≡ true }
+    requires late { is_node trees.now.late.nodes (rc_pin pin.now) ≡ true }
+    ensures early { (net : NetRc) (root : List ℕ) (caps : List PinCap) → IsTreeOf net root caps trees.now.early → IsSink net root caps pin.now result.early }
+    ensures late { (net : NetRc) (root : List ℕ) (caps : List PinCap) → IsTreeOf net root caps trees.now.late → IsSink net root caps pin.now result.late }
+{
+    PinWire {
+        early: sink_wire(&trees.early, pin),
+        late: sink_wire(&trees.late, pin),
+    }
+}
+
+/// Puts the wire to a pin into the table.
+fn put_wire(
+    wires: &mut CowTable<Option<PinWire>>,
+    store: &Store,
+    trees: &NetTrees,
+    pin: u32,
+) -> Result<(), Memory>
+    requires pin { is_number store.now.pins pin ≡ true }
+    requires len { length wires.old ≡ length store.now.pins }
+    requires early { is_node trees.now.early.nodes (rc_pin (unwrap_or (name_at store.now.pins pin) [])) ≡ true }
+    requires late { is_node trees.now.late.nodes (rc_pin (unwrap_or (name_at store.now.pins pin) [])) ≡ true }
+    ensures len { OnOk result (length wires.new ≡ length wires.old) }
+    ensures there { OnOk result ((net : NetRc) (root : List ℕ) (caps : Split → List PinCap) → IsTreeOf net root (caps Split.Early) trees.now.early → IsTreeOf net root (caps Split.Late) trees.now.late → HasWire store.now net root caps wires.new pin) }
+    ensures kept { OnOk result ((other : ℕ) → nat_eq other pin ≡ false → wire_at wires.new other ≡ wire_at wires.old other) }
+{
+    store.laws();
+    let wire = pin_wire(trees, store.pin_name(pin));
+    wires.set(pin as usize, Some(wire))
+}
+
+/// Puts the wires to pins into the table.
+pub(crate) fn put_wires(
+    wires: &mut CowTable<Option<PinWire>>,
+    store: &Store,
+    trees: &NetTrees,
+    pins: &[u32],
+) -> Result<(), Memory>
+    requires pins { All (λ pin. is_number store.now.pins pin ≡ true) pins.now }
+    requires len { length wires.old ≡ length store.now.pins }
+    requires early { All (λ pin. is_node trees.now.early.nodes (rc_pin (unwrap_or (name_at store.now.pins pin) [])) ≡ true) pins.now }
+    requires late { All (λ pin. is_node trees.now.late.nodes (rc_pin (unwrap_or (name_at store.now.pins pin) [])) ≡ true) pins.now }
+    ensures len { OnOk result (length wires.new ≡ length wires.old) }
+    ensures there { OnOk result ((net : NetRc) (root : List ℕ) (caps : Split → List PinCap) → IsTreeOf net root (caps Split.Early) trees.now.early → IsTreeOf net root (caps Split.Late) trees.now.late → (pin : ℕ) → Contains pins.now pin → HasWire store.now net root caps wires.new pin) }
+    ensures kept { OnOk result ((other : ℕ) → list_any (nat_eq other) pins.now ≡ false → wire_at wires.new other ≡ wire_at wires.old other) }
+{
+    for pin in pins {
+        put_wire(wires, store, trees, *pin)?;
+    }
+    Ok(())
+}
