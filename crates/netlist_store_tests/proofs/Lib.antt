@@ -1,0 +1,2 @@
+mod EcoForms
+mod LinkedRegisters
