@@ -24,7 +24,8 @@ use Rattle.timing_defs.specs.declared.faults.Fault.TheVariants.{Memory, UnknownC
 use Rattle.timing_defs.specs.Netlist.{cell_named, is_listed, are_distinct}
 use Rattle.timing_defs.specs.Wires.{first_some}
 use Rattle.timing_defs.specs.Edits.{cells_agree, usable_cell, unless, first_fault, link_pin, link_inst, link_net, link_fault, joined, link_by, linked}
-use Rattle.netlist_store.specs.Linked.{is_cell, is_library, IsLinked, IsSized}
+use Rattle.netlist_store.specs.Linked.{IsLinked, IsSized}
+use Rattle.timing_defs.specs.Documents.{is_cell, is_library}
 use Rattle.netlist_store.specs.Applying.{IsChecked}
 use Rattle.design_link.specs.Documents.{AreDocuments, agrees_in}
 use Rattle.design_link.proofs.PinNames.{same_is}

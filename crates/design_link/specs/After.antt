@@ -10,7 +10,8 @@ use Rattle.timing_defs.specs.declared.faults.Large.TheVariants.{Net as large_net
 use Rattle.timing_defs.specs.Edits.{edited}
 use Rattle.timing_defs.specs.Cones.{touched_list}
 use Rattle.timing_defs.specs.Checks.{least, dangling, dangling_exception, rc_not_tree, rc_pins_differ, first_of_two}
-use Rattle.netlist_store.specs.Linked.{IsLinked, is_eco}
+use Rattle.netlist_store.specs.Linked.{IsLinked}
+use Rattle.timing_defs.specs.Documents.{is_eco}
 use Rattle.design_link.specs.declared.net_tests.NetTest.TheVariants.{TooManyNodes, TooManyDrivers, NoTree, OtherPins}
 use Rattle.design_link.specs.Counts.{large_count}
 use Rattle.design_link.specs.Failing.{least_among}

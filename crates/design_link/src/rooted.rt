@@ -2,7 +2,7 @@
 
 ghost use Rattle.std.specs.Prelude.{◌≡◌, ◌∷◌, ◌++◌, [], Some, true, map, IfOk, OnOk};
 ghost use Rattle.std.specs.List.{filter_map, flat_map};
-ghost use Rattle.netlist_store.specs.Linked.{is_net_rc};
+ghost use Rattle.timing_defs.specs.Documents.{is_net_rc};
 ghost use Rattle.design_link.specs.Rooted.{bare, bare_pin, bare_pins, is_rooted, rooted_by};
 
 use rc_tree::{RcFault, Tree};

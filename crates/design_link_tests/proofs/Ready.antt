@@ -23,8 +23,7 @@ use Rattle.timing_defs.specs.declared.parasitics.RcNode.{RcNode}
 use Rattle.timing_defs.specs.declared.parasitics.RcRes.{RcRes}
 use Rattle.timing_defs.specs.declared.parasitics.RcCap.{RcCap}
 use Rattle.timing_defs.specs.declared.netlist.Module.{Module}
-use Rattle.netlist_store.specs.Linked.{is_amount, is_library, are_constraints}
-use Rattle.design_link.specs.Documents.{IsNetlist}
+use Rattle.timing_defs.specs.Documents.{is_amount, is_library, are_constraints, IsNetlist}
 use Rattle.design_link_tests.specs.Designs.{library_with, netlist_with, one_inst, two_insts, constraints_of, AreAmounts, are_bare}
 
 all_push : {X : Type 0} (p : X → Bool) (xs : List X) (x : X) → list_all p xs ≡ true → p x ≡ true → list_all p (xs ++ x ∷ []) ≡ true

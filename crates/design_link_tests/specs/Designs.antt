@@ -16,7 +16,7 @@ use Rattle.timing_defs.specs.declared.netlist.Conn.{Conn}
 use Rattle.timing_defs.specs.declared.netlist.Port.{Port}
 use Rattle.timing_defs.specs.declared.netlist.Inst.{Inst}
 use Rattle.timing_defs.specs.declared.netlist.Module.{Module}
-use Rattle.netlist_store.specs.Linked.{is_amount}
+use Rattle.timing_defs.specs.Documents.{is_amount}
 
 abbrev pub pin_with : List ℕ → Dir → CellPin
 pin_with name dir = record { name = name; dir = dir; cap = record { 0 = pos 1000 } }

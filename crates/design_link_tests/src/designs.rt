@@ -1,8 +1,8 @@
 //! The documents of the tests, built by hand.
 
 ghost use Rattle.std.specs.Prelude.{◌≡◌, [], ◌∷◌, true, codes, IfOk};
-ghost use Rattle.netlist_store.specs.Linked.{is_library, are_constraints};
-ghost use Rattle.design_link.specs.Documents.{IsNetlist};
+ghost use Rattle.timing_defs.specs.Documents.{is_library, are_constraints};
+ghost use Rattle.timing_defs.specs.Documents.{IsNetlist};
 ghost use Rattle.design_link_tests.specs.Designs.{pin_with, two_pins, three_pins, cell_with, library_with, conn_to, inst_with, port_with, netlist_with, one_inst, two_insts, load_of, constraints_of};
 
 use crate::many::many;

@@ -4,7 +4,7 @@ ghost use Rattle.std.specs.Prelude.{◌≡◌, [], true, not, map, IsTrue, IfOk,
 ghost use Rattle.timing_defs.specs.Netlist.{is_listed, are_distinct};
 ghost use Rattle.std.specs.Str.{bytes_eq};
 ghost use Rattle.indexmap.specs.IndexSet.{insert_key};
-ghost use Rattle.design_link.specs.Documents.{IsNetlist};
+ghost use Rattle.timing_defs.specs.Documents.{IsNetlist};
 ghost use Rattle.design_link_tests.specs.Designs.{are_bare};
 
 use crate::designs::name;

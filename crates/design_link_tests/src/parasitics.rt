@@ -1,7 +1,7 @@
 //! Parasitics of one net, of a line of parts.
 
 ghost use Rattle.std.specs.Prelude.{◌≡◌, [], true, IfOk, OnOk};
-ghost use Rattle.netlist_store.specs.Linked.{is_net_rc, are_parasitics};
+ghost use Rattle.timing_defs.specs.Documents.{is_net_rc, are_parasitics};
 ghost use Rattle.design_link_tests.specs.Designs.{AreAmounts};
 
 use crate::designs::name;

@@ -15,7 +15,7 @@ use Rattle.timing_defs.specs.declared.faults.Fault.TheVariants.{UnknownCell, Unk
 use Rattle.timing_defs.specs.Netlist.{is_listed, are_distinct, cell_named}
 use Rattle.timing_defs.specs.Edits.{unless, link_inst, link_pin, link_net, usable_cell, cells_agree, direction_in, is_conn_of, connected}
 use Rattle.timing_defs.specs.Wires.{first_some}
-use Rattle.netlist_store.specs.Linked.{is_net_rc}
+use Rattle.timing_defs.specs.Documents.{is_net_rc}
 use Rattle.netlist_store.proofs.ListLaws.{all_push, all_changed, all_weaker, distinct_push, same_names, names_push, any_unlisted}
 use Rattle.netlist_store.proofs.LinkLaws.{none_of_all, all_of_none, joins, is_linked_inst, is_linked_rc}
 

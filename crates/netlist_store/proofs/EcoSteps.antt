@@ -11,7 +11,7 @@ use Rattle.timing_defs.specs.declared.edits.Eco.{Eco}
 use Rattle.timing_defs.specs.declared.faults.Fault.{Fault}
 use Rattle.timing_defs.specs.declared.faults.Fault.TheVariants.{Memory}
 use Rattle.timing_defs.specs.Edits.{edit, edit_by, edit_faults, first_fault, changed, edited_list}
-use Rattle.netlist_store.specs.Linked.{is_edit, is_eco}
+use Rattle.timing_defs.specs.Documents.{is_edit, is_eco}
 use Rattle.timing_defs.specs.Cones.{Touch, touched_list}
 use Rattle.netlist_store.specs.declared.touched.Touched.{Touched}
 use Rattle.netlist_store.specs.Touching.{touched_with}

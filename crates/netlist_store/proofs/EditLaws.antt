@@ -18,7 +18,8 @@ use Rattle.timing_defs.specs.declared.edits.Edit.TheVariants.{Repower, InsertGat
 use Rattle.timing_defs.specs.declared.faults.Fault.TheVariants.{UnknownCell, UnknownNet, NameTaken, PinsDiffer, InUse}
 use Rattle.timing_defs.specs.Netlist.{same_dir, is_listed, are_distinct, cell_named}
 use Rattle.timing_defs.specs.Edits.{inst_named, has_colon, before_last, after_last, cell_for, direction_in, inst_direction, need_inst, need_net, need_cell, word_direction, free_inst, free_net, keeps_pin, fits_cell, word_net, is_conn_of, joins_net, net_in_use, edit_faults, on_inst, without_rc, with_conns, with_rc, changed, first_fault, unless}
-use Rattle.netlist_store.specs.Linked.{IsLinked, is_net_rc, is_rc_for}
+use Rattle.netlist_store.specs.Linked.{IsLinked}
+use Rattle.timing_defs.specs.Documents.{is_rc_for, is_net_rc}
 use Rattle.netlist_store.proofs.ShardLaws.{same_is}
 use Rattle.netlist_store.proofs.ListLaws.{apart_sym, all_push, all_kept, all_changed, all_weaker, all_both, all_changed_at, listed_push, listed_filter, distinct_push, distinct_filter, distinct_names_filter, same_names, names_push, not_found_unlisted, any_unlisted, none_passes}
 use Rattle.netlist_store.proofs.LinkLaws.{no_fault, holds_unless, joins, is_linked_inst, is_linked_rc, IsKept, kept_of, linked_from}

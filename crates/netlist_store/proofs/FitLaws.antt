@@ -17,7 +17,8 @@ use Rattle.timing_defs.specs.declared.faults.Fault.TheVariants.{UnknownCell, Unk
 use Rattle.timing_defs.specs.Netlist.{name_of, cell_named, cell_pins, is_listed, are_distinct}
 use Rattle.timing_defs.specs.Edits.{has_colon, cells_agree, unless, link_inst, link_net, link_pin}
 use Rattle.timing_defs.specs.Wires.{first_some}
-use Rattle.netlist_store.specs.Linked.{is_amount, is_cell, is_cell_arc, is_cell_test, is_library, is_net_rc, IsLinked}
+use Rattle.netlist_store.specs.Linked.{IsLinked}
+use Rattle.timing_defs.specs.Documents.{is_amount, is_cell, is_cell_arc, is_cell_test, is_library, is_net_rc}
 use Rattle.netlist_store.specs.Building.{of_pins}
 use Rattle.netlist_store.proofs.NewTables.{IsFit}
 use Rattle.netlist_store.proofs.PinLists.{and_left, and_right, and_both, each_found, of_pins_is, all_joined, pins_distinct, IsPinned}

@@ -21,7 +21,8 @@ use Rattle.netlist_store.specs.declared.tables.Orders.{Orders}
 use Rattle.netlist_store.specs.declared.tables.PinRow.{PinRow}
 use Rattle.netlist_store.specs.declared.tables.Rows.{Rows}
 use Rattle.netlist_store.specs.Numbering.{Stored, name_at, number_of, with_name, AreNumbers}
-use Rattle.netlist_store.specs.Linked.{IsLinked, is_cell, is_cell_arc, is_cell_test, is_amount}
+use Rattle.netlist_store.specs.Linked.{IsLinked}
+use Rattle.timing_defs.specs.Documents.{is_cell, is_cell_arc, is_cell_test, is_amount}
 use Rattle.netlist_store.specs.Drafts.{IsFilled, KeepsNames, row_named, inst_row, row_among}
 use Rattle.netlist_store.specs.Stores.{at, design_in, stored_in, AreTables}
 use Rattle.netlist_store.proofs.NumberEdits.{at_with}

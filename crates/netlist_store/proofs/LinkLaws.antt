@@ -15,7 +15,8 @@ use Rattle.timing_defs.specs.declared.faults.Fault.{Fault}
 use Rattle.timing_defs.specs.Netlist.{is_listed, are_distinct}
 use Rattle.timing_defs.specs.Edits.{unless, first_fault, link_inst, link_net}
 use Rattle.timing_defs.specs.Wires.{first_some}
-use Rattle.netlist_store.specs.Linked.{IsLinked, is_net_rc}
+use Rattle.netlist_store.specs.Linked.{IsLinked}
+use Rattle.timing_defs.specs.Documents.{is_net_rc}
 use Rattle.netlist_store.proofs.ListLaws.{all_both, all_weaker}
 
 -- the first of several faults, where there is none

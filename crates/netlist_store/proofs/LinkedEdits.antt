@@ -10,7 +10,8 @@ use Rattle.timing_defs.specs.declared.edits.Edit.TheVariants.{Repower, InsertGat
 use Rattle.timing_defs.specs.declared.edits.Eco.{Eco}
 use Rattle.timing_defs.specs.declared.faults.Fault.{Fault}
 use Rattle.timing_defs.specs.Edits.{edit, edit_by, edited, edited_list, edit_faults, changed, first_fault}
-use Rattle.netlist_store.specs.Linked.{IsLinked, is_edit, is_eco}
+use Rattle.netlist_store.specs.Linked.{IsLinked}
+use Rattle.timing_defs.specs.Documents.{is_edit, is_eco}
 use Rattle.netlist_store.proofs.EditLaws.{linked_repower, linked_insert_gate, linked_remove_gate, linked_insert_net, linked_remove_net, linked_disconnect, linked_parasitics}
 use Rattle.netlist_store.proofs.PinLaws.{linked_connect, linked_insert_buffer}
 

@@ -17,7 +17,8 @@ use Rattle.timing_defs.specs.declared.edits.Edit.TheVariants.{Connect, InsertBuf
 use Rattle.timing_defs.specs.declared.faults.Fault.TheVariants.{UnknownNet, UnknownPin, PinsDiffer, AlreadyConnected}
 use Rattle.timing_defs.specs.Netlist.{same_dir, is_listed, are_distinct, cell_named}
 use Rattle.timing_defs.specs.Edits.{inst_named, before_last, after_last, cell_for, direction_in, need_net, need_cell, need_pin_inst, need_pin, need_sink, word_direction, free_inst, free_net, word_net, pins_of_dir, is_buffer, sink_faults, edit_faults, on_inst, without_rc, with_conns, connected, moved_sinks, first_pin, buffer_inst, changed, first_fault, unless}
-use Rattle.netlist_store.specs.Linked.{IsLinked, is_cell, is_cell_arc, is_cell_test}
+use Rattle.netlist_store.specs.Linked.{IsLinked}
+use Rattle.timing_defs.specs.Documents.{is_cell, is_cell_arc, is_cell_test}
 use Rattle.netlist_store.proofs.ShardLaws.{same_is}
 use Rattle.netlist_store.proofs.ListLaws.{all_push, all_weaker, listed_push, listed_last, distinct_push, names_push, found_by_name, found_passes, found_keeps, one_found}
 use Rattle.netlist_store.proofs.LinkLaws.{no_fault, no_faults, holds_unless, joins, is_linked_inst, is_linked_rc, kept_of, linked_from}

@@ -13,7 +13,8 @@ use Rattle.timing_defs.specs.declared.library.CellPin.{CellPin}
 use Rattle.timing_defs.specs.declared.design.Design.{Design}
 use Rattle.timing_defs.specs.Netlist.{Pin, name_of, port_pin, cell_pin, inst_pins, cell_pins, cell_of, pin_named, pin_at, is_listed, are_distinct}
 use Rattle.timing_defs.specs.Edits.{inst_named, has_colon, before_last, after_last}
-use Rattle.netlist_store.specs.Linked.{IsLinked, is_cell, is_cell_arc, is_cell_test, is_amount}
+use Rattle.netlist_store.specs.Linked.{IsLinked}
+use Rattle.timing_defs.specs.Documents.{is_cell, is_cell_arc, is_cell_test, is_amount}
 use Rattle.netlist_store.proofs.ShardLaws.{same_is, same_self}
 use Rattle.netlist_store.proofs.ListLaws.{apart_sym, all_weaker, found_keeps}
 use Rattle.netlist_store.proofs.LinkLaws.{kept_of}

@@ -16,7 +16,8 @@ use Rattle.netlist_store.specs.declared.tables.Names.{Names}
 use Rattle.netlist_store.specs.declared.tables.Orders.{Orders}
 use Rattle.netlist_store.specs.declared.tables.Rows.{Rows}
 use Rattle.netlist_store.specs.Numbering.{name_at, number_of, AreNumbers}
-use Rattle.netlist_store.specs.Linked.{IsLinked, is_net_rc}
+use Rattle.netlist_store.specs.Linked.{IsLinked}
+use Rattle.timing_defs.specs.Documents.{is_net_rc}
 use Rattle.netlist_store.specs.Drafts.{with_rcs}
 use Rattle.netlist_store.specs.Stores.{at, design_in, stored_in, AreTables}
 use Rattle.netlist_store.proofs.ShardLaws.{same_is, same_self}

@@ -13,7 +13,7 @@ use Rattle.std.proofs.lemmas.List.Folds.{find-append}
 use Rattle.timing_defs.specs.declared.parasitics.NetRc.{NetRc}
 use Rattle.timing_defs.specs.Netlist.{is_listed, are_distinct}
 use Rattle.netlist_store.specs.Numbering.{name_at, number_of, AreNumbers}
-use Rattle.netlist_store.specs.Linked.{differ}
+use Rattle.timing_defs.specs.Documents.{differ}
 use Rattle.netlist_store.specs.Stores.{at}
 use Rattle.netlist_store.specs.Building.{rc_named, with_row, AreRcRows}
 use Rattle.netlist_store.proofs.NumberLaws.{number_at, some_is}

@@ -1,125 +1,14 @@
--- Designs that a store takes: libraries, constraints and parasitics as their readers give them
--- (Liberty reference manual, SDC, IEEE 1481), and a netlist that is linked to its libraries.
+-- Designs that a store takes: documents as their readers give them, and a netlist that is linked to its libraries.
 
-use Rattle.std.specs.Prelude.{ℕ, ◌≤◌, ◌≡◌, ℤ, pos, ◌+ℤ◌, int_le, int_lt, nat_lt, nat_le, Bool, true, false, not, ◌&&◌, List, [], ◌∷◌, map, length}
-use Rattle.std.specs.List.{list_all, list_any, filter_map}
+use Rattle.std.specs.Prelude.{ℕ, ◌≤◌, ◌≡◌, Bool, true, false, not, ◌&&◌, List, [], ◌∷◌, map, length}
+use Rattle.std.specs.List.{list_all}
 use Rattle.std.specs.Option.{option_map_or}
-use Rattle.std.specs.Str.{bytes_eq}
-use Rattle.sta_units.specs.Numbers.{is_within}
-use Rattle.timing_defs.specs.declared.kinds.Dir.{Dir}
-use Rattle.timing_defs.specs.declared.kinds.Dir.TheVariants.{Input, Output}
-use Rattle.timing_defs.specs.declared.library.Cell.{Cell}
-use Rattle.timing_defs.specs.declared.library.CellArc.{CellArc}
-use Rattle.timing_defs.specs.declared.library.CellTest.{CellTest}
-use Rattle.timing_defs.specs.declared.library.Library.{Library}
-use Rattle.timing_defs.specs.declared.constraints.Clock.{Clock}
-use Rattle.timing_defs.specs.declared.constraints.PortDelay.{PortDelay}
-use Rattle.timing_defs.specs.declared.constraints.PortSlew.{PortSlew}
-use Rattle.timing_defs.specs.declared.constraints.PortLoad.{PortLoad}
-use Rattle.timing_defs.specs.declared.constraints.Effect.{Effect}
-use Rattle.timing_defs.specs.declared.constraints.Effect.TheVariants.{FalseSetup, FalseHold, CyclesSetup, CyclesHold}
-use Rattle.timing_defs.specs.declared.constraints.Derates.{Derates}
-use Rattle.timing_defs.specs.declared.constraints.Constraints.{Constraints}
-use Rattle.timing_defs.specs.declared.parasitics.NetRc.{NetRc}
 use Rattle.timing_defs.specs.declared.netlist.Inst.{Inst}
 use Rattle.timing_defs.specs.declared.design.Design.{Design}
-use Rattle.timing_defs.specs.declared.edits.Edit.{Edit}
-use Rattle.timing_defs.specs.declared.edits.Edit.TheVariants.{SetParasitics}
-use Rattle.timing_defs.specs.declared.edits.Eco.{Eco}
-use Rattle.timing_defs.specs.Lookup.{is_well_formed}
-use Rattle.timing_defs.specs.Netlist.{same_dir, same_split, same_tran, is_listed, are_distinct}
-use Rattle.timing_defs.specs.Edits.{direction_in, has_colon, first_fault, link_inst, link_net}
+use Rattle.timing_defs.specs.Netlist.{is_listed, are_distinct}
+use Rattle.timing_defs.specs.Edits.{has_colon, first_fault, link_inst, link_net}
 use Rattle.timing_defs.specs.Wires.{first_some}
-
--- a whole number from 0 to 10^12, as capacitances and resistances are
-abbrev pub is_amount : ℤ → Bool
-is_amount x = int_le (pos 0) x && is_within x
-
--- a pin of the cell with this direction
-abbrev pub has_pin : Cell → Dir → List ℕ → Bool
-has_pin cell dir pin = option_map_or (same_dir dir) (direction_in cell pin) false
-
-abbrev pub is_pin_of : Cell → List ℕ → Bool
-is_pin_of cell pin = list_any (λ p. bytes_eq p.name pin) cell.pins
-
--- an arc leads from a pin of the cell to an output pin, a test stands between an input pin and a pin
-abbrev pub is_cell_arc : Cell → CellArc → Bool
-is_cell_arc cell arc =
-    is_pin_of cell arc.from && has_pin cell Output arc.to && is_well_formed arc.delay && is_well_formed arc.slew
-
-abbrev pub is_cell_test : Cell → CellTest → Bool
-is_cell_test cell test = has_pin cell Input test.pin && is_pin_of cell test.clock && is_well_formed test.need
-
--- a cell: at most 10,000 pins of distinct names without a colon, and arcs, tests and tables of their forms
-abbrev pub is_cell : Cell → Bool
-is_cell cell =
-    nat_le (length cell.pins) 10000 && are_distinct (map (λ p. p.name) cell.pins)
-    && list_all (λ p. not (has_colon p.name) && is_amount p.cap.0) cell.pins
-    && list_all (is_cell_arc cell) cell.arcs && list_all (is_cell_test cell) cell.tests
-
--- a library: at most 10,000 cells of distinct names
-abbrev pub is_library : Library → Bool
-is_library library =
-    nat_le (length library.cells) 10000 && are_distinct (map (λ cell. cell.name) library.cells)
-    && list_all is_cell library.cells
-
--- a clock: a period of 2 fs or more, and 0 <= rise < fall < rise + period
-abbrev pub is_clock : Clock → Bool
-is_clock clock =
-    int_le (pos 2) clock.period.0 && is_within clock.period.0 && int_le (pos 0) clock.rise.0
-    && int_lt clock.rise.0 clock.fall.0 && int_lt clock.fall.0 (clock.rise.0 +ℤ clock.period.0)
-    && is_within clock.rise.0 && is_within clock.fall.0
-    && is_within clock.unc_setup.0 && is_within clock.unc_hold.0
-
--- no two items of a list are the same
-abbrev pub differ : {X : Type 0} → (X → X → Bool) → List X → Bool
-differ same [] = true
-differ same (x ∷ xs) = not (list_any (same x) xs) && differ same xs
-
--- a delay of a port names a clock that is there; a port, split and transition has one
-abbrev pub is_port_delay : ℕ → PortDelay → Bool
-is_port_delay clocks delay = nat_lt delay.clock clocks && is_within delay.delay.0
-
-abbrev pub same_delay : PortDelay → PortDelay → Bool
-same_delay a b = bytes_eq a.port b.port && same_split a.split b.split && same_tran a.tran b.tran
-
-abbrev pub same_slew : PortSlew → PortSlew → Bool
-same_slew a b = bytes_eq a.port b.port && same_split a.split b.split && same_tran a.tran b.tran
-
-abbrev pub same_load : PortLoad → PortLoad → Bool
-same_load a b = bytes_eq a.port b.port && same_split a.split b.split
-
--- cycles of setup from 1 to 1,000, of hold from 0 to 1,000
-abbrev pub is_effect : Effect → Bool
-is_effect FalseSetup = true
-is_effect FalseHold = true
-is_effect (CyclesSetup n) = nat_le 1 n && nat_le n 1000
-is_effect (CyclesHold n) = nat_le n 1000
-
--- factors up to 10, in millionths
-abbrev pub are_derates : Derates → Bool
-are_derates f =
-    nat_le f.early_cell 10000000 && nat_le f.late_cell 10000000 && nat_le f.early_net 10000000 && nat_le f.late_net 10000000
-
--- at most 8 clocks of distinct names, at most one on a port, and one delay, slew and load for each key
-abbrev pub are_constraints : Constraints → Bool
-are_constraints c =
-    nat_le (length c.clocks) 8 && are_distinct (map (λ clock. clock.name) c.clocks)
-    && are_distinct (filter_map (λ clock. clock.port) c.clocks) && list_all is_clock c.clocks
-    && list_all (is_port_delay (length c.clocks)) c.inputs && differ same_delay c.inputs
-    && list_all (is_port_delay (length c.clocks)) c.outputs && differ same_delay c.outputs
-    && list_all (λ s. is_amount s.slew.0) c.slews && differ same_slew c.slews
-    && list_all (λ l. is_amount l.load.0) c.loads && differ same_load c.loads
-    && list_all (λ e. is_effect e.effect) c.exceptions && are_derates c.derates
-
--- the parasitics of a net: all numbers from 0 to 10^12
-abbrev pub is_net_rc : NetRc → Bool
-is_net_rc rc =
-    list_all (λ c. is_amount c.cap.0) rc.caps && list_all (λ r. is_amount r.res.0) rc.ress && is_amount rc.lump.0
-
--- parasitics: each net once
-abbrev pub are_parasitics : List NetRc → Bool
-are_parasitics rcs = are_distinct (map (λ rc. rc.net) rcs) && list_all is_net_rc rcs
+use Rattle.timing_defs.specs.Documents.{is_library, are_constraints, are_parasitics}
 
 -- the names of ports are distinct, and so are those of instances, of nets, and of the pins in one list of connections
 abbrev pub has_distinct_names : Design → Bool
@@ -153,15 +42,3 @@ pub record IsLinked (d : Design) : Type 0 where
 pub record IsSized (d : Design) : Type 0 where
   pub insts : length d.insts ≤ 200000
   pub nets : length d.nets ≤ 200000
-
--- new parasitics name the net of their edit, and their numbers are from 0 to 10^12
-abbrev pub is_rc_for : List ℕ → NetRc → Bool
-is_rc_for net rc = bytes_eq rc.net net && is_net_rc rc
-
-abbrev pub is_edit : Edit → Bool
-is_edit (SetParasitics net rc) = option_map_or (is_rc_for net) rc true
-is_edit _ = true
-
--- an ECO: 1 to 1,000 edits
-abbrev pub is_eco : Eco → Bool
-is_eco eco = nat_le 1 (length eco.edits) && nat_le (length eco.edits) 1000 && list_all is_edit eco.edits

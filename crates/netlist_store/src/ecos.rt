@@ -6,7 +6,8 @@ ghost use Rattle.timing_defs.specs.Edits.{edit, edited};
 ghost use Rattle.timing_defs.specs.Cones.{touched_list};
 ghost use Rattle.netlist_store.specs.Touching.{touched_with};
 ghost use Rattle.netlist_store.specs.Numbering.{KeepsNumbers};
-ghost use Rattle.netlist_store.specs.Linked.{IsSized, is_eco, is_edit};
+ghost use Rattle.netlist_store.specs.Linked.{IsSized};
+ghost use Rattle.timing_defs.specs.Documents.{is_eco, is_edit};
 ghost use Rattle.netlist_store.specs.Applying.{IsEdited, IsRefused};
 ghost use Rattle.netlist_store.specs.Drafts.{FollowsAll};
 

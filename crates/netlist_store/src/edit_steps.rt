@@ -5,7 +5,7 @@ ghost use Rattle.timing_defs.specs.declared.edits.Edit.TheVariants.{Repower, Ins
 ghost use Rattle.timing_defs.specs.Netlist.{is_listed};
 ghost use Rattle.timing_defs.specs.Edits.{inst_named, edit_faults, first_fault, changed, has_colon, word_direction, word_net, with_rc, without_rc};
 ghost use Rattle.netlist_store.specs.Numbering.{number_of};
-ghost use Rattle.netlist_store.specs.Linked.{is_edit, is_rc_for};
+ghost use Rattle.timing_defs.specs.Documents.{is_edit, is_rc_for};
 ghost use Rattle.netlist_store.specs.Drafts.{FollowsAll, with_design, with_rcs};
 
 use crate::stores::Store;

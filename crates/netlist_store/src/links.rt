@@ -3,7 +3,8 @@
 ghost use Rattle.std.specs.Prelude.{◌≡◌, true, Ok};
 ghost use Rattle.timing_defs.specs.declared.design.Design.{Design};
 ghost use Rattle.timing_defs.specs.Edits.{edit, edited};
-ghost use Rattle.netlist_store.specs.Linked.{IsLinked, is_edit, is_eco};
+ghost use Rattle.netlist_store.specs.Linked.{IsLinked};
+ghost use Rattle.timing_defs.specs.Documents.{is_edit, is_eco};
 
 use crate::stores::Store;
 use timing_defs::{Eco, Edit};

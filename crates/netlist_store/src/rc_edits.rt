@@ -4,7 +4,7 @@ ghost use Rattle.std.specs.Prelude.{◌≡◌, ℕ, true, not, nat_eq, filter, �
 ghost use Rattle.std.specs.List.{list_any};
 ghost use Rattle.timing_defs.specs.Edits.{without_rc, with_rc};
 ghost use Rattle.netlist_store.specs.Numbering.{number_of};
-ghost use Rattle.netlist_store.specs.Linked.{is_net_rc};
+ghost use Rattle.timing_defs.specs.Documents.{is_net_rc};
 ghost use Rattle.netlist_store.specs.Drafts.{with_rcs};
 
 use crate::held::Held;

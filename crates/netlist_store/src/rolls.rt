@@ -3,7 +3,7 @@
 ghost use Rattle.std.specs.Prelude.{◌≡◌, ◌≢◌, ◌<◌, ◌++◌, ◌∷◌, [], ℕ, Some, true, false, not, nat_eq, filter, length, slice_get, IfOk};
 ghost use Rattle.std.specs.List.{list_any};
 ghost use Rattle.netlist_store.specs.Building.{first_numbers};
-ghost use Rattle.netlist_store.specs.Linked.{differ};
+ghost use Rattle.timing_defs.specs.Documents.{differ};
 ghost use Rattle.netlist_store.specs.Orders.{KeepsPlaces};
 
 use cow_table::CowTable;

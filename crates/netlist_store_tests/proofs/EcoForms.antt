@@ -6,7 +6,7 @@ use Rattle.std.proofs.lemmas.Bool.{le-leb}
 use Rattle.std.proofs.lemmas.List.Folds.{list_all-append}
 use Rattle.timing_defs.specs.declared.edits.Edit.{Edit}
 use Rattle.timing_defs.specs.declared.edits.Eco.{Eco}
-use Rattle.netlist_store.specs.Linked.{is_edit, is_eco}
+use Rattle.timing_defs.specs.Documents.{is_edit, is_eco}
 
 pub one_more : (edits : List Edit) (edit : Edit) → list_all is_edit edits ≡ true → is_edit edit ≡ true → list_all is_edit (edits ++ edit ∷ []) ≡ true
 one_more edits edit had h = list_all-append is_edit edits (edit ∷ []) ∙ rw (had, h) refl

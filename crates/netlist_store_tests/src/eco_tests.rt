@@ -1,7 +1,8 @@
 //! ECOs of the store of the registers, each with its first fault or with what it touches.
 
 ghost use Rattle.std.specs.Prelude.{◌≡◌, true};
-ghost use Rattle.netlist_store.specs.Linked.{IsSized, is_eco};
+ghost use Rattle.netlist_store.specs.Linked.{IsSized};
+ghost use Rattle.timing_defs.specs.Documents.{is_eco};
 
 use crate::designs::registers_store;
 use crate::ecos::eco;

@@ -2,7 +2,7 @@
 
 ghost use Rattle.std.specs.Prelude.{◌≡◌, true, IfOk, OnOk};
 ghost use Rattle.std.specs.List.{list_all};
-ghost use Rattle.netlist_store.specs.Linked.{is_edit, is_eco};
+ghost use Rattle.timing_defs.specs.Documents.{is_edit, is_eco};
 
 use crate::designs::name;
 use std::alloc::Global;

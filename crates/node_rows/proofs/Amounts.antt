@@ -17,7 +17,8 @@ use Rattle.timing_defs.specs.declared.design.Design.{Design}
 use Rattle.timing_defs.specs.Netlist.{Pin, cell_pins, cell_named, library_of, is_driver, same_split}
 use Rattle.timing_defs.specs.Wires.{pin_cap, owner_cap}
 use Rattle.timing_defs.specs.Edits.{has_colon}
-use Rattle.netlist_store.specs.Linked.{is_amount, is_library, IsLinked}
+use Rattle.netlist_store.specs.Linked.{IsLinked}
+use Rattle.timing_defs.specs.Documents.{is_amount, is_library}
 use Rattle.netlist_store.specs.Numbering.{Stored, pin_numbered}
 use Rattle.node_rows.specs.NetPins.{counted, cap_at}
 use Rattle.node_rows.proofs.Members.{all_in, found_in}

@@ -7,7 +7,7 @@ use Rattle.std.proofs.lemmas.Bool.{false≢true, and_parts, and_from, leb-true}
 use Rattle.timing_defs.specs.declared.constraints.Constraints.{Constraints}
 use Rattle.timing_defs.specs.declared.constraints.PortDelay.{PortDelay}
 use Rattle.timing_defs.specs.Netlist.{are_distinct}
-use Rattle.netlist_store.specs.Linked.{is_amount, is_clock, differ, is_port_delay, same_delay, same_slew, same_load, is_effect, are_derates, are_constraints}
+use Rattle.timing_defs.specs.Documents.{is_amount, is_clock, differ, is_port_delay, same_delay, same_slew, same_load, is_effect, are_derates, are_constraints}
 use Rattle.node_rows.specs.PortTables.{same_start, are_apart}
 
 last_two : (a b c : Bool) → (a && b && c) ≡ true → (a ≡ true) × (b ≡ true) × (c ≡ true)

@@ -18,7 +18,8 @@ use Rattle.timing_defs.specs.Netlist.{Pin, Node, pin_named, same_tran, cell_of, 
 use Rattle.timing_defs.specs.Clocking.{is_network}
 use Rattle.timing_defs.specs.Rows.{library_arcs, slew_in, times_in, time_on}
 use Rattle.timing_defs.specs.Range.{within_some}
-use Rattle.netlist_store.specs.Linked.{is_cell_arc, is_pin_of, has_pin, is_library, IsLinked}
+use Rattle.netlist_store.specs.Linked.{IsLinked}
+use Rattle.timing_defs.specs.Documents.{is_cell_arc, is_pin_of, has_pin, is_library}
 use Rattle.netlist_store.specs.Numbering.{Stored, name_at, is_number, inst_numbered, pin_numbered, owner_number, IsNumbered}
 use Rattle.node_rows.specs.declared.arcs.ArcEnds.{ArcEnds}
 use Rattle.node_rows.specs.declared.settings.NodeAt.{NodeAt}

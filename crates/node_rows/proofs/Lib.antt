@@ -3,6 +3,7 @@ pub mod Amounts
 pub mod ArcLaws
 pub mod ConstraintLaws
 pub mod CountLaws
+pub mod FineLaws
 pub mod InstForms
 pub mod LoadForms
 pub mod LoadLaws

@@ -14,7 +14,8 @@ use Rattle.timing_defs.specs.declared.parasitics.RcRes.{RcRes}
 use Rattle.timing_defs.specs.declared.design.Design.{Design}
 use Rattle.timing_defs.specs.Netlist.{Pin, name_of, is_driver}
 use Rattle.timing_defs.specs.Wires.{sum_of, net_load, rc_of, pin_cap}
-use Rattle.netlist_store.specs.Linked.{is_amount, IsLinked}
+use Rattle.netlist_store.specs.Linked.{IsLinked}
+use Rattle.timing_defs.specs.Documents.{is_amount}
 use Rattle.netlist_store.specs.Numbering.{Stored, name_at, is_number, pin_numbered, IsNumbered}
 use Rattle.node_rows.specs.NetPins.{IsOnNet, counted, cap_at}
 use Rattle.node_rows.proofs.Members.{some_is}

@@ -17,7 +17,8 @@ use Rattle.timing_defs.specs.Netlist.{Pin, Node, full_name, drives_as, is_driver
 use Rattle.timing_defs.specs.Clocking.{port_has_clock, is_clock_port}
 use Rattle.timing_defs.specs.Rows.{is_input_port, port_slew, outermost, is_clock_at, input_delay, start_at}
 use Rattle.timing_defs.specs.Range.{within_some}
-use Rattle.netlist_store.specs.Linked.{is_amount, are_constraints, IsLinked}
+use Rattle.netlist_store.specs.Linked.{IsLinked}
+use Rattle.timing_defs.specs.Documents.{is_amount, are_constraints}
 use Rattle.netlist_store.specs.Numbering.{Stored, name_at, is_number, pin_numbered, IsNumbered}
 use Rattle.node_rows.specs.declared.arcs.ArcValues.{ArcValues}
 use Rattle.node_rows.specs.declared.settings.NodeAt.{NodeAt}

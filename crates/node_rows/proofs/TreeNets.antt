@@ -24,7 +24,8 @@ use Rattle.timing_defs.specs.Rows.{net_name}
 use Rattle.timing_defs.specs.Checks.{named_nodes, different, is_pin_of, has_resistor}
 use Rattle.timing_defs.specs.Range.{rc_nodes, wires_within, is_large_rc, is_net_origin}
 use Rattle.timing_defs.proofs.ListLemmas.{bool_iff}
-use Rattle.netlist_store.specs.Linked.{is_amount, is_net_rc, IsLinked}
+use Rattle.netlist_store.specs.Linked.{IsLinked}
+use Rattle.timing_defs.specs.Documents.{is_amount, is_net_rc}
 use Rattle.netlist_store.specs.Numbering.{Stored, name_at, pin_numbered, is_on_number, IsNumbered}
 use Rattle.rc_tree.specs.Trees.{is_amount as is_measure, is_listed_pin, tree_nodes, is_unreached, is_too_large, total_load, delay_of, impulse_of, is_out_of_range, IsMeasured}
 use Rattle.rc_tree.proofs.Routes.{all_append, same_rc_is, same_rc_self}

@@ -32,7 +32,7 @@ pub struct ArcValues {
 }
 
 /// Whether two transitions are the same.
-pub(crate) fn same_tran(a: Tran, b: Tran) -> bool
+pub fn same_tran(a: Tran, b: Tran) -> bool
     ensures { result ≡ same_tran a b }
 {
     match (a, b) {
@@ -52,7 +52,7 @@ fn outer(split: Split, x: i64, y: i64) -> i64
 }
 
 /// The greater of two late values, the lesser of two early ones; the other where there is one alone.
-pub(crate) fn outer_some(split: Split, best: Option<i64>, next: Option<i64>) -> Option<i64>
+pub fn outer_some(split: Split, best: Option<i64>, next: Option<i64>) -> Option<i64>
     ensures { result ≡ outer_some split best next }
 {
     match (best, next) {

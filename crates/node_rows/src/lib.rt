@@ -16,8 +16,10 @@ mod unfit;
 mod values;
 mod wire_tables;
 
-pub use arcs::{ArcEnds, ArcValues, arc_values};
+pub use arcs::{ArcEnds, ArcValues, arc_values, outer_some, same_tran};
+pub use merges::{plus_some, time_on, times_in};
 pub use pin_wires::{NetLoad, PinWire, SinkWire, Wires};
 pub use ports::Ports;
 pub use rows::node_row;
 pub use settings::{Before, NodeAt, Setting};
+pub use values::{slew_in, values_into};

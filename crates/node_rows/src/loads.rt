@@ -5,7 +5,7 @@ ghost use Rattle.std.specs.List.{list_all};
 ghost use Rattle.sta_units.specs.Numbers.{is_within};
 ghost use Rattle.timing_defs.specs.Wires.{sum_of, net_load, rc_of};
 ghost use Rattle.netlist_store.specs.Numbering.{is_number, name_at};
-ghost use Rattle.netlist_store.specs.Linked.{is_amount};
+ghost use Rattle.timing_defs.specs.Documents.{is_amount};
 ghost use Rattle.node_rows.specs.PortTables.{ArePorts};
 ghost use Rattle.node_rows.specs.NetPins.{cap_at, IsOnNet};
 

@@ -58,7 +58,7 @@ pub(crate) fn merged_slew(split: Split, values: &[ArcValues]) -> Option<i64>
 }
 
 /// The times of a row in a split.
-fn times_in(row: &NodeRow, split: Split) -> &[EdgeTime]
+pub fn times_in(row: &NodeRow, split: Split) -> &[EdgeTime]
     ensures { result.now ≡ times_in split row.now }
 {
     match split {
@@ -68,7 +68,7 @@ fn times_in(row: &NodeRow, split: Split) -> &[EdgeTime]
 }
 
 /// The time on a launch edge, in fs.
-fn time_on(times: &[EdgeTime], clock: u32, tran: Tran) -> Option<i64>
+pub fn time_on(times: &[EdgeTime], clock: u32, tran: Tran) -> Option<i64>
     ensures { result ≡ time_on times.now (clock, tran) }
 {
     for time in times {
@@ -80,7 +80,7 @@ fn time_on(times: &[EdgeTime], clock: u32, tran: Tran) -> Option<i64>
 }
 
 /// A time and a delay together, where both are there.
-fn plus_some(time: Option<i64>, delay: Option<i64>) -> Option<i64>
+pub fn plus_some(time: Option<i64>, delay: Option<i64>) -> Option<i64>
     requires time { within_some time ≡ true }
     requires delay { within_some delay ≡ true }
     ensures { result ≡ plus_some time delay }

@@ -31,7 +31,7 @@ fn no_values() -> ArcValues
 }
 
 /// The slew of a row in a split, in fs.
-pub(crate) fn slew_in(row: &NodeRow, split: Split) -> Option<i64>
+pub fn slew_in(row: &NodeRow, split: Split) -> Option<i64>
     ensures { result ≡ slew_in split row.now }
 {
     match split {
@@ -255,7 +255,7 @@ fn net_values(
 
 /// What an arc brings to a node from another. `OutOfRange` exactly where a quantity of the arc leaves its
 /// limit. Takes no memory.
-pub(crate) fn values_into(
+pub fn values_into(
     setting: &Setting<'_>,
     split: Split,
     to: NodeAt,

@@ -1,19 +1,21 @@
-mod ArcLaws
-mod DriverLaws
-mod FanLaws
-mod GraphLaws
-mod GraphOf
-mod GraphPlaces
-mod JoinLaws
-mod LevelLaws
-mod LoopLaws
-mod Members
-mod MergeLaws
-mod NetworkLaws
+pub mod ArcLaws
+pub mod DriverLaws
+pub mod FanLaws
+pub mod GraphLaws
+pub mod GraphOf
+pub mod GraphPlaces
+pub mod GraphRows
+pub mod JoinLaws
+pub mod LevelBound
+pub mod LevelLaws
+pub mod LoopLaws
+pub mod Members
+pub mod MergeLaws
+pub mod NetworkLaws
 pub mod NodeLaws
-mod PinLaws
-mod PinNames
-mod PlaceLaws
-mod StartLaws
-mod TreeLaws
-mod WalkLaws
+pub mod PinLaws
+pub mod PinNames
+pub mod PlaceLaws
+pub mod StartLaws
+pub mod TreeLaws
+pub mod WalkLaws

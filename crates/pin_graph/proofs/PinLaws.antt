@@ -19,7 +19,8 @@ use Rattle.timing_defs.specs.declared.design.Design.{Design}
 use Rattle.timing_defs.specs.Netlist.{Pin, name_of, port_pin, cell_pin, cell_pins, cell_of, inst_pins, pins, pin_named, same_dir}
 use Rattle.timing_defs.specs.Edits.{inst_named}
 use Rattle.timing_defs.specs.Lookup.{is_well_formed}
-use Rattle.netlist_store.specs.Linked.{is_cell_arc, is_cell_test, is_pin_of, has_pin, IsLinked}
+use Rattle.netlist_store.specs.Linked.{IsLinked}
+use Rattle.timing_defs.specs.Documents.{is_cell_arc, is_cell_test, is_pin_of, has_pin}
 use Rattle.netlist_store.specs.Numbering.{Stored, name_at, number_of, is_named, is_number, inst_numbered, pin_numbered, IsNumbered}
 use Rattle.pin_graph.proofs.PinNames.{same_is, insts_apart, pins_apart, arcs_good, tests_good}
 use Rattle.pin_graph.proofs.Members.{some_is, in_map, in_map_back, in_flat_map, in_flat_map_back, any_back, all_in, found_in, found_passes, found_by}

@@ -19,7 +19,8 @@ use Rattle.timing_defs.specs.declared.netlist.Inst.{Inst}
 use Rattle.timing_defs.specs.declared.design.Design.{Design}
 use Rattle.timing_defs.specs.Netlist.{name_of, port_pin, cell_pin, cell_pins, cell_named, inst_pins, pins, is_listed, are_distinct}
 use Rattle.timing_defs.specs.Edits.{has_colon, before_last}
-use Rattle.netlist_store.specs.Linked.{is_amount, is_cell, is_cell_arc, is_cell_test, is_library, IsLinked}
+use Rattle.netlist_store.specs.Linked.{IsLinked}
+use Rattle.timing_defs.specs.Documents.{is_amount, is_cell, is_cell_arc, is_cell_test, is_library}
 
 pub same_is : (a b : List ℕ) → bytes_eq a b ≡ true → a ≡ b
 same_is a b = (bytes_eq-Decides a b).0

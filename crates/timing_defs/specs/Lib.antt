@@ -17,3 +17,4 @@ pub mod Edits
 pub mod Output
 pub mod Reports
 pub mod Sessions
+pub mod Documents

@@ -5,7 +5,7 @@ use Rattle.timing_defs.specs.declared.scripts.Transcript.{Transcript}
 use Rattle.timing_defs.specs.declared.design.Design.{Design}
 use Rattle.timing_defs.specs.Rows.{clock_edges}
 use Rattle.timing_defs.specs.Output.{journal_text, final_text, output_text}
-use Rattle.arrival_engine.specs.Plain.{no_constraints, pin_rows}
+use Rattle.first_rows.specs.Plain.{no_constraints, pin_rows}
 use Rattle.timing_shell.specs.declared.documents.Documents.{Documents}
 use Rattle.timing_shell.specs.Checked.{IsChecked, IsReady}
 use Rattle.timing_shell.specs.Serving.{design_of, IsAnswer, DesignEnds}

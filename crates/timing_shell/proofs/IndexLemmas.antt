@@ -11,7 +11,7 @@ use Rattle.timing_defs.specs.declared.kinds.Tran.{Tran}
 use Rattle.timing_defs.specs.declared.scripts.Row.{Row}
 use Rattle.timing_defs.specs.Output.{number, word}
 use Rattle.timing_defs.proofs.SameNames.{same_is}
-use Rattle.arrival_engine.specs.declared.plain.PinRow.{PinRow}
+use Rattle.first_rows.specs.declared.plain.PinRow.{PinRow}
 use Rattle.timing_shell.specs.Session.{or_else, place_from, row_named, slew_row, slew_text, rows_text, has_refusal, is_refusal}
 
 pub or_else_chain : (a : Option ℕ) (b : Bool) (at : ℕ) (rest : Option ℕ) → or_else (or_else a (cond b (Some at) None)) rest ≡ or_else a (cond b (Some at) rest)

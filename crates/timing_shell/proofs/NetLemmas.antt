@@ -11,7 +11,7 @@ use Rattle.timing_defs.specs.declared.netlist.Inst.{Inst}
 use Rattle.timing_defs.specs.declared.netlist.Port.{Port}
 use Rattle.timing_defs.specs.declared.design.Design.{Design}
 use Rattle.timing_defs.specs.Netlist.{Pin, pins, port_pin, cell_pin, cell_pins, cell_of, inst_pins, net_of, conn_net, is_driver, same_dir}
-use Rattle.arrival_engine.specs.Plain.{nets_driven, nets_read, follows, is_ordered}
+use Rattle.first_rows.specs.Plain.{nets_driven, nets_read, follows, is_ordered}
 use Rattle.timing_shell.specs.Nets.{pin_net, nets_with, inst_nets, insts_nets, port_net, port_nets, driven, known, follows_in, pin_count}
 use Rattle.timing_shell.specs.Checked.{is_in_order}
 

@@ -8,7 +8,7 @@ use Rattle.first_forms.specs.Blanks.{is_white, first_constraints}
 use Rattle.first_forms.specs.Blanks.{no_constraints as blank_constraints}
 use Rattle.first_forms.specs.Words.{RunWords}
 use Rattle.first_forms.proofs.LibraryValues.{read_library}
-use Rattle.arrival_engine.specs.Plain.{no_constraints}
+use Rattle.first_rows.specs.Plain.{no_constraints}
 use Rattle.timing_shell.specs.declared.documents.Documents.{Documents}
 use Rattle.timing_shell.specs.Documents.{Docs, AreDocuments}
 use Rattle.timing_shell.specs.FirstForm.{IsFirstForm}

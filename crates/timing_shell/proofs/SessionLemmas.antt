@@ -19,8 +19,8 @@ use Rattle.timing_defs.specs.Netlist.{Pin, name_of, pins, pin_named}
 use Rattle.timing_defs.specs.Rows.{as_fs, slew, row}
 use Rattle.timing_defs.specs.Reports.{at_node, fs_value}
 use Rattle.timing_defs.specs.Sessions.{mark_of, Suits, OrderedFrom, IsTrueAnswer, AreTrue, accepted_ecos, sort_of}
-use Rattle.arrival_engine.specs.declared.plain.PinRow.{PinRow}
-use Rattle.arrival_engine.specs.Plain.{pin_row, pin_rows}
+use Rattle.first_rows.specs.declared.plain.PinRow.{PinRow}
+use Rattle.first_rows.specs.Plain.{pin_row, pin_rows}
 use Rattle.timing_shell.specs.Session.{slew_of, tran_row, told, answer_of, slew_row, rows_from}
 use Rattle.timing_shell.specs.FirstForm.{AllSlews}
 

@@ -16,8 +16,8 @@ use Rattle.timing_defs.specs.Netlist.{pins, are_distinct, cell_named}
 use Rattle.timing_defs.specs.Edits.{link_fault, link_by, linked}
 use Rattle.timing_defs.specs.Checks.{large, most}
 use Rattle.timing_defs.specs.Range.{NoOrigin}
-use Rattle.arrival_engine.specs.Plain.{IsPlain}
-use Rattle.arrival_engine.specs.Shares.{IsRefused}
+use Rattle.first_rows.specs.Plain.{IsPlain}
+use Rattle.first_rows.specs.Shares.{IsRefused}
 use Rattle.timing_shell.specs.declared.documents.Documents.{Documents}
 use Rattle.timing_shell.specs.Nets.{links, conns_fit, has_few_pins}
 use Rattle.timing_shell.specs.Checked.{has_few_parts, IsChecked, IsReady, FailsCheck, Overflows}

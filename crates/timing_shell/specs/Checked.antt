@@ -6,7 +6,7 @@ use Rattle.timing_defs.specs.declared.design.Design.{Design}
 use Rattle.timing_defs.specs.declared.faults.Place.{Place}
 use Rattle.timing_defs.specs.Netlist.{are_distinct}
 use Rattle.timing_defs.specs.Range.{is_origin}
-use Rattle.arrival_engine.specs.Plain.{is_plain_cell, no_constraints}
+use Rattle.first_rows.specs.Plain.{is_plain_cell, no_constraints}
 use Rattle.timing_shell.specs.Nets.{links, driven, insts_nets, follows_in, has_few_pins}
 
 abbrev pub all_link : Design → Bool

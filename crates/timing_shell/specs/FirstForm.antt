@@ -8,10 +8,10 @@ use Rattle.timing_defs.specs.declared.scripts.Command.{Command}
 use Rattle.timing_defs.specs.declared.scripts.Command.TheVariants.{Take, Await, Ask, Change}
 use Rattle.timing_defs.specs.declared.scripts.Script.{Script}
 use Rattle.timing_defs.specs.Output.{line, number, journal_text, final_text}
-use Rattle.arrival_engine.specs.declared.plain.PinRow.{PinRow}
+use Rattle.first_rows.specs.declared.plain.PinRow.{PinRow}
 use Rattle.timing_defs.specs.declared.design.Design.{Design}
 use Rattle.timing_defs.specs.Range.{NoOrigin}
-use Rattle.arrival_engine.specs.Plain.{is_plain_cell, no_constraints, pin_rows}
+use Rattle.first_rows.specs.Plain.{is_plain_cell, no_constraints, pin_rows}
 use Rattle.timing_shell.specs.declared.documents.Documents.{Documents}
 use Rattle.timing_shell.specs.Documents.{design_line}
 use Rattle.timing_shell.specs.Checked.{IsChecked, FailsCheck, Overflows}

@@ -13,7 +13,7 @@ use Rattle.timing_defs.specs.Edits.{link_fault, joined, linked}
 use Rattle.timing_defs.specs.Checks.{large}
 use Rattle.timing_defs.specs.Range.{is_origin}
 use Rattle.timing_defs.specs.Sessions.{IsWhole, IsOutput}
-use Rattle.arrival_engine.specs.Plain.{nets_driven, is_ordered}
+use Rattle.first_rows.specs.Plain.{nets_driven, is_ordered}
 use Rattle.first_forms.specs.Words.{RunWords, run_of}
 use Rattle.timing_shell.specs.declared.documents.Role.{Role}
 use Rattle.timing_shell.specs.declared.documents.How.{How}

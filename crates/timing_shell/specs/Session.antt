@@ -22,7 +22,7 @@ use Rattle.timing_defs.specs.declared.scripts.Answer.TheVariants.{Taken, Reached
 use Rattle.timing_defs.specs.declared.scripts.Row.{Row}
 use Rattle.timing_defs.specs.declared.scripts.Totals.{Totals}
 use Rattle.timing_defs.specs.Output.{line, word, time_text, row_text}
-use Rattle.arrival_engine.specs.declared.plain.PinRow.{PinRow}
+use Rattle.first_rows.specs.declared.plain.PinRow.{PinRow}
 
 abbrev pub slew_of : NodeRow → Split → Option Fs
 slew_of row Early = row.early_slew

@@ -1,7 +1,7 @@
 //! The answer of a run whose documents were read.
 
 ghost use Rattle.std.specs.Prelude.{◌≡◌, ◌⊎◌, ◌≤◌, [], IfOk, MatchOption, length, if◌then◌else◌};
-ghost use Rattle.arrival_engine.specs.Plain.{IsPlain, pin_rows};
+ghost use Rattle.first_rows.specs.Plain.{IsPlain, pin_rows};
 ghost use Rattle.timing_defs.specs.Range.{NoOrigin};
 ghost use Rattle.timing_shell.specs.Checked.{IsReady, IsChecked, FailsCheck, Overflows};
 ghost use Rattle.timing_shell.specs.FirstForm.{IsFirstForm, EndsOver, session_output};
@@ -13,7 +13,7 @@ use crate::checks::is_checked;
 use crate::documents::Documents;
 use crate::session::{answer_all, index};
 use crate::texts::{design_line, push_final, push_journal, push_session};
-use arrival_engine::{PinRow, plain_rows};
+use first_rows::{PinRow, plain_rows};
 use sta_units::Memory;
 use std::alloc::Global;
 use timing_defs::{Command, Design, Fault, Items, Script};

@@ -7,7 +7,7 @@ ghost use Rattle.indexmap.specs.IndexMap.{get};
 ghost use Rattle.timing_shell.specs.Session.{slew_of, tran_row, or_else, IsIndex, told, query_rows, command_rows, rows_from, has_refusal, rows_text};
 
 use crate::texts::push_row;
-use arrival_engine::PinRow;
+use first_rows::PinRow;
 use indexmap::IndexMap;
 use sta_units::{Fs, Memory};
 use std::alloc::Global;

@@ -1,7 +1,7 @@
 use Rattle.std.proofs.Common.{◌≡◌, ◌+◌, pos, false, Some, ap, sym, ◌∙◌}
 use Rattle.std.specs.Prelude.{option_map}
 use Rattle.std.specs.List.{list_all}
-use Rattle.netlist_store.specs.Linked.{is_amount}
+use Rattle.timing_defs.specs.Documents.{is_amount}
 use Rattle.sta_units.specs.Numbers.{is_within}
 use Rattle.timing_defs.specs.declared.parasitics.RcCap.{RcCap}
 use Rattle.timing_defs.specs.Wires.{sum_of, net_load}

@@ -4,7 +4,7 @@ use Rattle.std.proofs.lemmas.Int.{to_z-of_z}
 use Rattle.timing_defs.specs.Rows.{factor_of}
 use Rattle.timing_defs.specs.Range.{within_some}
 use Rattle.timing_defs.specs.declared.constraints.Constraints.{Constraints}
-use Rattle.netlist_store.specs.Linked.{are_derates}
+use Rattle.timing_defs.specs.Documents.{are_derates}
 use Rattle.node_rows.specs.declared.arcs.ArcValues.{ArcValues}
 use Rattle.node_rows.specs.Between.{has_tables, are_within}
 use Rattle.node_rows.specs.Evaluation.{IsAlong, told_wide, scaled_values}

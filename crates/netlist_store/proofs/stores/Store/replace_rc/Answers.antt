@@ -4,7 +4,7 @@ use Rattle.std.specs.Str.{bytes_eq}
 use Rattle.std.proofs.lemmas.Bool.{and_parts}
 use Rattle.timing_defs.specs.declared.parasitics.NetRc.{NetRc}
 use Rattle.timing_defs.specs.Edits.{with_rc}
-use Rattle.netlist_store.specs.Linked.{is_net_rc}
+use Rattle.timing_defs.specs.Documents.{is_net_rc}
 use Rattle.netlist_store.specs.Numbering.{Stored, number_of}
 use Rattle.netlist_store.specs.Drafts.{with_rcs}
 use Rattle.netlist_store.proofs.ShardLaws.{same_is}

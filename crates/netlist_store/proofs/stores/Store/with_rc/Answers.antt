@@ -2,7 +2,7 @@ use Rattle.std.proofs.Common.{ap, sym, ◌∙◌}
 use Rattle.std.specs.Prelude.{is_some}
 use Rattle.timing_defs.specs.declared.parasitics.NetRc.{NetRc}
 use Rattle.timing_defs.specs.Edits.{with_rc}
-use Rattle.netlist_store.specs.Linked.{is_net_rc}
+use Rattle.timing_defs.specs.Documents.{is_net_rc}
 use Rattle.netlist_store.specs.Numbering.{Stored, number_of}
 use Rattle.netlist_store.specs.Drafts.{with_rcs}
 use Rattle.netlist_store.proofs.RcEdits.{rc_put_design, rc_put_tables, some_copied}
