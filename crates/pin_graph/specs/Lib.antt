@@ -10,3 +10,4 @@ pub mod PinGraphs
 pub mod Placing
 pub mod Refusals
 pub mod Trees
+pub mod RowTables
