@@ -21,5 +21,5 @@ pub use merges::{plus_some, time_on, times_in};
 pub use pin_wires::{NetLoad, PinWire, SinkWire, Wires};
 pub use ports::Ports;
 pub use rows::node_row;
-pub use settings::{Before, NodeAt, Setting};
+pub use settings::{Before, NodeAt, Setting, Wired};
 pub use values::{slew_in, values_into};
