@@ -1,3 +1,4 @@
 pub mod NameMapLemmas
 pub mod NodeLemmas
 pub mod RowLemmas
+pub mod KeptLaws

@@ -1,6 +1,7 @@
 //! The reader: the parasitics of a text, or its least fault.
 
-ghost use Rattle.std.specs.Prelude.{◌≡◌, [], MatchResult};
+ghost use Rattle.std.specs.Prelude.{◌≡◌, [], true, MatchResult, IfOk};
+ghost use Rattle.timing_defs.specs.Documents.{are_parasitics};
 ghost use Rattle.sta_text.specs.Faults.{Fails};
 ghost use Rattle.spef_reader.specs.Grammar.{events_of};
 ghost use Rattle.spef_reader.specs.Faults.{faults_of};
@@ -21,7 +22,8 @@ use timing_defs::{Parasitics, ReadFault};
 /// named `instance:pin` whatever the text's delimiter is, or the net and a number below 2^32. Values
 /// are rounded once, to aF and mΩ; of a triplet the second counts. A capacitance between two nodes
 /// counts to ground at the first of them that is a node of the net. A net without resistances is
-/// lumped: `lump` is the sum of its capacitances, or its total where it has none.
+/// lumped: `lump` is the sum of its capacitances, or its total where it has none. Each net is given
+/// once, and all values lie from 0 to 10^12.
 ///
 /// # Errors
 ///
@@ -36,9 +38,10 @@ use timing_defs::{Parasitics, ReadFault};
 /// - `P5`: a net twice.
 ///
 /// Want of memory may come at any time. It reads the bytes once, in linear time.
-#[tactic(auto, using(sta_text::proofs::FaultsLemmas::least_none))]
+#[tactic(auto, using(sta_text::proofs::FaultsLemmas::least_none, crate::proofs::KeptLaws::good))]
 pub fn read_parasitics(alloc: Global, bytes: &[u8]) -> Result<Parasitics, ReadFault>
-    ensures { MatchResult result (λ p. (faults_of (events_of bytes.now) ≡ []) × (p ≡ parasitics_of (events_of bytes.now))) (λ e. Fails e (faults_of (events_of bytes.now))) }
+    ensures value { MatchResult result (λ p. (faults_of (events_of bytes.now) ≡ []) × (p ≡ parasitics_of (events_of bytes.now))) (λ e. Fails e (faults_of (events_of bytes.now))) }
+    ensures kept { IfOk result (λ p. are_parasitics p.nets ≡ true) }
 {
     let events = events_of(alloc, bytes)?;
     match least_fault(alloc, events.as_slice())? {

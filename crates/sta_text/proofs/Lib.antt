@@ -3,3 +3,5 @@ pub mod OrderLemmas
 pub mod NamesLemmas
 pub mod PlacesLemmas
 pub mod FaultsLemmas
+pub mod DistinctLemmas
+pub mod DecimalLemmas

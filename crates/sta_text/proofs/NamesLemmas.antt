@@ -21,7 +21,7 @@ or_move true false c = refl
 or_move false b c = refl
 
 -- a name stands in a list with one more behind it where it is that one or stands before
-stands_push : (names : List (List ℕ)) (name q : List ℕ) → stands (names ++ name ∷ []) q ≡ (bytes_eq q name || stands names q)
+pub stands_push : (names : List (List ℕ)) (name q : List ℕ) → stands (names ++ name ∷ []) q ≡ (bytes_eq q name || stands names q)
 stands_push [] name q = refl
 stands_push (n ∷ names) name q =
     ap (λ rest. bytes_eq q n || rest) (stands_push names name q)
