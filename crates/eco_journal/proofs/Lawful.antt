@@ -24,7 +24,7 @@ use Rattle.eco_journal.specs.Journal.{edit_at, at_line, eco_edits, eco_step, eco
 use Rattle.eco_journal.specs.Written.{IsName, IsNode, IsSize, AreCaps, AreRess, IsRc, IsEdit, AreEdits, IsEco}
 
 -- a value that is there meets a condition
-abbrev IfThere : {X E : Type 0} → (X → Type 0) → Result X E → Type 0
+abbrev pub IfThere : {X E : Type 0} → (X → Type 0) → Result X E → Type 0
 IfThere P (Ok x) = P x
 IfThere P (Err e) = Unit {0}
 
@@ -215,7 +215,7 @@ buffer_lawful words =
     (h1.1, h2.1, h3.1, h4.1, texts_named (drop 5 words) h5.1, grind (arith, texts_many (drop 5 words), behind))) (λ _. tt)
 
 -- an edit that is read is lawful
-edit_lawful : (mixed : Bool) (words : List Part) → IfThere IsEdit (edit_of mixed words)
+pub edit_lawful : (mixed : Bool) (words : List Part) → IfThere IsEdit (edit_of mixed words)
 unfolding edit_of
 edit_lawful mixed words =
     cond_both (says words 0 (codes "repower_gate")) _ _ (IfThere IsEdit) (λ _. made AreTwo IsEdit (pair_of Repower) (two_names words) (λ pair h. h) (two_named words)) (λ _.
@@ -231,7 +231,7 @@ edit_lawful mixed words =
 pub edit_there : (mixed : Bool) (words : List Part) (e : Edit) → edit_of mixed words ≡ Ok e → IsEdit e
 edit_there mixed words e read = subst (IfThere IsEdit) read (edit_lawful mixed words)
 
-at_line_lawful : {X : Type 0} (P : X → Type 0) (line : Part) (r : Result X Stop) → IfThere P r → IfThere P (at_line line r)
+pub at_line_lawful : {X : Type 0} (P : X → Type 0) (line : Part) (r : Result X Stop) → IfThere P r → IfThere P (at_line line r)
 at_line_lawful P line (Ok x) h = h
 at_line_lawful P line (Err stop) h = tt
 

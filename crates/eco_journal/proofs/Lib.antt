@@ -10,3 +10,4 @@ pub mod EditsBack
 pub mod JournalBack
 pub mod BlockBack
 pub mod Lawful
+pub mod KeptLaws

@@ -1,11 +1,12 @@
 //! The entries of a journal.
 
-ghost use Rattle.std.specs.Prelude.{false, ◌≡◌, ◌+◌, ◌-◌, ◌<◌, ◌≤◌, ◌^◌, ◌∷◌, ◌++◌, [], ℕ, List, length, map, Ok, Err, IfOk, MatchResult};
+ghost use Rattle.std.specs.Prelude.{true, false, ◌≡◌, ◌+◌, ◌-◌, ◌<◌, ◌≤◌, ◌^◌, ◌∷◌, ◌++◌, [], ℕ, List, length, map, Ok, Err, IfOk, MatchResult};
 ghost use Rattle.std.specs.List.{list_all};
 ghost use Rattle.eco_journal.specs.Lines.{Part, part_of, words_of};
 ghost use Rattle.eco_journal.specs.Words.{is_word};
 ghost use Rattle.eco_journal.specs.Stops.{Gives, Stops};
 ghost use Rattle.timing_defs.specs.declared.edits.Edit.{Edit};
+ghost use Rattle.timing_defs.specs.Documents.{is_eco};
 ghost use Rattle.timing_defs.specs.declared.edits.Entry.{Entry};
 ghost use Rattle.eco_journal.specs.Journal.{Text, at_line, is_form, is_head, number_at, with_session, head_of, entry_head, edit_at, eco_edits, eco_of, entries, entries_left, edits_left, block_left, heading, entry, edit, plain_form, plain_head, entries_of, Fails, Tells};
 
@@ -235,7 +236,7 @@ fn whole(alloc: Global, lines: &mut Lines<'_>, size: usize) -> Result<Items<Entr
 }
 
 /// The entries of a journal: `journal 1 COUNT`, then for each entry `entry N session S edits M` and
-/// its M edits, a line each.
+/// its M edits, a line each, which are such as `read_eco` gives.
 ///
 /// # Errors
 ///
@@ -243,20 +244,16 @@ fn whole(alloc: Global, lines: &mut Lines<'_>, size: usize) -> Result<Items<Entr
 /// byte; one that is missing is named by the text's length. `J2`: a number word that is none or
 /// out of its range. `J3`: a first number other than 1. Or want of memory.
 pub fn read_entries(alloc: Global, bytes: &[u8]) -> Result<Items<Entry>, ReadFault>
-    ensures { Tells result (entries_of bytes.now) }
+    ensures value { Tells result (entries_of bytes.now) }
+    ensures kept { IfOk result (λ all. list_all (λ (e : Entry). is_eco e.eco) all ≡ true) }
 {
     let mut lines = Lines::new(bytes);
     whole(alloc, &mut lines, bytes.len())
 }
 
-/// The edits of a text of edit lines alone, of which there are 1 to 1,000.
-///
-/// # Errors
-///
-/// The fault of least place. `J1`: a line of another form, the 1,001st line, or no line. `J2`: a
-/// number word that is none or out of its range. Or want of memory.
+/// The edits of a text that has nothing else.
 #[tactic(auto, using(crate::proofs::JournalLemmas::eco_stopped), unfolding(crate::specs::Journal::eco_edits))]
-pub fn read_eco(alloc: Global, lines: &[u8]) -> Result<Eco, ReadFault>
+fn whole_eco(alloc: Global, lines: &[u8]) -> Result<Eco, ReadFault>
     ensures { Tells result (eco_of lines.now) }
 {
     let size = lines.len();
@@ -272,4 +269,18 @@ pub fn read_eco(alloc: Global, lines: &[u8]) -> Result<Eco, ReadFault>
         return Err(bad_line(size));
     }
     Ok(Eco { edits })
+}
+
+/// The edits of a text of edit lines alone, of which there are 1 to 1,000. New parasitics name the
+/// net of their edit, with numbers from 0 to 10^12.
+///
+/// # Errors
+///
+/// The fault of least place. `J1`: a line of another form, the 1,001st line, or no line. `J2`: a
+/// number word that is none or out of its range. Or want of memory.
+pub fn read_eco(alloc: Global, lines: &[u8]) -> Result<Eco, ReadFault>
+    ensures value { Tells result (eco_of lines.now) }
+    ensures kept { IfOk result (λ eco. is_eco eco ≡ true) }
+{
+    whole_eco(alloc, lines)
 }

@@ -1,6 +1,8 @@
 //! Saved journals.
 
 ghost use Rattle.std.specs.Prelude.{◌≡◌, ◌+◌, ◌<◌, ◌≤◌, ◌^◌, ◌∷◌, ◌==◌, ◌&&◌, true, Result, [], List, length, map, Ok, Err, None, Some, IfOk, MatchResult};
+ghost use Rattle.std.specs.List.{list_all};
+ghost use Rattle.timing_defs.specs.Documents.{is_eco};
 ghost use Rattle.timing_defs.specs.declared.edits.Entry.{Entry};
 ghost use Rattle.eco_journal.specs.Lines.{Part, part_of, words_of};
 ghost use Rattle.eco_journal.specs.Words.{number_of, text as text_of, at as place_of};
@@ -267,19 +269,9 @@ fn read_block(
     entries(alloc, lines, size, count, all)
 }
 
-/// The entries of a saved journal, which is a list of blocks: of journals that `read_entries` reads,
-/// and of blocks `journal 2 FIRST COUNT`, `derates EC LC EN LN` and COUNT entries, where FIRST counts
-/// the entries of the blocks before. The factors of each block, in millionths, are `derates`; those
-/// of a block of the first form are all 1,000,000.
-///
-/// # Errors
-///
-/// The fault of least place, and at one place the one of lowest number. `J1`: a line of another
-/// form or out of count, as in `read_entries`. `J2`: a number word that is none or out of its
-/// range. `J3`: a first number other than 1 and 2. `J5`: other factors, at the block's first byte.
-/// Or want of memory.
+/// The entries of the blocks of a saved journal.
 #[tactic(auto, unfolding(crate::specs::Journal::entries))]
-pub fn read_saved(alloc: Global, bytes: &[u8], derates: &Derates) -> Result<Items<Entry>, ReadFault>
+fn whole_saved(alloc: Global, bytes: &[u8], derates: &Derates) -> Result<Items<Entry>, ReadFault>
     ensures { Tells result (saved_of bytes.now derates.now) }
 {
     let size = bytes.len();
@@ -289,4 +281,22 @@ pub fn read_saved(alloc: Global, bytes: &[u8], derates: &Derates) -> Result<Item
         read_block(alloc, &mut lines, size, &line, derates, &mut all)?;
     }
     Ok(all)
+}
+
+/// The entries of a saved journal, which is a list of blocks: of journals that `read_entries` reads,
+/// and of blocks `journal 2 FIRST COUNT`, `derates EC LC EN LN` and COUNT entries, where FIRST counts
+/// the entries of the blocks before. The factors of each block, in millionths, are `derates`; those
+/// of a block of the first form are all 1,000,000. The edits of each entry are such as `read_eco` gives.
+///
+/// # Errors
+///
+/// The fault of least place, and at one place the one of lowest number. `J1`: a line of another
+/// form or out of count, as in `read_entries`. `J2`: a number word that is none or out of its
+/// range. `J3`: a first number other than 1 and 2. `J5`: other factors, at the block's first byte.
+/// Or want of memory.
+pub fn read_saved(alloc: Global, bytes: &[u8], derates: &Derates) -> Result<Items<Entry>, ReadFault>
+    ensures value { Tells result (saved_of bytes.now derates.now) }
+    ensures kept { IfOk result (λ all. list_all (λ (e : Entry). is_eco e.eco) all ≡ true) }
+{
+    whole_saved(alloc, bytes, derates)
 }

@@ -1,7 +1,7 @@
 use Rattle.std.proofs.Common.{◌≡◌, [], length}
 use Rattle.std.specs.Prelude.{Ok}
 use Rattle.eco_journal.specs.Journal.{entries, block, saved_journal}
-use Rattle.eco_journal.proofs.saved.read_saved.Given as goal
+use Rattle.eco_journal.proofs.saved.whole_saved.Given as goal
 
 abbrev pub invariant-loop-line : goal.invariant-loop-line
 invariant-loop-line l =
