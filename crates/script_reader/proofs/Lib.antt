@@ -1,2 +1,3 @@
 pub mod LineCount
 pub mod ProgressLemmas
+pub mod KeptLaws

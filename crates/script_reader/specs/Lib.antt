@@ -1,3 +1,4 @@
 pub mod Commands
 pub mod Scripts
 pub mod Progress
+pub mod Ecos

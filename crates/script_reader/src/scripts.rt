@@ -1,12 +1,13 @@
 //! The commands of a script, line by line.
 
-ghost use Rattle.std.specs.Prelude.{◌≡◌, ◌++◌, ◌∷◌, [], ℕ, List, length, Ok, Err, IfOk, MatchResult};
+ghost use Rattle.std.specs.Prelude.{◌≡◌, ◌++◌, ◌∷◌, [], ℕ, List, true, length, Ok, Err, IfOk, MatchResult};
 ghost use Rattle.timing_defs.specs.declared.edits.Edit.{Edit};
 ghost use Rattle.timing_defs.specs.declared.scripts.Command.{Command};
 ghost use Rattle.sta_text.specs.declared.faults.Wrong.{Wrong};
 ghost use Rattle.sta_text.specs.Faults.{lesser, least_from};
 ghost use Rattle.eco_journal.specs.Journal.{Tells};
 ghost use Rattle.script_reader.specs.Scripts.{Event, long, single, change, group_begin, group_end, Place, outside, inside, bad, behind, too_long, line_said, told, script_of};
+ghost use Rattle.script_reader.specs.Ecos.{has_ecos};
 ghost use Rattle.script_reader.specs.Progress.{said_events, behind_progress, whole};
 
 use crate::lines::{Said, read_line};
@@ -224,18 +225,9 @@ fn at_end(state: State) -> Result<Script, ReadFault>
     }
 }
 
-/// The script of a text: a command a line, or edits from `begin_eco` to `commit_eco`, which are one
-/// command. Words are separated by blanks and tabs; lines without a word and lines whose first word
-/// begins with `#` are passed over.
-///
-/// # Errors
-///
-/// The least of the faults; their places are line numbers, from 1. `C1`: a line that is no command,
-/// a question inside a group, an empty group, or a group without its end (at its `begin_eco`).
-/// `C2`: the 10,001st command, the 1,001st edit of a group, or a line above 65,536 bytes. Or want of
-/// memory.
+/// The script of a text, line by line.
 #[tactic(auto, using(crate::proofs::LineCount::few_lines), unfolding(crate::specs::Scripts::events))]
-pub fn read_script(alloc: Global, bytes: &[u8]) -> Result<Script, ReadFault>
+fn whole_script(alloc: Global, bytes: &[u8]) -> Result<Script, ReadFault>
     ensures { Tells result (script_of bytes.now) }
 {
     let mut lines = Lines::new(bytes);
@@ -249,4 +241,22 @@ pub fn read_script(alloc: Global, bytes: &[u8]) -> Result<Script, ReadFault>
         number += 1;
     }
     at_end(state)
+}
+
+/// The script of a text: a command a line, or edits from `begin_eco` to `commit_eco`, which are one
+/// command. Words are separated by blanks and tabs; lines without a word and lines whose first word
+/// begins with `#` are passed over. The edits of a command that changes the design are such as
+/// `eco_journal::read_eco` gives.
+///
+/// # Errors
+///
+/// The least of the faults; their places are line numbers, from 1. `C1`: a line that is no command,
+/// a question inside a group, an empty group, or a group without its end (at its `begin_eco`).
+/// `C2`: the 10,001st command, the 1,001st edit of a group, or a line above 65,536 bytes. Or want of
+/// memory.
+pub fn read_script(alloc: Global, bytes: &[u8]) -> Result<Script, ReadFault>
+    ensures value { Tells result (script_of bytes.now) }
+    ensures kept { IfOk result (λ script. has_ecos script ≡ true) }
+{
+    whole_script(alloc, bytes)
 }

@@ -2,7 +2,7 @@ use Rattle.std.proofs.Common.{◌≡◌, ◌+◌, length}
 use Rattle.eco_journal.specs.Lines.{lines_of}
 use Rattle.script_reader.specs.Scripts.{events, script_of}
 use Rattle.script_reader.specs.Progress.{whole}
-use Rattle.script_reader.proofs.scripts.read_script.Given as goal
+use Rattle.script_reader.proofs.scripts.whole_script.Given as goal
 
 -- the state and the lines that are left make what the text makes, and the lines' numbers go on
 abbrev pub invariant-loop-line : goal.invariant-loop-line
