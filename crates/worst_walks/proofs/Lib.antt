@@ -1,0 +1,6 @@
+pub mod BestLaws
+pub mod Filling
+pub mod Marking
+pub mod Offers
+pub mod Optimal
+pub mod Ties

@@ -1,0 +1,7 @@
+use Rattle.worst_walks.specs.Best.{BestOf}
+use Rattle.worst_walks.specs.Walks.{comes_before}
+use Rattle.worst_walks.specs.Searches.{IsBefore}
+use Rattle.worst_walks.proofs.searching.worst_walk.Given as goal
+
+abbrev pub invariant-loop-place : goal.invariant-loop-place
+invariant-loop-place l = BestOf (comes_before l.cone) (IsBefore l.cone l.place) l.worst

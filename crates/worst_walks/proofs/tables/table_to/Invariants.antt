@@ -1,0 +1,5 @@
+use Rattle.worst_walks.specs.Tables.{IsFilled}
+use Rattle.worst_walks.proofs.tables.table_to.Given as goal
+
+abbrev pub invariant-loop-node : goal.invariant-loop-node
+invariant-loop-node l = IsFilled l.cone l.end l.node l.rows.items

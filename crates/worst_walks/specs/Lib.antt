@@ -1,0 +1,4 @@
+pub mod Best
+pub mod Searches
+pub mod Tables
+pub mod Walks

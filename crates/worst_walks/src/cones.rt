@@ -1,0 +1,74 @@
+//! Fan-in cones over numbered nodes, and walks through them.
+
+ghost use Rattle.std.specs.Prelude.{◌≡◌, ◌<◌, length, slice_get, Some};
+ghost use Rattle.worst_walks.specs.Walks.{IsCone, IsEnd};
+
+use timing_defs::Items;
+
+/// An arc from a node into the node that lists it, with its delay in fs (for hold tests negated).
+#[derive(Debug, Clone, Copy, PartialEq, Eq, Drop)]
+pub struct WalkArc {
+    pub from: u32,
+    pub delay: i64,
+}
+
+/// A node at which walks to an end node begin. A walk with the delay sum `s` has the slack
+/// `offer - s`, in fs. The prefix has the ranks of the nodes that stand before the walk in the list
+/// by which walks of equal slack are ordered.
+#[derive(Debug, Clone, PartialEq, Eq, Drop)]
+pub struct Launch {
+    pub node: u32,
+    pub offer: i64,
+    pub prefix: Items<u32>,
+}
+
+/// An end node, with the launches from which walks to it are looked for.
+#[derive(Debug, Clone, PartialEq, Eq, Drop)]
+pub struct WalkEnd {
+    pub node: u32,
+    pub launches: Items<Launch>,
+}
+
+/// The fan-in of some end nodes: as many nodes as there are ranks, numbered from 0 so that each arc
+/// leads from a higher number to a lower one. The arcs into `node` are
+/// `arcs[starts[node]..starts[node + 1]]`; those into a node with a launch are never followed. A
+/// node's rank is its place in the order by names.
+#[derive(Debug, Clone, PartialEq, Eq, Drop)]
+pub struct Cone {
+    pub starts: Items<u32>,
+    pub arcs: Items<WalkArc>,
+    pub ends: Items<WalkEnd>,
+    pub ranks: Items<u32>,
+}
+
+/// A walk with its slack in fs: the place of its end node in the cone's list of ends, the place of
+/// its launch in the list of that end node, and its nodes from the launch to the end node.
+#[derive(Debug, Clone, PartialEq, Eq, Drop)]
+pub struct Walk {
+    pub slack: i64,
+    pub launch: u32,
+    pub end: u32,
+    pub nodes: Items<u32>,
+}
+
+impl Cone {
+    /// The end node at a place of the list of ends.
+    pub(crate) fn end_at(&self, place: u32) -> &WalkEnd
+        requires cone { IsCone self.now }
+        requires place { place < length self.now.ends }
+        ensures there { slice_get self.now.ends place ≡ Some result.now }
+        ensures end { IsEnd self.now result.now }
+    {
+        &self.ends.as_slice()[place as usize]
+    }
+}
+
+impl WalkEnd {
+    /// The launch at a place of the list of launches.
+    pub(crate) fn launch_at(&self, place: u32) -> &Launch
+        requires { place < length self.now.launches }
+        ensures { slice_get self.now.launches place ≡ Some result.now }
+    {
+        &self.launches.as_slice()[place as usize]
+    }
+}
