@@ -1,6 +1,7 @@
 pub mod BestLaws
 pub mod Filling
 pub mod Marking
+pub mod Naming
 pub mod Offers
 pub mod Optimal
 pub mod Ties
