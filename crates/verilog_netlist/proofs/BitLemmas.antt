@@ -65,7 +65,7 @@ or_true : (b : Bool) → (b || true) ≡ true
 or_true true = refl
 or_true false = refl
 
-absent : (span : Span) (name q : List ℕ) (i n : ℕ)
+pub absent : (span : Span) (name q : List ℕ) (i n : ℕ)
     → ((j : ℕ) → i ≤ j → j < i + n → bytes_eq q (bit_name name (number_at span j)) ≡ false)
     → stands (bits span name i n) q ≡ false
 unfolding bits
@@ -85,10 +85,10 @@ present span name q i (suc n) (suc d) less h =
     let rest : stands (bits span name (i + 1) n) q ≡ true = present span name q (i + 1) n d (omega arith) (rw e at h) in
     ap (λ b. bytes_eq q (bit_name name (number_at span i)) || b) rest ∙ or_true (bytes_eq q (bit_name name (number_at span i)))
 
-at_number : (span : Span) (i : ℕ) → i < width span → has_number span (number_at span i) ≡ true
+pub at_number : (span : Span) (i : ℕ) → i < width span → has_number span (number_at span i) ≡ true
 at_number span i less = grind (arith, nat_tests)
 
-number_small : (span : Span) (k : ℕ) → span.first < 2 ^ 32 → span.last < 2 ^ 32 → has_number span k ≡ true → k < 2 ^ 32
+pub number_small : (span : Span) (k : ℕ) → span.first < 2 ^ 32 → span.last < 2 ^ 32 → has_number span k ≡ true → k < 2 ^ 32
 number_small span k first last h = grind (arith, nat_tests)
 
 -- the place of a number in the vector
@@ -143,7 +143,7 @@ or_swap false true true d = refl
 or_swap false true false d = refl
 or_swap false false c d = refl
 
-any_or : (f g : List ℕ → Bool) (xs : List (List ℕ)) → list_any (λ (q : List ℕ). f q || g q) xs ≡ (list_any f xs || list_any g xs)
+pub any_or : (f g : List ℕ → Bool) (xs : List (List ℕ)) → list_any (λ (q : List ℕ). f q || g q) xs ≡ (list_any f xs || list_any g xs)
 any_or f g [] = refl
 any_or f g (x ∷ xs) = ap (λ rest. (f x || g x) || rest) (any_or f g xs) ∙ or_swap (f x) (g x) (list_any f xs) (list_any g xs)
 
@@ -151,7 +151,7 @@ none : (xs : List (List ℕ)) → list_any (stands []) xs ≡ false
 none [] = refl
 none (x ∷ xs) = none xs
 
-turned : (y : List ℕ) (xs : List (List ℕ)) → list_any (bytes_eq y) xs ≡ list_any (λ (q : List ℕ). bytes_eq q y) xs
+pub turned : (y : List ℕ) (xs : List (List ℕ)) → list_any (bytes_eq y) xs ≡ list_any (λ (q : List ℕ). bytes_eq q y) xs
 turned y [] = refl
 turned y (x ∷ xs) =
     ap (λ b. b || list_any (bytes_eq y) xs) (same-sym y x) ∙ ap (λ rest. bytes_eq x y || rest) (turned y xs)

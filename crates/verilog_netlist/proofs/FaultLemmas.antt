@@ -35,15 +35,15 @@ pub least_broken : (es : List Event) (w : Wrong) → least_from None (stops es) 
     → least_from None (faults_of es) ≡ least_from (least_from (least_from None (stops es)) (early_faults es)) (whole_vectors [] es)
 least_broken es w h = broken (stops es) (early_faults es) (whole_faults es) (whole_vectors [] es) w h
 
-front : (xs ys : List Wrong) → xs ++ ys ≡ [] → xs ≡ []
+pub front : (xs ys : List Wrong) → xs ++ ys ≡ [] → xs ≡ []
 front [] ys h = refl
 front (x ∷ xs) ys h = cc
 
-back : (xs ys : List Wrong) → xs ++ ys ≡ [] → ys ≡ []
+pub back : (xs ys : List Wrong) → xs ++ ys ≡ [] → ys ≡ []
 back [] ys h = h
 back (x ∷ xs) ys h = cc
 
-chosen : (s a b : List Wrong) → s ≡ [] → (if is_empty s then a else b) ≡ [] → a ≡ []
+pub chosen : (s a b : List Wrong) → s ≡ [] → (if is_empty s then a else b) ≡ [] → a ≡ []
 chosen [] a b e h = h
 chosen (x ∷ s) a b e h = cc
 
@@ -56,7 +56,7 @@ least_whole best es =
     ∙ ap (λ b. least_from b (net_faults es)) (least_append best (whole_vectors (all_vectors [] es) es) (undirected (all_directed [] es) es))
 
 -- without a fault of the text there is none of each kind
-no_stop : (es : List Event) → faults_of es ≡ [] → stops es ≡ []
+pub no_stop : (es : List Event) → faults_of es ≡ [] → stops es ≡ []
 no_stop es h =
     front (stops es) (early_faults es)
     (front (stops es ++ early_faults es) (if is_empty (stops es) then whole_faults es else whole_vectors [] es) h)

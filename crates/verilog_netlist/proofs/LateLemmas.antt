@@ -499,7 +499,7 @@ or_left true b c = refl
 or_left false b c = refl
 
 -- which names stand in a set with some more
-stands_one : (names : List (List ℕ)) (name q : List ℕ) → stands (with_name names name) q ≡ (stands names q || bytes_eq q name)
+pub stands_one : (names : List (List ℕ)) (name q : List ℕ) → stands (with_name names name) q ≡ (stands names q || bytes_eq q name)
 stands_one names name q = go (stands names name) refl
   where
     push : (xs : List (List ℕ)) → stands (xs ++ name ∷ []) q ≡ (stands xs q || bytes_eq q name)

@@ -5,3 +5,5 @@ pub mod FaultLemmas
 mod BracketLemmas
 mod CoverLemmas
 pub mod LateLemmas
+pub mod FormLaws
+pub mod KeptLaws

@@ -2,6 +2,7 @@
 
 ghost use Rattle.std.specs.Prelude.{◌≡◌, ◌++◌, [], true, is_some, Some, None, IfOk, MatchResult};
 ghost use Rattle.std.specs.Option.{option_to_list};
+ghost use Rattle.timing_defs.specs.Documents.{IsNetlist};
 ghost use Rattle.sta_text.specs.Faults.{least_from, Fails};
 ghost use Rattle.verilog_netlist.specs.Grammar.{events_of};
 ghost use Rattle.verilog_netlist.specs.Faults.{stops, early_faults, declaration_faults, nothing, undeclared_bits, net_excess, net_faults, whole_vectors, whole_faults, faults_of, all_declared, all_nets, all_vectors};
@@ -146,6 +147,19 @@ fn check(alloc: Global, events: &[Event]) -> Result<Checked, Memory>
     check_rest(alloc, events, &nets, stop, best)
 }
 
+/// The module of a text, or its least fault.
+#[tactic(auto, using(sta_text::proofs::FaultsLemmas::least_none, crate::proofs::FaultLemmas::is_named))]
+fn whole_module(alloc: Global, bytes: &[u8]) -> Result<Module, ReadFault>
+    ensures { MatchResult result (λ m. (faults_of (events_of bytes.now) ≡ []) × (module_of (events_of bytes.now) ≡ Some m)) (λ e. Fails e (faults_of (events_of bytes.now))) }
+{
+    let events = events_of(alloc, bytes)?;
+    let checked = check(alloc, events.as_slice())?;
+    match checked.fault {
+        Some(wrong) => Err(wrong.told()),
+        None => Ok(module_of(alloc, events.as_slice(), &checked.nets)?),
+    }
+}
+
 /// The module that a structural netlist writes (a subset of IEEE 1364).
 ///
 /// A text is `module NAME ( ports ) ;`, items and `endmodule`. Ports are names, or declarations with
@@ -155,6 +169,8 @@ fn check(alloc: Global, events: &[Event]) -> Result<Checked, Memory>
 /// or `1'h1`, or nothing. Constants and nothing tie the pin. The bits of a vector are nets and ports
 /// of their own, `a[first]` to `a[last]`. A name alone that is not declared is a net. Ports are in
 /// the order in which the text gives them their directions, nets and instances in that of the text.
+/// Ports, instances, nets and the pins of an instance have distinct names, those of ports without a
+/// colon, and the nets hold all ports and all that is connected.
 ///
 /// # Errors
 ///
@@ -170,14 +186,9 @@ fn check(alloc: Global, events: &[Event]) -> Result<Checked, Memory>
 ///
 /// What needs the whole text counts only where the grammar accepts all of it. Want of memory may
 /// come at any time. It reads the bytes once, in linear time.
-#[tactic(auto, using(sta_text::proofs::FaultsLemmas::least_none, crate::proofs::FaultLemmas::is_named))]
 pub fn read_module(alloc: Global, bytes: &[u8]) -> Result<Module, ReadFault>
-    ensures { MatchResult result (λ m. (faults_of (events_of bytes.now) ≡ []) × (module_of (events_of bytes.now) ≡ Some m)) (λ e. Fails e (faults_of (events_of bytes.now))) }
+    ensures value { MatchResult result (λ m. (faults_of (events_of bytes.now) ≡ []) × (module_of (events_of bytes.now) ≡ Some m)) (λ e. Fails e (faults_of (events_of bytes.now))) }
+    ensures kept { IfOk result IsNetlist }
 {
-    let events = events_of(alloc, bytes)?;
-    let checked = check(alloc, events.as_slice())?;
-    match checked.fault {
-        Some(wrong) => Err(wrong.told()),
-        None => Ok(module_of(alloc, events.as_slice(), &checked.nets)?),
-    }
+    whole_module(alloc, bytes)
 }
