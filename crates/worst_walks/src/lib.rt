@@ -2,11 +2,15 @@
 //! nodes, and of those the first by its list of nodes. It is the search under worst timing paths.
 #![tactic(auto)]
 
+#[cfg(test)]
+mod checked;
 mod cones;
 mod firsts;
 mod searching;
 mod slacks;
 mod tables;
+#[cfg(test)]
+mod tests;
 mod tracing;
 
 pub use cones::{Cone, Launch, Walk, WalkArc, WalkEnd};
