@@ -1,4 +1,5 @@
 pub mod BestLaws
+pub mod Callers
 pub mod Filling
 pub mod Marking
 pub mod Naming

@@ -33,6 +33,9 @@ pub struct WalkEnd {
 /// leads from a higher number to a lower one. The arcs into `node` are
 /// `arcs[starts[node]..starts[node + 1]]`; those into a node with a launch are never followed. A
 /// node's rank is its place in the order by names.
+///
+/// A search asks for less than `2^22` nodes, distinct ranks, at most one arc between two nodes, delays
+/// of at most `10^12` fs and offers of at most `10^18` fs on either side of 0.
 #[derive(Debug, Clone, PartialEq, Eq, Drop)]
 pub struct Cone {
     pub starts: Items<u32>,
