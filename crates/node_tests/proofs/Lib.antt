@@ -1,0 +1,15 @@
+pub mod AskedForms
+pub mod AskedLaws
+pub mod ClimbLaws
+pub mod EdgeLaws
+pub mod EndpointLaws
+pub mod FineSlews
+pub mod NeedLaws
+pub mod NodeFacts
+pub mod OneBefore
+pub mod PinLoops
+pub mod RegisterLaws
+pub mod SinkTests
+pub mod TopForms
+pub mod TopLaws
+pub mod WalkSteps

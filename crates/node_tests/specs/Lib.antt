@@ -1,0 +1,5 @@
+pub mod Needs
+pub mod NodeTests
+pub mod Outputs
+pub mod Registers
+pub mod Walks
