@@ -3,3 +3,5 @@ pub mod PinLemmas
 pub mod ClockLemmas
 pub mod Signed
 mod GoingOn
+pub mod SuitLaws
+pub mod KeptLaws

@@ -2,6 +2,7 @@
 
 ghost use Rattle.std.specs.Prelude.{◌≡◌, ◌≤◌, ◌++◌, ◌∷◌, [], not, length, drop, true, false, Some, None, IfOk, MatchResult};
 ghost use Rattle.std.specs.List.{list_any};
+ghost use Rattle.timing_defs.specs.Documents.{are_constraints};
 ghost use Rattle.sta_text.specs.Faults.{least_from, Fails};
 ghost use Rattle.sdc_reader.specs.Grammar.{events_of};
 ghost use Rattle.sdc_reader.specs.Meaning.{start, last, constraints_of};
@@ -61,6 +62,19 @@ fn carry_out(alloc: Global, events: &[Event], size: usize, units: Units) -> Resu
     Ok(Outcome { set, fault })
 }
 
+/// The constraints of a text, or its least fault.
+#[tactic(auto, using(sta_text::proofs::FaultsLemmas::least_none))]
+fn whole_constraints(alloc: Global, bytes: &[u8], units: &Units) -> Result<Constraints, ReadFault>
+    ensures { MatchResult result (λ c. (faults_of (length bytes.now) units.now (events_of bytes.now) ≡ []) × (c ≡ constraints_of units.now (events_of bytes.now))) (λ e. Fails e (faults_of (length bytes.now) units.now (events_of bytes.now))) }
+{
+    let events = events_of(alloc, bytes)?;
+    let outcome = carry_out(alloc, events.as_slice(), bytes.len(), *units)?;
+    match outcome.fault {
+        Some(wrong) => Err(wrong.told()),
+        None => Ok(outcome.set.constraints(alloc)?),
+    }
+}
+
 /// The constraints that a text writes (a subset of SDC 2.1), its numbers being in these units up to
 /// its own `set_units`.
 ///
@@ -72,7 +86,9 @@ fn carry_out(alloc: Global, events: &[Event], size: usize, units: Units) -> Resu
 /// `set_operating_conditions`, wire load modes and models, limits of area, fan-out, transition and
 /// capacitance, and `group_path` are passed over. `-min` is early, `-max` is late; where neither of
 /// two such options stands both hold. The last value written counts. A clock without a waveform
-/// rises at 0 and falls at half its period, rounded down.
+/// rises at 0 and falls at half its period, rounded down. At most 8 clocks are given, of distinct
+/// names and at most one on a port; delays, slews and loads have one value for each port, split and
+/// transition that they are given for; delays name clocks by their places.
 ///
 /// # Errors
 ///
@@ -90,18 +106,13 @@ fn carry_out(alloc: Global, events: &[Event], size: usize, units: Units) -> Resu
 ///
 /// What is missing in a command counts only where the grammar accepts the whole text. Want of memory
 /// may come at any time. It reads the bytes once, in linear time.
-#[tactic(auto, using(sta_text::proofs::FaultsLemmas::least_none))]
 pub fn read_constraints(
     alloc: Global,
     bytes: &[u8],
     units: &Units,
 ) -> Result<Constraints, ReadFault>
-    ensures { MatchResult result (λ c. (faults_of (length bytes.now) units.now (events_of bytes.now) ≡ []) × (c ≡ constraints_of units.now (events_of bytes.now))) (λ e. Fails e (faults_of (length bytes.now) units.now (events_of bytes.now))) }
+    ensures value { MatchResult result (λ c. (faults_of (length bytes.now) units.now (events_of bytes.now) ≡ []) × (c ≡ constraints_of units.now (events_of bytes.now))) (λ e. Fails e (faults_of (length bytes.now) units.now (events_of bytes.now))) }
+    ensures kept { IfOk result (λ c. are_constraints c ≡ true) }
 {
-    let events = events_of(alloc, bytes)?;
-    let outcome = carry_out(alloc, events.as_slice(), bytes.len(), *units)?;
-    match outcome.fault {
-        Some(wrong) => Err(wrong.told()),
-        None => Ok(outcome.set.constraints(alloc)?),
-    }
+    whole_constraints(alloc, bytes, units)
 }
