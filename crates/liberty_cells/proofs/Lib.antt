@@ -5,3 +5,9 @@ mod PowersLemmas
 mod ReaderLemmas
 mod TablesLemmas
 mod WordsLemmas
+mod EachLaws
+mod FormLaws
+mod PinLaws
+mod UnitLaws
+mod ArcLaws
+mod KeptLaws

@@ -1,6 +1,7 @@
 //! The reader: the library of a text, or its least fault.
 
 ghost use Rattle.std.specs.Prelude.{◌≡◌, ◌∷◌, [], List, true, false, MatchResult, IfOk};
+ghost use Rattle.timing_defs.specs.Documents.{is_library};
 ghost use Rattle.sta_text.specs.Faults.{least_from, Fails};
 ghost use Rattle.sta_text.specs.declared.faults.Wrong.{Wrong};
 ghost use Rattle.liberty_cells.specs.Statements.{told};
@@ -156,6 +157,18 @@ fn whole_units(alloc: Global, size: usize, items: &[Item]) -> Result<Units, Read
     })
 }
 
+/// The library of a text, or its least fault.
+fn library_of_bytes(alloc: Global, bytes: &[u8]) -> Result<Library, ReadFault>
+    ensures { MatchResult result (λ library. (faults_of bytes.now ≡ []) × (library ≡ library_of_text bytes.now)) (λ e. Fails e (faults_of bytes.now)) }
+{
+    match read(alloc, bytes)? {
+        Reading::Whole(tree) => whole_library(alloc, bytes.len(), tree.items.as_slice()),
+        Reading::Broken { items, wrong } => {
+            Err(broken_fault(alloc, bytes.len(), items.as_slice(), wrong))
+        }
+    }
+}
+
 /// Reads a library (Liberty, non-linear delay model).
 ///
 /// What is read: `time_unit` and `capacitive_load_unit`, the `lu_table_template` groups, and the
@@ -163,6 +176,10 @@ fn whole_units(alloc: Global, size: usize, items: &[Item]) -> Result<Units, Read
 /// groups with `related_pin`, `timing_type`, `timing_sense` and their tables of delays, slews, setup
 /// and hold times. All else is passed over. A cell with a bus, a bundle, an inout pin or a pin name
 /// with a colon is not in the library.
+///
+/// What is given has at most 10,000 cells of distinct names, and each at most 10,000 pins of distinct
+/// names without a colon. Capacitances lie from 0 to 10^12 aF; tables are well formed. Arcs lead from
+/// a pin of the cell to an output pin, tests stand between an input pin and a pin of the cell.
 ///
 /// # Errors
 ///
@@ -180,14 +197,10 @@ fn whole_units(alloc: Global, size: usize, items: &[Item]) -> Result<Units, Read
 /// What is missing counts only where the grammar accepts the whole text. Want of memory may come at
 /// any time. It reads the bytes once, in linear time.
 pub fn read_library(alloc: Global, bytes: &[u8]) -> Result<Library, ReadFault>
-    ensures { MatchResult result (λ library. (faults_of bytes.now ≡ []) × (library ≡ library_of_text bytes.now)) (λ e. Fails e (faults_of bytes.now)) }
+    ensures value { MatchResult result (λ library. (faults_of bytes.now ≡ []) × (library ≡ library_of_text bytes.now)) (λ e. Fails e (faults_of bytes.now)) }
+    ensures kept { IfOk result (λ library. is_library library ≡ true) }
 {
-    match read(alloc, bytes)? {
-        Reading::Whole(tree) => whole_library(alloc, bytes.len(), tree.items.as_slice()),
-        Reading::Broken { items, wrong } => {
-            Err(broken_fault(alloc, bytes.len(), items.as_slice(), wrong))
-        }
-    }
+    library_of_bytes(alloc, bytes)
 }
 
 /// The units of a library: of its times and of its capacitances.
