@@ -1,6 +1,6 @@
 -- The test against a clock pin's node, as the code has it.
 
-use Rattle.std.proofs.Common.{◌≡◌, ℕ, ◌<◌, ℤ, true, false, List, [], ◌∷◌, ◌++◌, Option, None, Some, refl, sym, ap, subst, ◌∙◌, arith}
+use Rattle.std.proofs.Common.{◌≡◌, ℕ, ◌<◌, ℤ, true, false, List, [], ◌∷◌, Option, None, Some, refl, sym, ap, subst, ◌∙◌, arith}
 use Rattle.std.specs.Prelude.{Contains, option_map, option_and_then, slice_get, ◌&&◌}
 use Rattle.std.specs.List.{list_all, list_any}
 use Rattle.std.specs.Option.{option_map_or}
@@ -23,13 +23,13 @@ use Rattle.timing_defs.specs.Documents.{is_cell_test, has_pin, is_pin_of, is_lib
 use Rattle.timing_defs.specs.declared.kinds.Dir.TheVariants.{Input}
 use Rattle.netlist_store.specs.Numbering.{Stored, inst_numbered, pin_numbered, IsNumbered}
 use Rattle.netlist_store.specs.Linked.{IsLinked}
-use Rattle.pin_graph.specs.Nodes.{node_at, node_bound, pin_under, node_number, number_at}
+use Rattle.pin_graph.specs.Nodes.{node_at, node_bound, pin_under}
 use Rattle.pin_graph.specs.Graphs.{network_at, IsGraph}
 use Rattle.pin_graph.specs.RowTables.{AreRows, row_numbered}
 use Rattle.pin_graph.proofs.Members.{some_is}
 use Rattle.pin_graph.proofs.PinNames.{tests_good}
-use Rattle.pin_graph.proofs.PinLaws.{pin_told, inst_of_number, own_in}
-use Rattle.pin_graph.proofs.NodeLaws.{HasNode, has_node, node_told, node_below}
+use Rattle.pin_graph.proofs.PinLaws.{inst_of_number, own_in}
+use Rattle.pin_graph.proofs.NodeLaws.{has_node}
 use Rattle.node_tests.specs.declared.needs.TestEnds.{TestEnds}
 use Rattle.node_tests.specs.declared.node_test.NodeTest.{NodeTest}
 use Rattle.node_tests.specs.declared.registers.Asked.{Asked}
@@ -113,28 +113,6 @@ module _ (asked : Asked) (a : IsAsked asked) (num : IsNumbered asked.store.now) 
         own_in asked.store.now.design linked a.register pin (inst_of_number asked.store.now num linked asked.inst a.register a.inst).within
         (subst (λ (o : Option Inst). Contains (cell_pins (option_and_then (cell_of asked.store.now.design Late) o)) pin) a.inst c)
 
-    number_is : (k : ℕ) (word : List ℕ) → word ≡ a.register.name ++ 58 ∷ pin.name → Some k ≡ number_at asked.store.now word tran
-        → HasNode asked.store.now (record { pin = cell_pin a.register pin; tran = tran }) k
-    number_is k word named e =
-        let p = pin_told asked.store.now num linked (cell_pin a.register pin) pin_in in
-        record {
-          pin = p.0;
-          has = p.1;
-          number = some_is (e ∙ ap (λ w. number_at asked.store.now w tran) named ∙ ap (option_map (λ n. node_number n tran)) p.1.number);
-        }
-
-    pub number_found : (k : ℕ) (word : List ℕ) → word ≡ a.register.name ++ 58 ∷ pin.name → Some k ≡ number_at asked.store.now word tran
-        → (node_at asked.store.now k ≡ pin_node asked.store.now asked.inst pin tran) × (k < node_bound asked.store.now)
-    number_found k word named e =
-        let h = number_is k word named e in
-        (node_told asked.store.now (record { pin = cell_pin a.register pin; tran = tran }) k h ∙ sym pin_node_is, node_below asked.store.now (record { pin = cell_pin a.register pin; tran = tran }) k h)
-
-    pub number_there : (word : List ℕ) → word ≡ a.register.name ++ 58 ∷ pin.name → None ≡ number_at asked.store.now word tran → ⊥
-    number_there word named e =
-        let p = pin_told asked.store.now num linked (cell_pin a.register pin) pin_in in
-        let f : None ≡ Some (node_number p.0 tran) = e ∙ ap (λ w. number_at asked.store.now w tran) named ∙ ap (option_map (λ n. node_number n tran)) p.1.number in
-        cc
-
     module _ (ends : TestEnds) (kind : ends.kind ≡ asked.kind) (own : ends.pin.now ≡ asked.own.now) (its : ends.tran ≡ asked.tran)
         (clock : ends.clock.now ≡ pin.name) (active : ends.active ≡ tran) where
       pub ends_are : (k : ℕ) → node_at asked.store.now k ≡ pin_node asked.store.now asked.inst pin tran → IsEnds asked ends k
@@ -173,19 +151,6 @@ module _ (asked : Asked) (a : IsAsked asked) (num : IsNumbered asked.store.now) 
           let parts = and_parts (is_cell_test cell t) (list_all (is_cell_test cell) ts) h in
           let table = and_parts (has_pin cell Input t.pin && is_pin_of cell t.clock) (is_well_formed t.need) parts.0 in
           and_from (has_table t) (list_all has_table ts) table.1 (each ts parts.1)
-
-  -- as the code looks it up
-  module _ (pin : CellPin) (tran : Tran) (c : Contains (late_pins asked.store.now asked.inst) pin) (i : Inst) (its : inst_numbered asked.store.now asked.inst ≡ Some i)
-      (word : List ℕ) (named : word ≡ i.name ++ 58 ∷ pin.name) where
-    word_is : word ≡ a.register.name ++ 58 ∷ pin.name
-    word_is = named ∙ ap (λ (j : Inst). j.name ++ 58 ∷ pin.name) (some_is (sym its ∙ a.inst))
-
-    pub found_as : (k : ℕ) → Some k ≡ number_at asked.graph.now.stored word tran
-        → (node_at asked.store.now k ≡ pin_node asked.store.now asked.inst pin tran) × (k < node_bound asked.store.now)
-    found_as k e = number_found pin tran c k word word_is (e ∙ ap (λ (s : Stored). number_at s word tran) a.graph)
-
-    pub there_as : None ≡ number_at asked.graph.now.stored word tran → ⊥
-    there_as e = number_there pin tran c word word_is (e ∙ ap (λ (s : Stored). number_at s word tran) a.graph)
 
   -- the same, by the list of the tests
   pub tables_as : (tests : List CellTest)

@@ -1,6 +1,7 @@
 pub mod AskedForms
 pub mod AskedLaws
 pub mod ClimbLaws
+pub mod ClockedLaws
 pub mod EdgeLaws
 pub mod EndpointLaws
 pub mod FineSlews
@@ -8,6 +9,7 @@ pub mod NeedLaws
 pub mod NodeFacts
 pub mod OneBefore
 pub mod PinLoops
+pub mod PinNumbers
 pub mod RegisterLaws
 pub mod SinkTests
 pub mod TopForms

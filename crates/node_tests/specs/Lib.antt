@@ -1,3 +1,4 @@
+pub mod Endpoints
 pub mod Needs
 pub mod NodeTests
 pub mod Outputs

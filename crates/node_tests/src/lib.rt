@@ -11,6 +11,6 @@ mod pins;
 mod registers;
 
 pub use climbs::{WalkStart, walk_start};
-pub use endpoints::is_endpoint;
+pub use endpoints::{is_clocked, is_endpoint};
 pub use node_test::NodeTest;
 pub use nodes::node_tests;

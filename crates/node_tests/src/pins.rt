@@ -1,11 +1,16 @@
-//! Pins of a store: whether they drive, and their names in their cells.
+//! Pins of a store: whether they drive, their names in their cells, and their nodes.
 
-ghost use Rattle.std.specs.Prelude.{◌≡◌, ◌+◌, ◌≤◌, true, Some, drop, length, option_map, if◌then◌else◌};
+ghost use Rattle.std.specs.Prelude.{◌≡◌, ◌+◌, ◌≤◌, ◌<◌, true, Some, Contains, IfOk, drop, length, option_map, if◌then◌else◌};
 ghost use Rattle.timing_defs.specs.Netlist.{same_dir, is_driver};
 ghost use Rattle.netlist_store.specs.Numbering.{is_number, pin_numbered};
+ghost use Rattle.pin_graph.specs.Nodes.{node_at, node_bound};
+ghost use Rattle.node_tests.specs.Registers.{pin_node, late_pins};
 
-use netlist_store::Store;
-use timing_defs::Dir;
+use netlist_store::{Store, full_name};
+use pin_graph::Graph;
+use sta_units::Memory;
+use std::alloc::Global;
+use timing_defs::{CellPin, Dir, Tran};
 
 /// Whether a pin of an instance, or a port, of this direction drives its net.
 fn drives_as(owned: bool, dir: Dir) -> bool
@@ -43,5 +48,28 @@ pub(crate) fn own_name(store: &Store, pin: u32) -> &[u8]
     match store.inst_of(pin) {
         Some(inst) => after(name, store.inst_at(inst).name.as_bytes()),
         None => name,
+    }
+}
+
+/// The number of the node of a pin of an instance's cell.
+pub(crate) fn pin_node(
+    alloc: Global,
+    store: &Store,
+    graph: &Graph,
+    inst: u32,
+    pin: &CellPin,
+    tran: Tran,
+) -> Result<u32, Memory>
+    requires graph { graph.now.stored ≡ store.now }
+    requires inst { is_number store.now.insts inst ≡ true }
+    requires pin { Contains (late_pins store.now inst) pin.now }
+    ensures node { IfOk result (λ node. node_at store.now node ≡ pin_node store.now inst pin.now tran) }
+    ensures below { IfOk result (λ node. node < node_bound store.now) }
+{
+    store.laws();
+    let name = full_name(alloc, &store.inst_at(inst).name, &pin.name)?;
+    match graph.node(&name, tran) {
+        Some(node) => Ok(node),
+        None => unreachable!(),
     }
 }

@@ -19,7 +19,8 @@ use crate::climbs::walk_start;
 use crate::needs::{TestEnds, has_test, need_of};
 use crate::node_test::NodeTest;
 use crate::outputs::data_split;
-use netlist_store::{Store, full_name};
+use crate::pins::pin_node;
+use netlist_store::Store;
 use nldm_lookup::OutOfRange;
 use node_rows::{slew_in, time_on, times_in};
 use pin_graph::Graph;
@@ -153,23 +154,6 @@ fn test_against(
     }
 }
 
-/// The number of the node of a pin of the instance.
-fn own_node(alloc: Global, asked: &Asked<'_>, pin: &CellPin, tran: Tran) -> Result<u32, Memory>
-    requires asked { IsAsked asked.now }
-    requires pin { Contains (late_pins asked.now.store.now asked.now.inst) pin.now }
-    ensures node { IfOk result (λ node. node_at asked.now.store.now node ≡ pin_node asked.now.store.now asked.now.inst pin.now tran) }
-    ensures below { IfOk result (λ node. node < node_bound asked.now.store.now) }
-{
-    asked.store.laws();
-    asked.graph.laws();
-    let inst = &asked.store.inst_at(asked.inst).name;
-    let name = full_name(alloc, inst, &pin.name)?;
-    match asked.graph.node(&name, tran) {
-        Some(node) => Ok(node),
-        None => unreachable!(),
-    }
-}
-
 /// The test against a node of a pin of the cell.
 fn clock_test<A: Rows>(
     alloc: Global,
@@ -198,7 +182,7 @@ fn clock_test<A: Rows>(
     if !has_test(cell.tests.as_slice(), &ends) {
         return Ok(None);
     }
-    let clock = own_node(alloc, asked, pin, active)?;
+    let clock = pin_node(alloc, asked.store, asked.graph, asked.inst, pin, active)?;
     let row = arrivals.row(clock);
     test_against(alloc, asked, cell.tests.as_slice(), &ends, clock, row)
 }
