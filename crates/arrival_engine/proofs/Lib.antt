@@ -1,0 +1,5 @@
+mod BeforeLaws
+mod CarriedLaws
+mod FineRows
+mod ListingLaws
+mod PassLaws

@@ -1,0 +1,147 @@
+//! The rows of all nodes, and the tables that they are evaluated with.
+
+ghost use Rattle.std.specs.Prelude.{ℕ, ◌≡◌, ◌<◌, ◌≤◌, Some, length, replicate, slice_get, slice_set, IfOk, IfErr, OnOk, OnErr};
+ghost use Rattle.std.specs.Arc.{arc_value};
+ghost use Rattle.timing_defs.specs.Checks.{IsSound};
+ghost use Rattle.timing_defs.specs.Rows.{empty_row};
+ghost use Rattle.pin_graph.specs.RowTables.{AreRows, AreRowsFine, IsRangeFault};
+ghost use Rattle.arrival_engine.specs.Analysed.{AreTables, sized_rows};
+
+use crate::nodes::empty_row;
+use cow_table::CowTable;
+use netlist_store::Store;
+use node_rows::{Ports, Setting, Wired, Wires};
+use pin_graph::Graph;
+use sta_outside::Gate;
+use sta_units::{Again, Memory};
+use std::alloc::Global;
+use std::sync::Arc;
+use std::thread::Threads;
+use timing_defs::{Fault, NodeRow, Rows};
+
+/// The slews and arrivals of all nodes by their numbers, in fs, and the tables of wires and of ports
+/// that they are evaluated with. Copies share the tables, and the rows until one writes them.
+#[derive(Drop)]
+pub struct Arrivals {
+    pub(crate) rows: CowTable<NodeRow>,
+    pub(crate) wires: Arc<Wires>,
+    pub(crate) ports: Arc<Ports>,
+}
+
+/// Adds empty rows up to that many.
+pub(crate) fn lengthen(
+    alloc: Global,
+    rows: &mut CowTable<NodeRow>,
+    count: usize,
+) -> Result<(), Memory>
+    requires { length rows.old ≤ count }
+    ensures rows { OnOk result (rows.new ≡ sized_rows rows.old count) }
+    ensures count { OnOk result (length rows.new ≡ count) }
+{
+    for at in rows.len()..count {
+        let _ = at;
+        rows.push(empty_row(alloc))?;
+    }
+    Ok(())
+}
+
+/// A copy of the first rows.
+fn first_rows(
+    alloc: Global,
+    rows: &CowTable<NodeRow>,
+    count: usize,
+) -> Result<CowTable<NodeRow>, Memory>
+    requires { count ≤ length rows.now }
+    ensures { IfOk result (λ first. first ≡ sized_rows rows.now count) }
+{
+    let mut first = CowTable::new(alloc);
+    for at in 0..count {
+        first.push(rows.get(at).again(alloc)?)?;
+    }
+    Ok(first)
+}
+
+/// That many rows: a copy of those that are there, then empty ones.
+fn sized(alloc: Global, rows: &CowTable<NodeRow>, count: usize) -> Result<CowTable<NodeRow>, Memory>
+    ensures { IfOk result (λ more. more ≡ sized_rows rows.now count) }
+{
+    if count < rows.len() {
+        return first_rows(alloc, rows, count);
+    }
+    let mut more = rows.copy()?;
+    lengthen(alloc, &mut more, count)?;
+    Ok(more)
+}
+
+impl Arrivals {
+    /// The row of a node, whose number is below that of the rows. Takes no memory.
+    pub fn row(&self, node: u32) -> &NodeRow
+        requires { node < length self.now.rows }
+        ensures { slice_get self.now.rows node ≡ Some result.now }
+    {
+        self.rows.get(node as usize)
+    }
+
+    /// The same rows below that number, and empty rows elsewhere, with the same tables. The rows are
+    /// shared until one of the two is written.
+    pub fn sized(&self, alloc: Global, count: u32) -> Result<Arrivals, Memory>
+        ensures rows { IfOk result (λ a. a.rows ≡ sized_rows self.now.rows count) }
+        ensures wires { IfOk result (λ a. arc_value a.wires ≡ arc_value self.now.wires) }
+        ensures ports { IfOk result (λ a. arc_value a.ports ≡ arc_value self.now.ports) }
+    {
+        Ok(Arrivals {
+            rows: sized(alloc, &self.rows, count as usize)?,
+            wires: self.wires.clone()?,
+            ports: self.ports.clone()?,
+        })
+    }
+
+    /// Writes the row of a node, whose number is below that of the rows. Where memory is wanting the
+    /// rows are as before.
+    pub fn set(&mut self, node: u32, row: NodeRow) -> Result<(), Memory>
+        requires { node < length self.old.rows }
+        ensures ok { OnOk result (self.new.rows ≡ slice_set self.old.rows node row) }
+        ensures err { OnErr result (self.new.rows ≡ self.old.rows) }
+        ensures wires { arc_value self.new.wires ≡ arc_value self.old.wires }
+        ensures ports { arc_value self.new.ports ≡ arc_value self.old.ports }
+    {
+        self.rows.set(node as usize, row)
+    }
+
+    /// A store with the tables of these rows.
+    pub(crate) fn setting<'a>(&'a self, store: &'a Store) -> Setting<'a>
+        ensures store { result.store.now ≡ store.now }
+        ensures wires { result.wires.now ≡ arc_value self.now.wires }
+        ensures ports { result.ports.now ≡ arc_value self.now.ports }
+    {
+        Setting {
+            store,
+            wires: &self.wires,
+            ports: &self.ports,
+        }
+    }
+}
+
+impl Rows for Arrivals {
+    ghost rows = { λ a. a.rows };
+
+    fn row(&self, node: u32) -> &NodeRow {
+        self.rows.get(node as usize)
+    }
+}
+
+impl Wired for Arrivals {
+    ghost use Rattle.std.specs.Arc.{arc_value};
+
+    ghost wires = { λ a. arc_value a.wires };
+
+    ghost ports = { λ a. arc_value a.ports };
+
+    fn wires(&self) -> &Wires {
+        &self.wires
+    }
+
+    fn ports(&self) -> &Ports {
+        &self.ports
+    }
+}
