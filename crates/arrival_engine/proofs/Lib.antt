@@ -3,3 +3,4 @@ mod CarriedLaws
 mod FineRows
 mod ListingLaws
 mod PassLaws
+mod PlanLaws

@@ -1,2 +1,3 @@
 pub mod Analysed
 pub mod Leveled
+pub mod Planned

@@ -4,10 +4,13 @@ ghost use Rattle.std.specs.Prelude.{ℕ, ◌≡◌, ◌<◌, ◌≤◌, Some, le
 ghost use Rattle.std.specs.Arc.{arc_value};
 ghost use Rattle.timing_defs.specs.Checks.{IsSound};
 ghost use Rattle.timing_defs.specs.Rows.{empty_row};
+ghost use Rattle.node_rows.specs.PortTables.{ArePorts};
 ghost use Rattle.pin_graph.specs.RowTables.{AreRows, AreRowsFine, IsRangeFault};
 ghost use Rattle.arrival_engine.specs.Analysed.{AreTables, sized_rows};
+ghost use Rattle.arrival_engine.specs.Planned.{ArePlanned};
 
 use crate::nodes::empty_row;
+use crate::passes::full_rows;
 use cow_table::CowTable;
 use netlist_store::Store;
 use node_rows::{Ports, Setting, Wired, Wires};
@@ -73,7 +76,112 @@ fn sized(alloc: Global, rows: &CowTable<NodeRow>, count: usize) -> Result<CowTab
     Ok(more)
 }
 
+/// A value that is to be shared, with one owner.
+fn shared<T: Drop>(alloc: Global, value: T) -> Result<Arc<T>, Memory>
+    ensures { IfOk result (λ owner. arc_value owner ≡ value) }
+{
+    Arc::new(alloc, value).map_err(|_| Memory)
+}
+
+/// The ports of a store, to be shared.
+fn shared_ports(alloc: Global, store: &Store) -> Result<Arc<Ports>, Memory>
+    ensures { IfOk result (λ ports. ArePorts store.now.design.constraints (arc_value ports)) }
+{
+    let ports = Ports::of(alloc, store.constraints())?;
+    shared(alloc, ports)
+}
+
+/// The wires of a sound store, none of whose nets is too large, to be shared.
+#[tactic(auto, using(crate::proofs::PassLaws::large_is_range))]
+fn shared_wires(alloc: Global, store: &Store, ports: &Ports) -> Result<Arc<Wires>, Fault>
+    requires sound { IsSound store.now.design }
+    requires ports { ArePorts store.now.design.constraints ports.now }
+    ensures plan { IfOk result (λ wires. ArePlanned store.now (arc_value wires) ports.now) }
+    ensures err { IfErr result (IsRangeFault store.now.design) }
+{
+    let wires = Wires::of(alloc, store, ports)?;
+    Ok(shared(alloc, wires)?)
+}
+
+/// The rows of all nodes, over the tables of a store.
+#[tactic(auto, using(crate::proofs::PlanLaws::plan_over))]
+fn rows_over<H: Threads + Sync, G: Gate>(
+    rt: &H,
+    alloc: Global,
+    store: &Store,
+    graph: &Graph,
+    workers: u32,
+    gate: &G,
+    wires: &Wires,
+    ports: &Ports,
+) -> Result<CowTable<NodeRow>, Fault>
+    requires graph { graph.now.stored ≡ store.now }
+    requires some { 1 ≤ workers }
+    requires most { workers ≤ 32 }
+    requires plan { ArePlanned store.now wires.now ports.now }
+    ensures rows { IfOk result (AreRows store.now) }
+    ensures fine { OnOk result (AreRowsFine store.now.design) }
+    ensures err { IfErr result (IsRangeFault store.now.design) }
+{
+    let setting = Setting {
+        store,
+        wires,
+        ports,
+    };
+    full_rows(rt, alloc, &setting, graph, workers, gate)
+}
+
+/// The slews and arrivals of all nodes, with the tables of a store.
+fn with_tables<H: Threads + Sync, G: Gate>(
+    rt: &H,
+    alloc: Global,
+    store: &Store,
+    graph: &Graph,
+    workers: u32,
+    gate: &G,
+    wires: Arc<Wires>,
+    ports: Arc<Ports>,
+) -> Result<Arrivals, Fault>
+    requires graph { graph.now.stored ≡ store.now }
+    requires some { 1 ≤ workers }
+    requires most { workers ≤ 32 }
+    requires plan { ArePlanned store.now (arc_value wires) (arc_value ports) }
+    ensures rows { IfOk result (λ a. AreRows store.now a.rows) }
+    ensures tables { IfOk result (AreTables store.now) }
+    ensures fine { OnOk result (AreRowsFine store.now.design) }
+    ensures err { IfErr result (IsRangeFault store.now.design) }
+{
+    let rows = rows_over(rt, alloc, store, graph, workers, gate, &wires, &ports)?;
+    Ok(Arrivals { rows, wires, ports })
+}
+
 impl Arrivals {
+    /// The slews and arrivals of all nodes of a store, from nothing: level by level, each level's nodes
+    /// shared between that many threads, the gate called as each piece of a level begins. The rows are
+    /// the same whatever the number of workers. `OutOfRange` at a net or a pin where a load, a wire
+    /// delay, or a quantity of a node leaves its limit. Takes time of the nets, nodes and arcs.
+    pub fn full<H: Threads + Sync, G: Gate>(
+        rt: &H,
+        alloc: Global,
+        store: &Store,
+        graph: &Graph,
+        workers: u32,
+        gate: &G,
+    ) -> Result<Arrivals, Fault>
+        requires sound { IsSound store.now.design }
+        requires graph { graph.now.stored ≡ store.now }
+        requires some { 1 ≤ workers }
+        requires most { workers ≤ 32 }
+        ensures rows { IfOk result (λ a. AreRows store.now a.rows) }
+        ensures tables { IfOk result (AreTables store.now) }
+        ensures fine { OnOk result (AreRowsFine store.now.design) }
+        ensures err { IfErr result (IsRangeFault store.now.design) }
+    {
+        let ports = shared_ports(alloc, store)?;
+        let wires = shared_wires(alloc, store, &ports)?;
+        with_tables(rt, alloc, store, graph, workers, gate, wires, ports)
+    }
+
     /// The row of a node, whose number is below that of the rows. Takes no memory.
     pub fn row(&self, node: u32) -> &NodeRow
         requires { node < length self.now.rows }
