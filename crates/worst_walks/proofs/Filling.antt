@@ -20,14 +20,14 @@ use Rattle.worst_walks.specs.Tables.{row_in, ahead, through, relaxed, pushed, sp
 use Rattle.worst_walks.proofs.BestLaws.{best_alike, best_one, best_both}
 
 -- entries are ordered
-ahead-chain : (ranks : List ℕ) (x y z : Entry) → ahead ranks x y ≡ false → ahead ranks y z ≡ false → ahead ranks x z ≡ false
-ahead-chain ranks x y z a b = grind (arith, ints, Decides-int_eq)
+ahead-chain : (rank : ℕ → ℕ) (x y z : Entry) → ahead rank x y ≡ false → ahead rank y z ≡ false → ahead rank x z ≡ false
+ahead-chain rank x y z a b = grind (arith, ints, Decides-int_eq)
 
-ahead-one_way : (ranks : List ℕ) (x y : Entry) → ahead ranks x y ≡ true → ahead ranks y x ≡ false
-ahead-one_way ranks x y a = grind (arith, ints, Decides-int_eq)
+ahead-one_way : (rank : ℕ → ℕ) (x y : Entry) → ahead rank x y ≡ true → ahead rank y x ≡ false
+ahead-one_way rank x y a = grind (arith, ints, Decides-int_eq)
 
-pub entries : (ranks : List ℕ) → IsStrictWeakOrder (ahead ranks)
-entries ranks = record { one_way = ahead-one_way ranks; chain = ahead-chain ranks }
+pub entries : (rank : ℕ → ℕ) → IsStrictWeakOrder (ahead rank)
+entries rank = record { one_way = ahead-one_way rank; chain = ahead-chain rank }
 
 -- what a cone says of the arcs that a walk follows
 followed : (cone : Cone) (P : List WalkArc → Type 0) (n : ℕ) (first : Bool) → P [] → P (listed_into cone n)
@@ -85,55 +85,55 @@ through_none k None = refl
 through_none k (Some after) = refl
 
 -- a push, row by row
-module _ (ranks : List ℕ) (node : ℕ) (after : Entry) where
-  pub pushed_len : (arcs : List WalkArc) (rows : List (Option Entry)) → length (pushed ranks node after rows arcs) ≡ length rows
+module _ (rank : ℕ → ℕ) (node : ℕ) (after : Entry) where
+  pub pushed_len : (arcs : List WalkArc) (rows : List (Option Entry)) → length (pushed rank node after rows arcs) ≡ length rows
   pushed_len [] rows = refl
   pushed_len (arc ∷ arcs) rows =
-      pushed_len arcs (relaxed ranks node after rows arc)
-      ∙ length-set rows arc.from (better (ahead ranks) (row_in rows arc.from) (through node (Some after) (Some arc.delay)))
+      pushed_len arcs (relaxed rank node after rows arc)
+      ∙ length-set rows arc.from (better (ahead rank) (row_in rows arc.from) (through node (Some after) (Some arc.delay)))
 
   relaxed_same : (rows : List (Option Entry)) (arc : WalkArc) → arc.from < length rows
-      → row_in (relaxed ranks node after rows arc) arc.from ≡ better (ahead ranks) (row_in rows arc.from) (through node (Some after) (Some arc.delay))
+      → row_in (relaxed rank node after rows arc) arc.from ≡ better (ahead rank) (row_in rows arc.from) (through node (Some after) (Some arc.delay))
   relaxed_same rows arc low =
-      get_or-set_same rows arc.from (better (ahead ranks) (row_in rows arc.from) (through node (Some after) (Some arc.delay))) None low
+      get_or-set_same rows arc.from (better (ahead rank) (row_in rows arc.from) (through node (Some after) (Some arc.delay))) None low
 
-  relaxed_other : (rows : List (Option Entry)) (arc : WalkArc) (n : ℕ) → (n ≡ arc.from → ⊥) → row_in (relaxed ranks node after rows arc) n ≡ row_in rows n
+  relaxed_other : (rows : List (Option Entry)) (arc : WalkArc) (n : ℕ) → (n ≡ arc.from → ⊥) → row_in (relaxed rank node after rows arc) n ≡ row_in rows n
   relaxed_other rows arc n other =
-      get_or-set_other rows arc.from n (better (ahead ranks) (row_in rows arc.from) (through node (Some after) (Some arc.delay))) None other
+      get_or-set_other rows arc.from n (better (ahead rank) (row_in rows arc.from) (through node (Some after) (Some arc.delay))) None other
 
   pushed_at : (arcs : List WalkArc) (rows : List (Option Entry)) (n : ℕ) → All (λ arc. arc.from < length rows) arcs → AreApart arcs
-      → row_in (pushed ranks node after rows arcs) n ≡ better (ahead ranks) (row_in rows n) (through node (Some after) (delay_in arcs n))
-  pushed_at [] rows n low apart = sym (better_none (ahead ranks) (row_in rows n))
+      → row_in (pushed rank node after rows arcs) n ≡ better (ahead rank) (row_in rows n) (through node (Some after) (delay_in arcs n))
+  pushed_at [] rows n low apart = sym (better_none (ahead rank) (row_in rows n))
   pushed_at (arc ∷ arcs) rows n low apart =
       let here : arc.from < length rows = All-head (λ (a : WalkArc). a.from < length rows) arc arcs low in
-      let long : length (relaxed ranks node after rows arc) ≡ length rows = pushed_len (arc ∷ []) rows in
-      let rest : All (λ a. a.from < length (relaxed ranks node after rows arc)) arcs =
+      let long : length (relaxed rank node after rows arc) ≡ length rows = pushed_len (arc ∷ []) rows in
+      let rest : All (λ a. a.from < length (relaxed rank node after rows arc)) arcs =
       subst (λ m. All (λ (a : WalkArc). a.from < m) arcs) (sym long) (All-tail (λ (a : WalkArc). a.from < length rows) arc arcs low) in
-      let more = pushed_at arcs (relaxed ranks node after rows arc) n rest apart.1 in
+      let more = pushed_at arcs (relaxed rank node after rows arc) n rest apart.1 in
       elim (cases_eq n arc.from) [
         | inl same ↦ let at : (arc.from == n) ≡ true = eq-eqb arc.from n (sym same) in
             rw at (more
-            ∙ ap (λ o. better (ahead ranks) (row_in (relaxed ranks node after rows arc) n) (through node (Some after) o))
+            ∙ ap (λ o. better (ahead rank) (row_in (relaxed rank node after rows arc) n) (through node (Some after) o))
             (subst (λ m. delay_in arcs m ≡ None) (sym same) (delay_apart arcs arc.from apart.0))
-            ∙ better_none (ahead ranks) (row_in (relaxed ranks node after rows arc) n)
-            ∙ subst (λ m. row_in (relaxed ranks node after rows arc) m ≡ better (ahead ranks) (row_in rows m) (through node (Some after) (Some arc.delay))) (sym same) (relaxed_same rows arc here))
+            ∙ better_none (ahead rank) (row_in (relaxed rank node after rows arc) n)
+            ∙ subst (λ m. row_in (relaxed rank node after rows arc) m ≡ better (ahead rank) (row_in rows m) (through node (Some after) (Some arc.delay))) (sym same) (relaxed_same rows arc here))
         | inr other ↦ let off : (arc.from == n) ≡ false = ne_eqb arc.from n (λ e. other (sym e)) in
-            rw off (more ∙ ap (λ o. better (ahead ranks) o (through node (Some after) (delay_in arcs n))) (relaxed_other rows arc n other))
+            rw off (more ∙ ap (λ o. better (ahead rank) o (through node (Some after) (delay_in arcs n))) (relaxed_other rows arc n other))
       ]
 
 arcs_low : (cone : Cone) (k len : ℕ) (arcs : List WalkArc) → count_of cone ≡ len → All (IsArcInto cone k) arcs → All (λ arc. arc.from < len) arcs
 arcs_low cone k len arcs e h = λ i d l. subst (λ m. (slice_index_or arcs i d).from < m) e (h i d l).1
 
-spread-by : (cone : Cone) (k n : ℕ) (rows : List (Option Entry)) (o : Option Entry) → IsCone cone → k < count_of cone → length rows ≡ count_of cone
-    → row_in (spread cone k o rows) n ≡ better (ahead cone.ranks) (row_in rows n) (through k o (delay_between cone n k))
-spread-by cone k n rows None good low long = sym (better_none (ahead cone.ranks) (row_in rows n))
-spread-by cone k n rows (Some after) good low long =
-    pushed_at cone.ranks k after (arcs_into cone k) rows n
+spread-by : (rank : ℕ → ℕ) (cone : Cone) (k n : ℕ) (rows : List (Option Entry)) (o : Option Entry) → IsCone cone → k < count_of cone → length rows ≡ count_of cone
+    → row_in (spread rank cone k o rows) n ≡ better (ahead rank) (row_in rows n) (through k o (delay_between cone n k))
+spread-by rank cone k n rows None good low long = sym (better_none (ahead rank) (row_in rows n))
+spread-by rank cone k n rows (Some after) good low long =
+    pushed_at rank k after (arcs_into cone k) rows n
     (arcs_low cone k (length rows) (arcs_into cone k) (sym long) (arcs_there cone k good low)) (arcs_apart cone k good low)
 
-spread_len : (cone : Cone) (k : ℕ) (o : Option Entry) (rows : List (Option Entry)) → length (spread cone k o rows) ≡ length rows
-spread_len cone k None rows = refl
-spread_len cone k (Some after) rows = pushed_len cone.ranks k after (arcs_into cone k) rows
+spread_len : (rank : ℕ → ℕ) (cone : Cone) (k : ℕ) (o : Option Entry) (rows : List (Option Entry)) → length (spread rank cone k o rows) ≡ length rows
+spread_len rank cone k None rows = refl
+spread_len rank cone k (Some after) rows = pushed_len rank k after (arcs_into cone k) rows
 
 -- bounds
 bounded_cond : (b : ℕ) (told : Bool) (x y : Entry) → IsBounded b (Some x) → IsBounded b (Some y) → IsBounded b (if told then Some y else Some x)
@@ -155,22 +155,22 @@ bounded_through k (Some after) None f g = tt
 bounded_through k (Some after) (Some x) f g = let w = g x refl in omega (arith, ints)
 
 -- one node more
-module _ (cone : Cone) (end k : ℕ) (rows : List (Option Entry)) (good : IsCone cone) (low : k < count_of cone) (h : IsFilled cone end k rows) where
+module _ (rank : ℕ → ℕ) (cone : Cone) (end k : ℕ) (rows : List (Option Entry)) (good : IsCone cone) (low : k < count_of cone) (h : IsFilled rank cone end k rows) where
   abbrev after_it : List (Option Entry)
-  after_it = spread cone k (row_in rows k) rows
+  after_it = spread rank cone k (row_in rows k) rows
 
   abbrev step : ℕ → Option Entry
   step n = through k (row_in rows k) (delay_between cone n k)
 
-  at : (n : ℕ) → row_in after_it n ≡ better (ahead cone.ranks) (row_in rows n) (step n)
-  at n = spread-by cone k n rows (row_in rows k) good low h.long
+  at : (n : ℕ) → row_in after_it n ≡ better (ahead rank) (row_in rows n) (step n)
+  at n = spread-by rank cone k n rows (row_in rows k) good low h.long
 
   quiet : (n : ℕ) → (n ≤ k) ⊎ (k < end) → step n ≡ None
   quiet n (inl under) = ap (through k (row_in rows k)) (delay_low cone k n good low under) ∙ through_none k (row_in rows k)
   quiet n (inr over) = ap (λ o. through k o (delay_between cone n k)) (h.below k over)
 
   same : (n : ℕ) → (n ≤ k) ⊎ (k < end) → row_in after_it n ≡ row_in rows n
-  same n why = at n ∙ ap (better (ahead cone.ranks) (row_in rows n)) (quiet n why) ∙ better_none (ahead cone.ranks) (row_in rows n)
+  same n why = at n ∙ ap (better (ahead rank) (row_in rows n)) (quiet n why) ∙ better_none (ahead rank) (row_in rows n)
 
   side : (n : ℕ) → n ≤ end → (n ≤ k) ⊎ (k < end)
   side n under = elim (cases_lt k end) [ inl less ↦ inr less | inr more ↦ inl (omega arith) ]
@@ -196,24 +196,24 @@ module _ (cone : Cone) (end k : ℕ) (rows : List (Option Entry)) (good : IsCone
         | inr other ↦ inl (c.0, omega arith, was)
       ]
 
-  best : (n : ℕ) → (n ≡ end → ⊥) → BestOf (ahead cone.ranks) (IsCandidate cone after_it (k + 1) n) (row_in after_it n)
+  best : (n : ℕ) → (n ≡ end → ⊥) → BestOf (ahead rank) (IsCandidate cone after_it (k + 1) n) (row_in after_it n)
   best n other =
-      subst (BestOf (ahead cone.ranks) (IsCandidate cone after_it (k + 1) n)) (sym (at n))
-      (best_alike (ahead cone.ranks) (λ entry. IsCandidate cone rows k n entry ⊎ (step n ≡ Some entry)) (IsCandidate cone after_it (k + 1) n)
-      (better (ahead cone.ranks) (row_in rows n) (step n)) (grown n) (shrunk n)
-      (best_both (ahead cone.ranks) (IsCandidate cone rows k n) (λ entry. step n ≡ Some entry) (row_in rows n) (step n) (entries cone.ranks)
-      (h.each n other) (best_one (ahead cone.ranks) (entries cone.ranks) (step n))))
+      subst (BestOf (ahead rank) (IsCandidate cone after_it (k + 1) n)) (sym (at n))
+      (best_alike (ahead rank) (λ entry. IsCandidate cone rows k n entry ⊎ (step n ≡ Some entry)) (IsCandidate cone after_it (k + 1) n)
+      (better (ahead rank) (row_in rows n) (step n)) (grown n) (shrunk n)
+      (best_both (ahead rank) (IsCandidate cone rows k n) (λ entry. step n ≡ Some entry) (row_in rows n) (step n) (entries rank)
+      (h.each n other) (best_one (ahead rank) (entries rank) (step n))))
 
   within : (n : ℕ) → IsBounded (k + 1) (row_in after_it n)
   within n =
       subst (IsBounded (k + 1)) (sym (at n))
-      (bounded_better (k + 1) (ahead cone.ranks) (row_in rows n) (step n) (bounded_more k (k + 1) (row_in rows n) (omega arith) (h.bounded n))
+      (bounded_better (k + 1) (ahead rank) (row_in rows n) (step n) (bounded_more k (k + 1) (row_in rows n) (omega arith) (h.bounded n))
       (bounded_through k (row_in rows k) (delay_between cone n k) (h.bounded k)
       (λ x e. (delay_there cone k n (arcs_into cone k) x (arcs_there cone k good low) e).2)))
 
-  pub filled_more : IsFilled cone end (k + 1) (spread cone k (row_in rows k) rows)
+  pub filled_more : IsFilled rank cone end (k + 1) (spread rank cone k (row_in rows k) rows)
   filled_more = record {
-    long = spread_len cone k (row_in rows k) rows ∙ h.long;
+    long = spread_len rank cone k (row_in rows k) rows ∙ h.long;
     last = same end (side end (omega arith)) ∙ h.last;
     below = λ n under. same n (side n (omega arith)) ∙ h.below n under;
     each = best;
@@ -227,7 +227,7 @@ no_rows n = replicate n None
 no_rows-len : (n : ℕ) → length (no_rows n) ≡ n
 no_rows-len n = length-replicate n None
 
-module _ (cone : Cone) (end : ℕ) (low : end < count_of cone) where
+module _ (rank : ℕ → ℕ) (cone : Cone) (end : ℕ) (low : end < count_of cone) where
   abbrev first_rows : List (Option Entry)
   first_rows = slice_set (replicate (count_of cone) None) end (Some (record { total = pos 0; next = end }))
 
@@ -252,15 +252,15 @@ module _ (cone : Cone) (end : ℕ) (low : end < count_of cone) where
     | inr other ↦ subst (IsBounded 0) (sym (first_other n other)) tt
   ]
 
-  pub filled_none : IsFilled cone end 0 (slice_set (replicate (count_of cone) None) end (Some (record { total = pos 0; next = end })))
+  pub filled_none : IsFilled rank cone end 0 (slice_set (replicate (count_of cone) None) end (Some (record { total = pos 0; next = end })))
   filled_none = record {
     long = length-set (replicate (count_of cone) None) end (Some (record { total = pos 0; next = end })) ∙ length-replicate (count_of cone) None;
     last = first_last;
     below = λ n under. first_other n (λ e. let is = e in absurd (omega arith));
-    each = λ n other. subst (BestOf (ahead cone.ranks) (IsCandidate cone first_rows 0 n)) (sym (first_other n other)) (λ entry c. let under = c.1 in absurd (omega arith));
+    each = λ n other. subst (BestOf (ahead rank) (IsCandidate cone first_rows 0 n)) (sym (first_other n other)) (λ entry c. let under = c.1 in absurd (omega arith));
     bounded = first_bounded;
   }
 
-pub filled_as : (cone : Cone) (end k : ℕ) (rows after : List (Option Entry)) → IsCone cone → k < count_of cone → IsFilled cone end k rows
-    → after ≡ spread cone k (row_in rows k) rows → IsFilled cone end (k + 1) after
-filled_as cone end k rows after good low h e = subst (IsFilled cone end (k + 1)) (sym e) (filled_more cone end k rows good low h)
+pub filled_as : (rank : ℕ → ℕ) (cone : Cone) (end k : ℕ) (rows after : List (Option Entry)) → IsCone cone → k < count_of cone → IsFilled rank cone end k rows
+    → after ≡ spread rank cone k (row_in rows k) rows → IsFilled rank cone end (k + 1) after
+filled_as rank cone end k rows after good low h e = subst (IsFilled rank cone end (k + 1)) (sym e) (filled_more rank cone end k rows good low h)

@@ -1,6 +1,8 @@
 pub mod BestLaws
 pub mod Callers
+pub mod Comparing
 pub mod Filling
+pub mod Knowing
 pub mod Marking
 pub mod Naming
 pub mod Offers

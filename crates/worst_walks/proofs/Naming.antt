@@ -2,7 +2,7 @@
 -- of a cone.
 
 use Rattle.std.proofs.Common.{◌≡◌, ℕ, ◌<◌, ℤ, pos, Bool, true, false, ◌==◌, if◌then◌else◌, List, [], ◌∷◌, map, Option, Some, None, refl, sym, ap, ◌∙◌, arith}
-use Rattle.std.specs.Prelude.{All, slice_index}
+use Rattle.std.specs.Prelude.{All}
 use Rattle.std.specs.Ordering.{nat_cmp, ordering_then}
 use Rattle.std.specs.declared.cmp.Ordering.{Ordering}
 use Rattle.std.specs.Cmp.Lexicographic.{slice_cmp}
@@ -11,7 +11,7 @@ use Rattle.std.proofs.lemmas.List.Elements.{All-nil, All-cons, All-head, All-tai
 use Rattle.std.proofs.lemmas.Option.{cond_some}
 use Rattle.timing_defs.specs.Rows.{plus_some}
 use Rattle.worst_walks.specs.declared.cones.Cone.{Cone}
-use Rattle.worst_walks.specs.Walks.{count_of, arcs_into, delay_between, walk_sum, ranks_of, IsCone}
+use Rattle.worst_walks.specs.Walks.{count_of, arcs_into, delay_between, walk_sum, IsCone}
 use Rattle.worst_walks.proofs.Filling.{arcs_there, delay_there}
 use Rattle.worst_walks.proofs.Optimal.{plus_parts}
 
@@ -105,24 +105,24 @@ module _ {N : Type 0} (cmp : N → N → Ordering) (rank : N → ℕ) (P : N →
       ap (λ o. ordering_then o (slice_cmp cmp xs ys)) (ranked x y (All-head P x xs p) (All-head P y ys q))
       ∙ ap (ordering_then (nat_cmp (rank x) (rank y))) (cmp_ranked xs ys (All-tail P x xs p) (All-tail P y ys q))
 
--- the same by a table of ranks: what is named compares as the ranks
-module _ {N : Type 0} (cmp : N → N → Ordering) (name : ℕ → N) (cone : Cone)
-    (ranked : (a b : ℕ) → a < count_of cone → b < count_of cone → cmp (name a) (name b) ≡ nat_cmp (slice_index cone.ranks a) (slice_index cone.ranks b)) where
-  pub cmp_named : (ms ns : List ℕ) → All (λ m. m < count_of cone) ms → All (λ n. n < count_of cone) ns
-      → slice_cmp cmp (map name ms) (map name ns) ≡ slice_cmp nat_cmp (ranks_of cone ms) (ranks_of cone ns)
+-- the same by the ranks of numbers: what is named compares as the ranks
+module _ {N : Type 0} (cmp : N → N → Ordering) (name : ℕ → N) (rank : ℕ → ℕ) (count : ℕ)
+    (ranked : (a b : ℕ) → a < count → b < count → cmp (name a) (name b) ≡ nat_cmp (rank a) (rank b)) where
+  pub cmp_named : (ms ns : List ℕ) → All (λ m. m < count) ms → All (λ n. n < count) ns
+      → slice_cmp cmp (map name ms) (map name ns) ≡ slice_cmp nat_cmp (map rank ms) (map rank ns)
   cmp_named [] [] p q = refl
   cmp_named [] (n ∷ ns) p q = refl
   cmp_named (m ∷ ms) [] p q = refl
   cmp_named (m ∷ ms) (n ∷ ns) p q =
       ap (λ o. ordering_then o (slice_cmp cmp (map name ms) (map name ns)))
-      (ranked m n (All-head (λ m. m < count_of cone) m ms p) (All-head (λ n. n < count_of cone) n ns q))
-      ∙ ap (ordering_then (nat_cmp (slice_index cone.ranks m) (slice_index cone.ranks n)))
-      (cmp_named ms ns (All-tail (λ m. m < count_of cone) m ms p) (All-tail (λ n. n < count_of cone) n ns q))
+      (ranked m n (All-head (λ m. m < count) m ms p) (All-head (λ n. n < count) n ns q))
+      ∙ ap (ordering_then (nat_cmp (rank m) (rank n)))
+      (cmp_named ms ns (All-tail (λ m. m < count) m ms p) (All-tail (λ n. n < count) n ns q))
 
 -- and the ranks of numbers are those of their names
-pub ranks_named : {N : Type 0} (name : ℕ → N) (rank : N → ℕ) (cone : Cone) → ((n : ℕ) → n < count_of cone → slice_index cone.ranks n ≡ rank (name n))
-    → (ns : List ℕ) → All (λ n. n < count_of cone) ns → ranks_of cone ns ≡ map rank (map name ns)
-ranks_named name rank cone h [] lows = refl
-ranks_named name rank cone h (n ∷ ns) lows =
-    ap (λ r. r ∷ ranks_of cone ns) (h n (All-head (λ n. n < count_of cone) n ns lows))
-    ∙ ap (λ rs. rank (name n) ∷ rs) (ranks_named name rank cone h ns (All-tail (λ n. n < count_of cone) n ns lows))
+pub ranks_named : {N : Type 0} (name : ℕ → N) (rank : ℕ → ℕ) (place : N → ℕ) (count : ℕ) → ((n : ℕ) → n < count → rank n ≡ place (name n))
+    → (ns : List ℕ) → All (λ n. n < count) ns → map rank ns ≡ map place (map name ns)
+ranks_named name rank place count h [] lows = refl
+ranks_named name rank place count h (n ∷ ns) lows =
+    ap (λ r. r ∷ map rank ns) (h n (All-head (λ n. n < count) n ns lows))
+    ∙ ap (λ rs. place (name n) ∷ rs) (ranks_named name rank place count h ns (All-tail (λ n. n < count) n ns lows))

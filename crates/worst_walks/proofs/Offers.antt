@@ -13,15 +13,15 @@ use Rattle.worst_walks.specs.declared.cones.Cone.{Cone}
 use Rattle.worst_walks.specs.declared.cones.Walk.{Walk}
 use Rattle.worst_walks.specs.declared.tables.Entry.{Entry}
 use Rattle.worst_walks.specs.Best.{BestOf, better}
-use Rattle.worst_walks.specs.Walks.{count_of, delay_between, walk_sum, launch_slack, IsWalk, IsCone, IsEnd, IsLaunch, IsLeastSlack}
+use Rattle.worst_walks.specs.Walks.{count_of, delay_between, walk_sum, launch_slack, IsWalk, AreRanked, IsCone, IsEnd, IsLaunch, IsLeastSlack}
 use Rattle.worst_walks.specs.Tables.{row_in, offered, least_from, IsBounded, IsTable}
 use Rattle.worst_walks.specs.Searches.{IsTo, IsSlackTo, IsSlackBefore, IsFalling}
 use Rattle.worst_walks.proofs.BestLaws.{best_alike, best_one, best_both}
 use Rattle.worst_walks.proofs.Filling.{bounded_more}
 use Rattle.worst_walks.proofs.Optimal.{next_there, found, traced, least}
 
-pub bounded_there : (cone : Cone) (end : ℕ) (rows : List (Option Entry)) (n : ℕ) → IsCone cone → IsTable cone end rows → IsBounded (2 ^ 22) (row_in rows n)
-bounded_there cone end rows n good h =
+pub bounded_there : (rank : ℕ → ℕ) (cone : Cone) (end : ℕ) (rows : List (Option Entry)) (n : ℕ) → IsCone cone → IsTable rank cone end rows → IsBounded (2 ^ 22) (row_in rows n)
+bounded_there rank cone end rows n good h =
     let few = good.few in
     bounded_more (count_of cone) (2 ^ 22) (row_in rows n) (omega arith) (h.bounded n)
 
@@ -29,9 +29,9 @@ pub launch_fine : (cone : Cone) (end : WalkEnd) (i : ℕ) (launch : Launch) → 
 launch_fine cone end i launch fine at =
     subst (IsLaunch cone) (get_or_from_slice_get end.launches i launch launch at) (fine.each i launch (slice_get_within end.launches i launch at))
 
-pub is_falling : (cone : Cone) (end : ℕ) (rows : List (Option Entry)) → IsCone cone → IsTable cone end rows → IsFalling rows end
-is_falling cone end rows good h =
-    λ n entry other e. let via = next_there cone end rows good h n entry other e in
+pub is_falling : (rank : ℕ → ℕ) (cone : Cone) (end : ℕ) (rows : List (Option Entry)) → IsCone cone → IsTable rank cone end rows → IsFalling rows end
+is_falling rank cone end rows good h =
+    λ n entry other e. let via = next_there rank cone end rows good h n entry other e in
     (via.low, subst IsSome (sym via.row) refl)
 
 -- slacks are ordered
@@ -182,12 +182,12 @@ pub record Under (end : WalkEnd) (rows : List (Option Entry)) (walk : Walk) : Ty
   pub row : row_in rows launch.node ≡ Some entry
   pub low : (launch.offer -ℤ entry.total) ≤ℤ walk.slack
 
-module _ (cone : Cone) (place : ℕ) (end : WalkEnd) (rows : List (Option Entry)) (good : IsCone cone) (there : slice_get cone.ends place ≡ Some end)
-    (h : IsTable cone end.node rows) where
+module _ (rank : ℕ → ℕ) (cone : Cone) (place : ℕ) (end : WalkEnd) (rows : List (Option Entry)) (good : IsCone cone) (ranked : AreRanked cone rank) (there : slice_get cone.ends place ≡ Some end)
+    (h : IsTable rank cone end.node rows) where
   pub under : (walk : Walk) → IsTo cone place walk → Under end rows walk
   under walk to =
       let w = walked cone place end walk there to in
-      let b = least cone end.node rows good h w.listed.rest w.launch.node w.listed.sum w.listed.adds in
+      let b = least rank cone end.node rows good h ranked w.listed.rest w.launch.node w.listed.sum w.listed.adds in
       let most = b.most in
       let is = w.listed.is in
       record { launch = w.launch; at = w.at; entry = b.entry; row = b.row; low = omega (arith, ints) }
@@ -195,8 +195,8 @@ module _ (cone : Cone) (place : ℕ) (end : WalkEnd) (rows : List (Option Entry)
   pub attained : (i : ℕ) (launch : Launch) (entry : Entry) → slice_get end.launches i ≡ Some launch → row_in rows launch.node ≡ Some entry
       → IsSlackTo cone place (launch.offer -ℤ entry.total)
   attained i launch entry at row =
-      let t = traced cone end.node rows good h (suc launch.node) launch.node entry (omega arith) row in
-      let adds = found cone end.node rows good h t.0 launch.node entry t.1 row in (
+      let t = traced rank cone end.node rows good h (suc launch.node) launch.node entry (omega arith) row in
+      let adds = found rank cone end.node rows good h t.0 launch.node entry t.1 row in (
         record { slack = launch.offer -ℤ entry.total; launch = i; end = place; nodes = launch.node ∷ t.0 },
         ((joined cone place i end launch t.0 entry.total there at adds, refl), refl),
       )
@@ -221,9 +221,10 @@ module _ (cone : Cone) (place : ℕ) (end : WalkEnd) (rows : List (Option Entry)
   pub to_best : BestOf int_lt (IsSlackTo cone place) (least_from rows None end.launches)
   to_best = to_best-by (least_from rows None end.launches) (least_given rows end.launches)
 
-pub to_best_as : (cone : Cone) (place : ℕ) (end : WalkEnd) (rows : List (Option Entry)) (o : Option ℤ) → IsCone cone → slice_get cone.ends place ≡ Some end
-    → IsTable cone end.node rows → o ≡ least_from rows None end.launches → BestOf int_lt (IsSlackTo cone place) o
-to_best_as cone place end rows o good there h e = subst (BestOf int_lt (IsSlackTo cone place)) (sym e) (to_best cone place end rows good there h)
+pub to_best_as : (rank : ℕ → ℕ) (cone : Cone) (place : ℕ) (end : WalkEnd) (rows : List (Option Entry)) (o : Option ℤ) → IsCone cone → AreRanked cone rank → slice_get cone.ends place ≡ Some end
+    → IsTable rank cone end.node rows → o ≡ least_from rows None end.launches → BestOf int_lt (IsSlackTo cone place) o
+to_best_as rank cone place end rows o good ranked there h e =
+    subst (BestOf int_lt (IsSlackTo cone place)) (sym e) (to_best rank cone place end rows good ranked there h)
 
 -- one end more
 pub slack_none : (cone : Cone) → BestOf int_lt (IsSlackBefore cone 0) None

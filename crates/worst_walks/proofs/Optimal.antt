@@ -1,8 +1,8 @@
 -- A filled table has the best walk from each node: no walk is of greater sum, and none of the same
 -- sum comes before it by the ranks (the principle of optimality).
 
-use Rattle.std.proofs.Common.{◌≡◌, ℕ, zero, suc, ◌<◌, ◌≤◌, ℤ, pos, ◌+ℤ◌, ◌≤ℤ◌, true, false, ◌&&◌, ◌==◌, inl, inr, List, [], ◌∷◌, length, Option, Some, None, refl, sym, ap, subst, ◌∙◌, arith}
-use Rattle.std.specs.Prelude.{int_lt, nat_lt, slice_index}
+use Rattle.std.proofs.Common.{◌≡◌, ℕ, zero, suc, ◌<◌, ◌≤◌, ℤ, pos, ◌+ℤ◌, ◌≤ℤ◌, true, false, ◌&&◌, ◌==◌, inl, inr, List, [], ◌∷◌, length, map, Option, Some, None, refl, sym, ap, subst, ◌∙◌, arith}
+use Rattle.std.specs.Prelude.{int_lt, nat_lt}
 use Rattle.std.specs.Ordering.{int_eq, nat_cmp, ordering_then, is_gt}
 use Rattle.std.specs.Cmp.Lexicographic.{slice_cmp}
 use Rattle.std.proofs.lemmas.Bool.{cases_eq, cases_lt, or_parts, lt-ltb, eq-eqb, eqb-true}
@@ -15,7 +15,7 @@ use Rattle.timing_defs.specs.Rows.{plus_some}
 use Rattle.worst_walks.specs.declared.cones.Cone.{Cone}
 use Rattle.worst_walks.specs.declared.tables.Entry.{Entry}
 use Rattle.worst_walks.specs.Best.{BestOf}
-use Rattle.worst_walks.specs.Walks.{count_of, arcs_into, delay_between, walk_sum, ranks_of, IsCone}
+use Rattle.worst_walks.specs.Walks.{count_of, arcs_into, delay_between, walk_sum, AreRanked, IsCone}
 use Rattle.worst_walks.specs.Tables.{row_in, ahead, through, IsCandidate, IsTable, LeadsTo, Traces}
 use Rattle.worst_walks.proofs.Filling.{arcs_there, delay_there}
 
@@ -27,7 +27,7 @@ pub record Came (j : ℕ) (o : Option Entry) (d : Option ℤ) (entry : Entry) : 
   pub arc : d ≡ Some delay
   pub is : record { total = delay +ℤ after.total; next = j } ≡ entry
 
-came : (j : ℕ) (o : Option Entry) (d : Option ℤ) (entry : Entry) → through j o d ≡ Some entry → Came j o d entry
+pub came : (j : ℕ) (o : Option Entry) (d : Option ℤ) (entry : Entry) → through j o d ≡ Some entry → Came j o d entry
 came j None d entry e = absurd (none-some entry e)
 came j (Some after) None entry e = absurd (none-some entry e)
 came j (Some after) (Some delay) entry e =
@@ -52,18 +52,18 @@ head_less a b xs ys h = rw (lt-ltb a b h) refl
 pub head_same : (a : ℕ) (xs ys : List ℕ) → is_gt (slice_cmp nat_cmp xs ys) ≡ false → is_gt (slice_cmp nat_cmp (a ∷ xs) (a ∷ ys)) ≡ false
 head_same a xs ys h = ap (λ o. is_gt (ordering_then o (slice_cmp nat_cmp xs ys))) (tied_itself nat_cmp_total a) ∙ h
 
-not_ahead : (ranks : List ℕ) (c b : Entry) → ahead ranks c b ≡ false → c.total ≤ℤ b.total
-not_ahead ranks c b e = let parts = (or_parts (int_lt b.total c.total) (int_eq c.total b.total && nat_lt (slice_index ranks c.next) (slice_index ranks b.next)) e).0 in grind (arith, ints)
+not_ahead : (rank : ℕ → ℕ) (c b : Entry) → ahead rank c b ≡ false → c.total ≤ℤ b.total
+not_ahead rank c b e = let parts = (or_parts (int_lt b.total c.total) (int_eq c.total b.total && nat_lt (rank c.next) (rank b.next)) e).0 in grind (arith, ints)
 
-tied_ahead : (ranks : List ℕ) (c b : Entry) → ahead ranks c b ≡ false → c.total ≡ b.total → slice_index ranks b.next ≤ slice_index ranks c.next
-tied_ahead ranks c b e same = grind (arith, ints, Decides-int_eq)
+tied_ahead : (rank : ℕ → ℕ) (c b : Entry) → ahead rank c b ≡ false → c.total ≡ b.total → rank b.next ≤ rank c.next
+tied_ahead rank c b e same = grind (arith, ints, Decides-int_eq)
 
 -- what is known of a walk from `n` by `ns` with the sum `s`
-pub record Beaten (cone : Cone) (end : ℕ) (rows : List (Option Entry)) (n : ℕ) (ns : List ℕ) (s : ℤ) : Type 0 where
+pub record Beaten (rank : ℕ → ℕ) (cone : Cone) (end : ℕ) (rows : List (Option Entry)) (n : ℕ) (ns : List ℕ) (s : ℤ) : Type 0 where
   pub entry : Entry
   pub row : row_in rows n ≡ Some entry
   pub most : s ≤ℤ entry.total
-  pub order : s ≡ entry.total → (ms : List ℕ) → Traces rows end n ms → is_gt (slice_cmp nat_cmp (ranks_of cone ms) (ranks_of cone ns)) ≡ false
+  pub order : s ≡ entry.total → (ms : List ℕ) → Traces rows end n ms → is_gt (slice_cmp nat_cmp (map rank ms) (map rank ns)) ≡ false
 
 -- the entry of a node that is not the end, by the node to which it leads
 pub record Next (cone : Cone) (rows : List (Option Entry)) (n : ℕ) (entry : Entry) : Type 0 where
@@ -74,7 +74,7 @@ pub record Next (cone : Cone) (rows : List (Option Entry)) (n : ℕ) (entry : En
   pub sum : delay +ℤ after.total ≡ entry.total
   pub low : entry.next < n
 
-module _ (cone : Cone) (end : ℕ) (rows : List (Option Entry)) (good : IsCone cone) (h : IsTable cone end rows) where
+module _ (rank : ℕ → ℕ) (cone : Cone) (end : ℕ) (rows : List (Option Entry)) (good : IsCone cone) (h : IsTable rank cone end rows) where
   pub row_low : (n : ℕ) (entry : Entry) → row_in rows n ≡ Some entry → n < count_of cone
   row_low n entry e = elim (cases_lt n (length rows)) [
     | inl under ↦ let long = h.long in omega arith
@@ -83,7 +83,7 @@ module _ (cone : Cone) (end : ℕ) (rows : List (Option Entry)) (good : IsCone c
 
   pub next_there : (n : ℕ) (entry : Entry) → (n ≡ end → ⊥) → row_in rows n ≡ Some entry → Next cone rows n entry
   next_there n entry other e =
-      let best = subst (BestOf (ahead cone.ranks) (IsCandidate cone rows (count_of cone) n)) e (h.each n other) in
+      let best = subst (BestOf (ahead rank) (IsCandidate cone rows (count_of cone) n)) e (h.each n other) in
       let c = best.0 in
       let via = came c.0 (row_in rows c.0) (delay_between cone n c.0) entry c.2 in
       let is : c.0 ≡ entry.next = ap (λ (x : Entry). x.next) via.is in
@@ -124,7 +124,7 @@ module _ (cone : Cone) (end : ℕ) (rows : List (Option Entry)) (good : IsCone c
         (entry.next ∷ rest.0, (other, subst (λ o. LeadsTo o entry.next) (sym e) refl, rest.1))
   ]
 
-  ended : (n : ℕ) → n ≡ end → (ms : List ℕ) → Traces rows end n ms → is_gt (slice_cmp nat_cmp (ranks_of cone ms) []) ≡ false
+  ended : (n : ℕ) → n ≡ end → (ms : List ℕ) → Traces rows end n ms → is_gt (slice_cmp nat_cmp (map rank ms) []) ≡ false
   ended n at [] t = refl
   ended n at (m ∷ ms) t = absurd (t.0 at)
 
@@ -135,53 +135,53 @@ module _ (cone : Cone) (end : ℕ) (rows : List (Option Entry)) (good : IsCone c
       none-some after (sym (h.below m (omega arith)) ∙ row)
 
   -- the nodes behind `n`, against those of a walk through `m`
-  by_rank : (n m p : ℕ) (ps ns : List ℕ) → p < count_of cone → m < count_of cone → slice_index cone.ranks p ≤ slice_index cone.ranks m
-      → (p ≡ m → is_gt (slice_cmp nat_cmp (ranks_of cone ps) (ranks_of cone ns)) ≡ false)
-      → is_gt (slice_cmp nat_cmp (ranks_of cone (p ∷ ps)) (ranks_of cone (m ∷ ns))) ≡ false
-  by_rank n m p ps ns low under le rest = elim (cases_lt (slice_index cone.ranks p) (slice_index cone.ranks m)) [
-    | inl less ↦ head_less (slice_index cone.ranks p) (slice_index cone.ranks m) (ranks_of cone ps) (ranks_of cone ns) less
-    | inr more ↦ let same : slice_index cone.ranks p ≡ slice_index cone.ranks m = omega arith in
-        subst (λ r. is_gt (slice_cmp nat_cmp (r ∷ ranks_of cone ps) (ranks_of cone (m ∷ ns))) ≡ false) (sym same)
-        (head_same (slice_index cone.ranks m) (ranks_of cone ps) (ranks_of cone ns) (rest (good.ranks p m low under same)))
+  by_rank : AreRanked cone rank → (n m p : ℕ) (ps ns : List ℕ) → p < count_of cone → m < count_of cone → rank p ≤ rank m
+      → (p ≡ m → is_gt (slice_cmp nat_cmp (map rank ps) (map rank ns)) ≡ false)
+      → is_gt (slice_cmp nat_cmp (map rank (p ∷ ps)) (map rank (m ∷ ns))) ≡ false
+  by_rank ranked n m p ps ns low under le rest = elim (cases_lt (rank p) (rank m)) [
+    | inl less ↦ head_less (rank p) (rank m) (map rank ps) (map rank ns) less
+    | inr more ↦ let same : rank p ≡ rank m = omega arith in
+        subst (λ r. is_gt (slice_cmp nat_cmp (r ∷ map rank ps) (map rank (m ∷ ns))) ≡ false) (sym same)
+        (head_same (rank m) (map rank ps) (map rank ns) (rest (ranked p m low under same)))
   ]
 
-  order-by : (n m : ℕ) (ns : List ℕ) (s d t : ℤ) (after best : Entry) → (n ≡ end → ⊥) → row_in rows n ≡ Some best → row_in rows m ≡ Some after
-      → ahead cone.ranks (record { total = d +ℤ after.total; next = m }) best ≡ false → d +ℤ t ≡ s → t ≤ℤ after.total
-      → (t ≡ after.total → (ms : List ℕ) → Traces rows end m ms → is_gt (slice_cmp nat_cmp (ranks_of cone ms) (ranks_of cone ns)) ≡ false)
-      → s ≡ best.total → (ms : List ℕ) → Traces rows end n ms → is_gt (slice_cmp nat_cmp (ranks_of cone ms) (ranks_of cone (m ∷ ns))) ≡ false
-  order-by n m ns s d t after best other row there not_before sum most rest is [] tr = absurd (other tr)
-  order-by n m ns s d t after best other row there not_before sum most rest is (p ∷ ps) tr =
-      let le = not_ahead cone.ranks (record { total = d +ℤ after.total; next = m }) best not_before in
+  order-by : AreRanked cone rank → (n m : ℕ) (ns : List ℕ) (s d t : ℤ) (after best : Entry) → (n ≡ end → ⊥) → row_in rows n ≡ Some best → row_in rows m ≡ Some after
+      → ahead rank (record { total = d +ℤ after.total; next = m }) best ≡ false → d +ℤ t ≡ s → t ≤ℤ after.total
+      → (t ≡ after.total → (ms : List ℕ) → Traces rows end m ms → is_gt (slice_cmp nat_cmp (map rank ms) (map rank ns)) ≡ false)
+      → s ≡ best.total → (ms : List ℕ) → Traces rows end n ms → is_gt (slice_cmp nat_cmp (map rank ms) (map rank (m ∷ ns))) ≡ false
+  order-by ranked n m ns s d t after best other row there not_before sum most rest is [] tr = absurd (other tr)
+  order-by ranked n m ns s d t after best other row there not_before sum most rest is (p ∷ ps) tr =
+      let le = not_ahead rank (record { total = d +ℤ after.total; next = m }) best not_before in
       let same : t ≡ after.total = omega (arith, ints) in
       let tied : d +ℤ after.total ≡ best.total = omega (arith, ints) in
-      let ranked = tied_ahead cone.ranks (record { total = d +ℤ after.total; next = m }) best not_before tied in
+      let ordered = tied_ahead rank (record { total = d +ℤ after.total; next = m }) best not_before tied in
       let to : best.next ≡ p = subst (λ o. LeadsTo o p) row tr.1 in
       let via = next_there n best other row in
       let low : best.next < count_of cone = row_low best.next via.after via.row in
-      by_rank n m p ps ns (subst (λ j. j < count_of cone) to low) (row_low m after there)
-      (subst (λ j. slice_index cone.ranks j ≤ slice_index cone.ranks m) to ranked)
+      by_rank ranked n m p ps ns (subst (λ j. j < count_of cone) to low) (row_low m after there)
+      (subst (λ j. rank j ≤ rank m) to ordered)
       (λ e. rest same ps (subst (λ j. Traces rows end j ps) e tr.2))
 
-  beat : (n m : ℕ) (ns : List ℕ) (s d t : ℤ) (after : Entry) (o : Option Entry) → (n ≡ end → ⊥) → row_in rows n ≡ o → row_in rows m ≡ Some after
-      → delay_between cone n m ≡ Some d → BestOf (ahead cone.ranks) (IsCandidate cone rows (count_of cone) n) o → d +ℤ t ≡ s → t ≤ℤ after.total
-      → (t ≡ after.total → (ms : List ℕ) → Traces rows end m ms → is_gt (slice_cmp nat_cmp (ranks_of cone ms) (ranks_of cone ns)) ≡ false)
-      → Beaten cone end rows n (m ∷ ns) s
-  beat n m ns s d t after None other e there arc best sum most rest =
+  beat : AreRanked cone rank → (n m : ℕ) (ns : List ℕ) (s d t : ℤ) (after : Entry) (o : Option Entry) → (n ≡ end → ⊥) → row_in rows n ≡ o → row_in rows m ≡ Some after
+      → delay_between cone n m ≡ Some d → BestOf (ahead rank) (IsCandidate cone rows (count_of cone) n) o → d +ℤ t ≡ s → t ≤ℤ after.total
+      → (t ≡ after.total → (ms : List ℕ) → Traces rows end m ms → is_gt (slice_cmp nat_cmp (map rank ms) (map rank ns)) ≡ false)
+      → Beaten rank cone end rows n (m ∷ ns) s
+  beat ranked n m ns s d t after None other e there arc best sum most rest =
       absurd (best (record { total = d +ℤ after.total; next = m })
       (m, row_low m after there, ap (λ o. through m o (delay_between cone n m)) there ∙ ap (through m (Some after)) arc))
-  beat n m ns s d t after (Some b) other e there arc best sum most rest =
+  beat ranked n m ns s d t after (Some b) other e there arc best sum most rest =
       let not_before = best.1 (record { total = d +ℤ after.total; next = m })
       (m, row_low m after there, ap (λ o. through m o (delay_between cone n m)) there ∙ ap (through m (Some after)) arc) in
-      let le = not_ahead cone.ranks (record { total = d +ℤ after.total; next = m }) b not_before in
+      let le = not_ahead rank (record { total = d +ℤ after.total; next = m }) b not_before in
       record {
         entry = b;
         row = e;
         most = omega (arith, ints);
-        order = order-by n m ns s d t after b other e there not_before sum most rest;
+        order = order-by ranked n m ns s d t after b other e there not_before sum most rest;
       }
 
-  pub least : (ns : List ℕ) (n : ℕ) (s : ℤ) → walk_sum ◌==◌ (delay_between cone) end n ns ≡ Some s → Beaten cone end rows n ns s
-  least [] n s e =
+  pub least : AreRanked cone rank → (ns : List ℕ) (n : ℕ) (s : ℤ) → walk_sum ◌==◌ (delay_between cone) end n ns ≡ Some s → Beaten rank cone end rows n ns s
+  least ranked [] n s e =
       let parts = cond_some (n == end) (pos 0) s e in
       let at : n ≡ end = eqb-true n end parts.0 in
       let is = parts.1 in
@@ -191,8 +191,8 @@ module _ (cone : Cone) (end : ℕ) (rows : List (Option Entry)) (good : IsCone c
         most = omega (arith, ints);
         order = λ same ms t. ended n at ms t;
       }
-  least (m ∷ ns) n s e =
+  least ranked (m ∷ ns) n s e =
       let parts = plus_parts (delay_between cone n m) (walk_sum ◌==◌ (delay_between cone) end m ns) s e in
-      let rest = least ns m parts.y parts.right in
+      let rest = least ranked ns m parts.y parts.right in
       let other : n ≡ end → ⊥ = apart m n parts.x rest.entry parts.left rest.row in
-      beat n m ns s parts.x parts.y rest.entry (row_in rows n) other refl rest.row parts.left (h.each n other) parts.is rest.most rest.order
+      beat ranked n m ns s parts.x parts.y rest.entry (row_in rows n) other refl rest.row parts.left (h.each n other) parts.is rest.most rest.order

@@ -1,6 +1,6 @@
 -- What a search over launches and ends has found when it has seen some of them.
 
-use Rattle.std.specs.Prelude.{◌≡◌, ℕ, ◌<◌, ℤ, List, Option, Some, IsSome}
+use Rattle.std.specs.Prelude.{◌≡◌, ℕ, ◌<◌, ℤ, List, Option, None, Some, IsSome, All}
 use Rattle.worst_walks.specs.declared.cones.Cone.{Cone}
 use Rattle.worst_walks.specs.declared.cones.Walk.{Walk}
 use Rattle.worst_walks.specs.declared.tables.Entry.{Entry}
@@ -32,3 +32,8 @@ IsTiedBefore cone place s launch walk = IsTo cone place walk × (walk.slack ≡ 
 abbrev pub IsFalling : List (Option Entry) → ℕ → Type 0
 IsFalling rows end =
     (n : ℕ) (entry : Entry) → (n ≡ end → ⊥) → row_in rows n ≡ Some entry → (entry.next < n) × IsSome (row_in rows entry.next)
+
+-- the nodes of a walk lie below a number
+abbrev pub AreKnown : ℕ → Option Walk → Type 0
+AreKnown count None = Unit {0}
+AreKnown count (Some walk) = All (λ n. n < count) walk.nodes

@@ -1,7 +1,7 @@
 -- The table of a search: for each node the greatest delay sum of a walk from it to the end node, and
 -- the next node of that walk (longest path over a graph in topological order).
 
-use Rattle.std.specs.Prelude.{◌≡◌, ℕ, ◌*◌, ◌^◌, ◌<◌, ◌≤◌, nat_lt, ℤ, pos, ◌+ℤ◌, ◌-ℤ◌, unsigned_abs, int_lt, Bool, false, ◌&&◌, ◌||◌, List, [], ◌∷◌, length, slice_index, slice_index_or, slice_set, Option, Some, None, option_map}
+use Rattle.std.specs.Prelude.{◌≡◌, ℕ, ◌*◌, ◌^◌, ◌<◌, ◌≤◌, nat_lt, ℤ, pos, ◌+ℤ◌, ◌-ℤ◌, unsigned_abs, int_lt, Bool, false, ◌&&◌, ◌||◌, List, [], ◌∷◌, length, slice_index_or, slice_set, Option, Some, None, option_map}
 use Rattle.std.specs.Ordering.{int_eq}
 use Rattle.worst_walks.specs.declared.cones.WalkArc.{WalkArc}
 use Rattle.worst_walks.specs.declared.cones.Launch.{Launch}
@@ -15,10 +15,8 @@ row_in rows n = slice_index_or rows n None
 
 -- of two entries of a node the one of greater sum comes before, of equal sums the one whose next node
 -- has the lesser rank: the arcs out of a node lead to different nodes
-abbrev pub ahead : List ℕ → Entry → Entry → Bool
-ahead ranks a b =
-    int_lt b.total a.total
-    || (int_eq a.total b.total && nat_lt (slice_index ranks a.next) (slice_index ranks b.next))
+abbrev pub ahead : (ℕ → ℕ) → Entry → Entry → Bool
+ahead rank a b = int_lt b.total a.total || (int_eq a.total b.total && nat_lt (rank a.next) (rank b.next))
 
 -- the entry by an arc of this delay to a node of this row
 abbrev pub through : ℕ → Option Entry → Option ℤ → Option Entry
@@ -27,22 +25,27 @@ through node (Some after) None = None
 through node (Some after) (Some delay) = Some (record { total = delay +ℤ after.total; next = node })
 
 -- the rows after an arc, after a list of arcs and after all arcs into a node, as far as that node has a row
-abbrev pub relaxed : List ℕ → ℕ → Entry → List (Option Entry) → WalkArc → List (Option Entry)
-relaxed ranks node after rows arc =
-    slice_set rows arc.from (better (ahead ranks) (row_in rows arc.from) (through node (Some after) (Some arc.delay)))
+abbrev pub relaxed : (ℕ → ℕ) → ℕ → Entry → List (Option Entry) → WalkArc → List (Option Entry)
+relaxed rank node after rows arc =
+    slice_set rows arc.from (better (ahead rank) (row_in rows arc.from) (through node (Some after) (Some arc.delay)))
 
-abbrev pub pushed : List ℕ → ℕ → Entry → List (Option Entry) → List WalkArc → List (Option Entry)
-pushed ranks node after rows [] = rows
-pushed ranks node after rows (arc ∷ arcs) = pushed ranks node after (relaxed ranks node after rows arc) arcs
+abbrev pub pushed : (ℕ → ℕ) → ℕ → Entry → List (Option Entry) → List WalkArc → List (Option Entry)
+pushed rank node after rows [] = rows
+pushed rank node after rows (arc ∷ arcs) = pushed rank node after (relaxed rank node after rows arc) arcs
 
-abbrev pub spread : Cone → ℕ → Option Entry → List (Option Entry) → List (Option Entry)
-spread cone node None rows = rows
-spread cone node (Some after) rows = pushed cone.ranks node after rows (arcs_into cone node)
+abbrev pub spread : (ℕ → ℕ) → Cone → ℕ → Option Entry → List (Option Entry) → List (Option Entry)
+spread rank cone node None rows = rows
+spread rank cone node (Some after) rows = pushed rank node after rows (arcs_into cone node)
 
 -- a sum of at most `k` delays
 abbrev pub IsBounded : ℕ → Option Entry → Type 0
 IsBounded k None = Unit {0}
 IsBounded k (Some entry) = unsigned_abs entry.total ≤ k * 10 ^ 12
+
+-- an entry that leads to a node below a number
+abbrev pub IsKnown : ℕ → Option Entry → Type 0
+IsKnown count None = Unit {0}
+IsKnown count (Some entry) = entry.next < count
 
 -- an entry of a node by some arc to a node below `k`
 abbrev pub IsCandidate : Cone → List (Option Entry) → ℕ → ℕ → Entry → Type 0
@@ -51,15 +54,15 @@ IsCandidate cone rows k n entry =
 
 -- the table with the arcs into the nodes below `k`: the end node has the empty walk, each other node
 -- the best of its arcs to nodes below `k`
-pub record IsFilled (cone : Cone) (end k : ℕ) (rows : List (Option Entry)) : Type 0 where
+pub record IsFilled (rank : ℕ → ℕ) (cone : Cone) (end k : ℕ) (rows : List (Option Entry)) : Type 0 where
   pub long : length rows ≡ count_of cone
   pub last : row_in rows end ≡ Some (record { total = pos 0; next = end })
   pub below : (n : ℕ) → n < end → row_in rows n ≡ None
-  pub each : (n : ℕ) → (n ≡ end → ⊥) → BestOf (ahead cone.ranks) (IsCandidate cone rows k n) (row_in rows n)
+  pub each : (n : ℕ) → (n ≡ end → ⊥) → BestOf (ahead rank) (IsCandidate cone rows k n) (row_in rows n)
   pub bounded : (n : ℕ) → IsBounded k (row_in rows n)
 
-abbrev pub IsTable : Cone → ℕ → List (Option Entry) → Type 0
-IsTable cone end rows = IsFilled cone end (count_of cone) rows
+abbrev pub IsTable : (ℕ → ℕ) → Cone → ℕ → List (Option Entry) → Type 0
+IsTable rank cone end rows = IsFilled rank cone end (count_of cone) rows
 
 -- the list of nodes behind a node to which the entries lead
 abbrev pub LeadsTo : Option Entry → ℕ → Type 0

@@ -3,7 +3,7 @@
 
 use Rattle.std.specs.Prelude.{◌≡◌, ℕ, ◌+◌, ◌^◌, ◌<◌, ◌≤◌, ◌==◌, ℤ, pos, ◌-ℤ◌, ◌≤ℤ◌, unsigned_abs, Bool, false, if◌then◌else◌, List, [], ◌∷◌, ◌++◌, map, length, slice_index, slice_range, slice_get, All, Option, Some, None, option_map}
 use Rattle.std.specs.List.{list_any}
-use Rattle.std.specs.Option.{option_map_or, option_and_then}
+use Rattle.std.specs.Option.{option_and_then}
 use Rattle.std.specs.Ordering.{nat_cmp, int_cmp, ordering_then, is_lt, is_gt}
 use Rattle.std.specs.Cmp.Lexicographic.{slice_cmp}
 use Rattle.sta_units.specs.Numbers.{Within}
@@ -14,9 +14,9 @@ use Rattle.worst_walks.specs.declared.cones.WalkEnd.{WalkEnd}
 use Rattle.worst_walks.specs.declared.cones.Cone.{Cone}
 use Rattle.worst_walks.specs.declared.cones.Walk.{Walk}
 
--- how many nodes a cone has: each has a rank
+-- how many nodes a cone has
 abbrev pub count_of : Cone → ℕ
-count_of cone = length cone.ranks
+count_of cone = cone.count
 
 -- the arcs that a cone lists into a node
 abbrev pub listed_into : Cone → ℕ → List WalkArc
@@ -55,10 +55,6 @@ launch_slack cone end launch (n ∷ ms) =
     then option_map (λ sum. launch.offer -ℤ sum) (walk_sum ◌==◌ (delay_between cone) end n ms)
     else None)
 
--- the launch that a walk names
-abbrev pub launch_named : Cone → Walk → Option Launch
-launch_named cone walk = option_and_then (λ end. slice_get end.launches walk.launch) (slice_get cone.ends walk.end)
-
 abbrev pub slack_of : Cone → Walk → Option ℤ
 slack_of cone walk =
     option_and_then
@@ -69,26 +65,25 @@ slack_of cone walk =
 abbrev pub IsWalk : Cone → Walk → Type 0
 IsWalk cone walk = slack_of cone walk ≡ Some walk.slack
 
--- the ranks of the launch's prefix and of the walk's nodes
-abbrev pub prefix_of : Cone → Walk → List ℕ
-prefix_of cone walk = option_map_or (λ launch. launch.prefix) (launch_named cone walk) []
+-- the nodes that stand before the first node of a walk, and those of the walk
+abbrev pub whole_list : (ℕ → List ℕ) → List ℕ → List ℕ
+whole_list before [] = []
+whole_list before (n ∷ ns) = before n ++ (n ∷ ns)
 
-abbrev pub ranks_of : Cone → List ℕ → List ℕ
-ranks_of cone nodes = map (λ n. slice_index cone.ranks n) nodes
-
-abbrev pub ranks_along : Cone → Walk → List ℕ
-ranks_along cone walk = prefix_of cone walk ++ ranks_of cone walk.nodes
+-- their ranks, which are their places in the order by names
+abbrev pub ranks_along : (ℕ → ℕ) → (ℕ → List ℕ) → Walk → List ℕ
+ranks_along rank before walk = map rank (whole_list before walk.nodes)
 
 -- a walk is no worse than another, and at equal slack not after it by the ranks
-abbrev pub IsAtMost : Cone → Walk → Walk → Type 0
-IsAtMost cone worst walk =
+abbrev pub IsAtMost : (ℕ → ℕ) → (ℕ → List ℕ) → Walk → Walk → Type 0
+IsAtMost rank before worst walk =
     (worst.slack ≤ℤ walk.slack)
-    × (walk.slack ≡ worst.slack → is_gt (slice_cmp nat_cmp (ranks_along cone worst) (ranks_along cone walk)) ≡ false)
+    × (walk.slack ≡ worst.slack → is_gt (slice_cmp nat_cmp (ranks_along rank before worst) (ranks_along rank before walk)) ≡ false)
 
 -- the worst walk: of least slack, and of those the first by the ranks; None: there is no walk
-abbrev pub IsWorst : Cone → Option Walk → Type 0
-IsWorst cone None = (walk : Walk) → IsWalk cone walk → ⊥
-IsWorst cone (Some worst) = IsWalk cone worst × ((walk : Walk) → IsWalk cone walk → IsAtMost cone worst walk)
+abbrev pub IsWorst : (ℕ → ℕ) → (ℕ → List ℕ) → Cone → Option Walk → Type 0
+IsWorst rank before cone None = (walk : Walk) → IsWalk cone walk → ⊥
+IsWorst rank before cone (Some worst) = IsWalk cone worst × ((walk : Walk) → IsWalk cone walk → IsAtMost rank before worst walk)
 
 -- the least slack of all walks; None: there is no walk
 abbrev pub IsLeastSlack : Cone → Option ℤ → Type 0
@@ -98,9 +93,9 @@ IsLeastSlack cone (Some s) =
     × ((walk : Walk) → IsWalk cone walk → s ≤ℤ walk.slack)
 
 -- a walk comes before another: by slack, then by the ranks
-abbrev pub comes_before : Cone → Walk → Walk → Bool
-comes_before cone a b =
-    is_lt (ordering_then (int_cmp a.slack b.slack) (slice_cmp nat_cmp (ranks_along cone a) (ranks_along cone b)))
+abbrev pub comes_before : (ℕ → ℕ) → (ℕ → List ℕ) → Walk → Walk → Bool
+comes_before rank before a b =
+    is_lt (ordering_then (int_cmp a.slack b.slack) (slice_cmp nat_cmp (ranks_along rank before a) (ranks_along rank before b)))
 
 -- no two arcs of a list come from one node
 abbrev pub AreApart : List WalkArc → Type 0
@@ -120,7 +115,7 @@ pub record IsEnd (cone : Cone) (end : WalkEnd) : Type 0 where
   pub many : length end.launches < 2 ^ 32
   pub each : All (IsLaunch cone) end.launches
 
--- a cone as it has to be: less than 2^22 nodes with distinct ranks, arcs that lead to lower numbers,
+-- a cone as it has to be: less than 2^22 nodes, arcs that lead to lower numbers,
 -- at most one between two nodes, and ends and launches at its nodes
 pub record IsCone (cone : Cone) : Type 0 where
   pub few : count_of cone < 2 ^ 22
@@ -129,6 +124,14 @@ pub record IsCone (cone : Cone) : Type 0 where
   pub stored : (n : ℕ) → n < count_of cone → slice_index cone.starts (n + 1) ≤ length cone.arcs
   pub arcs : (n : ℕ) → n < count_of cone → All (IsArcInto cone n) (listed_into cone n)
   pub apart : (n : ℕ) → n < count_of cone → AreApart (listed_into cone n)
-  pub ranks : (a b : ℕ) → a < count_of cone → b < count_of cone → slice_index cone.ranks a ≡ slice_index cone.ranks b → a ≡ b
   pub many : length cone.ends < 2 ^ 32
   pub ends : All (IsEnd cone) cone.ends
+
+-- different nodes of a cone have different ranks
+abbrev pub AreRanked : Cone → (ℕ → ℕ) → Type 0
+AreRanked cone rank = (a b : ℕ) → a < count_of cone → b < count_of cone → rank a ≡ rank b → a ≡ b
+
+-- an order that knows the nodes of a cone, each at a place of its own
+pub record IsOrdered (cone : Cone) (count : ℕ) (rank : ℕ → ℕ) : Type 0 where
+  pub known : count_of cone ≤ count
+  pub ranked : AreRanked cone rank

@@ -1,8 +1,8 @@
-//! A check that a cone is as a search wants it, for the tests.
+//! A check that a cone and an order are as a search wants them, for the tests.
 
 ghost use Rattle.std.specs.Prelude.{◌≡◌, ℕ, ◌+◌, ◌^◌, ◌<◌, ◌≤◌, ◌==◌, All, IsTrue, length, drop, slice_index};
 ghost use Rattle.std.specs.List.{list_any};
-ghost use Rattle.worst_walks.specs.Walks.{count_of, listed_into, AreApart, IsArcInto, IsLaunch, IsEnd, IsCone};
+ghost use Rattle.worst_walks.specs.Walks.{count_of, listed_into, AreApart, IsArcInto, IsLaunch, IsEnd, IsCone, IsOrdered};
 
 use crate::cones::{Cone, Launch, WalkArc, WalkEnd};
 
@@ -10,7 +10,7 @@ fn is_arc_into(cone: &Cone, node: usize, arc: WalkArc) -> bool
     ensures { IsTrue result → IsArcInto cone.now node arc }
 {
     let from = arc.from as usize;
-    node < from && from < cone.ranks.len() && arc.delay.unsigned_abs() <= 1_000_000_000_000
+    node < from && from < cone.count as usize && arc.delay.unsigned_abs() <= 1_000_000_000_000
 }
 
 fn are_arcs_into(cone: &Cone, node: usize, arcs: &[WalkArc]) -> bool
@@ -75,7 +75,7 @@ fn are_nodes(cone: &Cone) -> bool
     ensures arcs { IsTrue result → (n : ℕ) → n < count_of cone.now → All (IsArcInto cone.now n) (listed_into cone.now n) }
     ensures apart { IsTrue result → (n : ℕ) → n < count_of cone.now → AreApart (listed_into cone.now n) }
 {
-    for node in 0..cone.ranks.len() {
+    for node in 0..cone.count as usize {
         if !is_node(cone, node) {
             return false;
         }
@@ -106,17 +106,23 @@ fn are_ranks(ranks: &[u32]) -> bool
     true
 }
 
+/// Whether ranks are an order of a cone's nodes and of no others.
+pub(crate) fn are_ordered(cone: &Cone, ranks: &[u32]) -> bool
+    ensures { IsTrue result → IsOrdered cone.now (length ranks.now) (slice_index ranks.now) }
+{
+    cone.count as usize <= ranks.len() && are_ranks(ranks)
+}
+
 fn is_launch(cone: &Cone, launch: &Launch) -> bool
     ensures { IsTrue result → IsLaunch cone.now launch.now }
 {
-    (launch.node as usize) < cone.ranks.len()
-        && launch.offer.unsigned_abs() <= 1_000_000_000_000_000_000
+    launch.node < cone.count && launch.offer.unsigned_abs() <= 1_000_000_000_000_000_000
 }
 
 fn is_end(cone: &Cone, end: &WalkEnd) -> bool
     ensures { IsTrue result → IsEnd cone.now end.now }
 {
-    if end.node as usize >= cone.ranks.len() || end.launches.len() >= 1 << 32 {
+    if end.node >= cone.count || end.launches.len() >= 1 << 32 {
         return false;
     }
     for launch in end.launches.as_slice() {
@@ -143,8 +149,8 @@ fn has_shape(cone: &Cone) -> bool
     ensures starts { IsTrue result → length cone.now.starts ≡ count_of cone.now + 1 }
     ensures many { IsTrue result → length cone.now.ends < 2 ^ 32 }
 {
-    cone.ranks.len() < 1 << 22
-        && cone.starts.len() == cone.ranks.len() + 1
+    cone.count < 1 << 22
+        && cone.starts.len() == cone.count as usize + 1
         && cone.ends.len() < 1 << 32
 }
 
@@ -152,5 +158,5 @@ fn has_shape(cone: &Cone) -> bool
 pub(crate) fn is_sound(cone: &Cone) -> bool
     ensures { IsTrue result → IsCone cone.now }
 {
-    has_shape(cone) && are_nodes(cone) && are_ranks(cone.ranks.as_slice()) && are_ends(cone)
+    has_shape(cone) && are_nodes(cone) && are_ends(cone)
 }

@@ -13,13 +13,11 @@ pub struct WalkArc {
 }
 
 /// A node at which walks to an end node begin. A walk with the delay sum `s` has the slack
-/// `offer - s`, in fs. The prefix has the ranks of the nodes that stand before the walk in the list
-/// by which walks of equal slack are ordered.
-#[derive(Debug, Clone, PartialEq, Eq, Drop)]
+/// `offer - s`, in fs.
+#[derive(Debug, Clone, Copy, PartialEq, Eq, Drop)]
 pub struct Launch {
     pub node: u32,
     pub offer: i64,
-    pub prefix: Items<u32>,
 }
 
 /// An end node, with the launches from which walks to it are looked for.
@@ -29,19 +27,18 @@ pub struct WalkEnd {
     pub launches: Items<Launch>,
 }
 
-/// The fan-in of some end nodes: as many nodes as there are ranks, numbered from 0 so that each arc
+/// The fan-in of some end nodes: as many nodes as `count` says, numbered from 0 so that each arc
 /// leads from a higher number to a lower one. The arcs into `node` are
-/// `arcs[starts[node]..starts[node + 1]]`; those into a node with a launch are never followed. A
-/// node's rank is its place in the order by names.
+/// `arcs[starts[node]..starts[node + 1]]`; those into a node with a launch are never followed.
 ///
-/// A search asks for less than `2^22` nodes, distinct ranks, at most one arc between two nodes, delays
-/// of at most `10^12` fs and offers of at most `10^18` fs on either side of 0.
+/// A search asks for less than `2^22` nodes, at most one arc between two nodes, delays of at most
+/// `10^12` fs and offers of at most `10^18` fs on either side of 0.
 #[derive(Debug, Clone, PartialEq, Eq, Drop)]
 pub struct Cone {
+    pub count: u32,
     pub starts: Items<u32>,
     pub arcs: Items<WalkArc>,
     pub ends: Items<WalkEnd>,
-    pub ranks: Items<u32>,
 }
 
 /// A walk with its slack in fs: the place of its end node in the cone's list of ends, the place of

@@ -24,7 +24,7 @@ pub(crate) fn first_nodes(alloc: Global, cone: &Cone) -> Result<Vec<bool>, Memor
     requires { IsCone cone.now }
     ensures { IfOk result (λ marks. AreFirst cone.now marks.items) }
 {
-    let mut marks = vec![in alloc; false; cone.ranks.len()]?;
+    let mut marks = vec![in alloc; false; cone.count as usize]?;
     for end in cone.ends.as_slice() {
         mark_all(&mut marks, end.launches.as_slice());
     }

@@ -1,13 +1,14 @@
 //! The least slack of the walks to the end nodes of a cone.
 
-ghost use Rattle.std.specs.Prelude.{◌≡◌, ◌^◌, ◌<◌, ◌≤◌, unsigned_abs, int_lt, length, IfOk, None};
+ghost use Rattle.std.specs.Prelude.{◌≡◌, ℕ, ◌^◌, ◌<◌, ◌≤◌, unsigned_abs, int_lt, length, IfOk, None};
 ghost use Rattle.worst_walks.specs.Best.{BestOf, better};
 ghost use Rattle.worst_walks.specs.Walks.{IsCone, IsEnd, IsLeastSlack};
-ghost use Rattle.worst_walks.specs.Tables.{row_in, offered, least_from, IsBounded, IsTable, AreFirst};
+ghost use Rattle.worst_walks.specs.Tables.{row_in, offered, least_from, IsBounded, AreFirst};
 ghost use Rattle.worst_walks.specs.Searches.{IsSlackTo};
 
 use crate::cones::{Cone, Launch, WalkEnd};
 use crate::firsts::first_nodes;
+use crate::orders::ByNumber;
 use crate::tables::{Entry, row_at, table_to};
 use sta_units::Memory;
 use std::alloc::Global;
@@ -36,11 +37,9 @@ fn lesser(least: Option<i64>, slack: Option<i64>) -> Option<i64>
 }
 
 /// The least slack of the walks from the launches of an end node.
-#[tactic(auto, using(crate::proofs::Offers::bounded_there))]
 pub(crate) fn least_offer(cone: &Cone, end: &WalkEnd, rows: &[Option<Entry>]) -> Option<i64>
-    requires cone { IsCone cone.now }
     requires end { IsEnd cone.now end.now }
-    requires rows { IsTable cone.now end.now.node rows.now }
+    requires bounded { (n : ℕ) → IsBounded (2 ^ 22) (row_in rows.now n) }
     ensures { result ≡ least_from rows.now None end.now.launches }
 {
     let mut least = None;
@@ -51,7 +50,7 @@ pub(crate) fn least_offer(cone: &Cone, end: &WalkEnd, rows: &[Option<Entry>]) ->
 }
 
 /// The least slack of the walks to the end node at a place.
-#[tactic(auto, using(crate::proofs::Offers::to_best_as))]
+#[tactic(auto, using(crate::proofs::Offers::to_best_as, crate::proofs::Offers::bounded_there))]
 fn least_to(alloc: Global, cone: &Cone, marks: &[bool], place: u32) -> Result<Option<i64>, Memory>
     requires cone { IsCone cone.now }
     requires marks { AreFirst cone.now marks.now }
@@ -59,7 +58,7 @@ fn least_to(alloc: Global, cone: &Cone, marks: &[bool], place: u32) -> Result<Op
     ensures { IfOk result (BestOf int_lt (IsSlackTo cone.now place)) }
 {
     let end = cone.end_at(place);
-    let rows = table_to(alloc, cone, marks, end.node)?;
+    let rows = table_to(alloc, cone, &ByNumber, marks, end.node)?;
     Ok(least_offer(cone, end, rows.as_slice()))
 }
 

@@ -4,4 +4,4 @@ use Rattle.worst_walks.specs.Searches.{IsBefore}
 use Rattle.worst_walks.proofs.searching.worst_walk.Given as goal
 
 abbrev pub invariant-loop-place : goal.invariant-loop-place
-invariant-loop-place l = BestOf (comes_before l.cone) (IsBefore l.cone l.place) l.worst
+invariant-loop-place g l = BestOf (comes_before (g.O.WalkOrder.rank l.order) (g.O.WalkOrder.before l.order)) (IsBefore l.cone l.place) l.worst

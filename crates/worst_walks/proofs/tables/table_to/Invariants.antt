@@ -2,4 +2,4 @@ use Rattle.worst_walks.specs.Tables.{IsFilled}
 use Rattle.worst_walks.proofs.tables.table_to.Given as goal
 
 abbrev pub invariant-loop-node : goal.invariant-loop-node
-invariant-loop-node l = IsFilled l.cone l.end l.node l.rows.items
+invariant-loop-node g l = IsFilled (g.O.WalkOrder.rank l.order) l.cone l.end l.node l.rows.items
