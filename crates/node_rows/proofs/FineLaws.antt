@@ -211,9 +211,9 @@ module _ (d : Design) (split : Split) (Stands : Node → Type 0) (place : Node �
         → (looked_within d split from to (λ arc. arc.slew) x ≡ true) × (looked_within d split from to (λ arc. arc.delay) x ≡ true)
     looked_both drives x e =
         let parts =
-            either_none (not (looked_within d split from to (λ arc. arc.slew) x)) (not (looked_within d split from to (λ arc. arc.delay) x))
-            (sym (ap (λ o. option_map_or (λ y. not (looked_within d split from to (λ arc. arc.slew) y) || not (looked_within d split from to (λ arc. arc.delay) y)) o false) e)
-            ∙ and_right drives near) in
+        either_none (not (looked_within d split from to (λ arc. arc.slew) x)) (not (looked_within d split from to (λ arc. arc.delay) x))
+        (sym (ap (λ o. option_map_or (λ y. not (looked_within d split from to (λ arc. arc.slew) y) || not (looked_within d split from to (λ arc. arc.delay) y)) o false) e)
+        ∙ and_right drives near) in
         (not_false (looked_within d split from to (λ arc. arc.slew) x) parts.0, not_false (looked_within d split from to (λ arc. arc.delay) x) parts.1)
       where
         and_right : {b : Bool} → is_driver to.pin ≡ true → (is_driver to.pin && b) ≡ false → b ≡ false
@@ -270,9 +270,9 @@ module _ (d : Design) (split : Split) (Stands : Node → Type 0) (place : Node �
   pub fine_more : is_wide_in d split (row d) to ≡ false → IsFine d split to
   fine_more near =
       let parts =
-          none_of_four (list_any (λ from. is_wide_looked d split to from (row d from)) (arcs_in d to))
-          (list_any (λ from. is_wide_scaled d split to from (row d from)) (arcs_in d to)) (not (within_some (slew_of d split (row d) to)))
-          (list_any (λ edge. not (within_some (arrival_of d split (row d) to edge))) (launch_edges d)) near in
+      none_of_four (list_any (λ from. is_wide_looked d split to from (row d from)) (arcs_in d to))
+      (list_any (λ from. is_wide_scaled d split to from (row d from)) (arcs_in d to)) (not (within_some (slew_of d split (row d) to)))
+      (list_any (λ edge. not (within_some (arrival_of d split (row d) to edge))) (launch_edges d)) near in
       record {
         slew =
             fine_slew_is d split Stands place placed to stands
@@ -303,12 +303,12 @@ module _ (d : Design) (split : Split) (Stands : Node → Type 0) (place : Node �
       looked_one e =
           let r = some_at (λ from. is_wide_looked d split to from (row d from)) (arcs_in d to) e in
           let wide = λ (o : Option ℤ). option_map_or
-              (λ x. not (looked_within d split r.0 to (λ arc. arc.slew) x) || not (looked_within d split r.0 to (λ arc. arc.delay) x)) o false in
+          (λ x. not (looked_within d split r.0 to (λ arc. arc.slew) x) || not (looked_within d split r.0 to (λ arc. arc.delay) x)) o false in
           let k = and_parts (is_driver to.pin) (wide (slew d split r.0)) r.1.1 in
           let o : is_looked_origin d split to r.0 ≡ true =
-              and_from (is_driver to.pin && fine_slew d split r.0 && is_loaded d split to) (wide (slew d split r.0))
-              (and_from (is_driver to.pin && fine_slew d split r.0) (is_loaded d split to) (and_from (is_driver to.pin) (fine_slew d split r.0) k.0 (fine r.0 r.1.0).slew)
-              (carried.load k.0)) k.1 in
+          and_from (is_driver to.pin && fine_slew d split r.0 && is_loaded d split to) (wide (slew d split r.0))
+          (and_from (is_driver to.pin && fine_slew d split r.0) (is_loaded d split to) (and_from (is_driver to.pin) (fine_slew d split r.0) k.0 (fine r.0 r.1.0).slew)
+          (carried.load k.0)) k.1 in
           or_first (list_any (is_looked_origin d split to) (arcs_in d to)) (list_any (is_scaled_origin d split to) (arcs_in d to)) (is_slew_origin d split to)
           (list_any (is_arrival_origin d split to) (launch_edges d)) (any_from (is_looked_origin d split to) (arcs_in d to) r.0 r.1.0 o)
 
@@ -324,7 +324,7 @@ module _ (d : Design) (split : Split) (Stands : Node → Type 0) (place : Node �
           → is_forward_origin d split to ≡ true
       slew_one e g =
           let o : is_slew_origin d split to ≡ true =
-              and_from (slew_inputs d split (fine_slew d split) to) (not (within_some (slew d split to))) (slew_fed e) (ap not (ap within_some (slew_told d split Stands place placed to stands) ∙ g)) in
+          and_from (slew_inputs d split (fine_slew d split) to) (not (within_some (slew d split to))) (slew_fed e) (ap not (ap within_some (slew_told d split Stands place placed to stands) ∙ g)) in
           or_third (list_any (is_looked_origin d split to) (arcs_in d to)) (list_any (is_scaled_origin d split to) (arcs_in d to)) (is_slew_origin d split to)
           (list_any (is_arrival_origin d split to) (launch_edges d)) o
 
@@ -334,8 +334,8 @@ module _ (d : Design) (split : Split) (Stands : Node → Type 0) (place : Node �
       arrival_one e f h =
           let r = some_at (λ edge. not (within_some (arrival_of d split (row d) to edge))) (launch_edges d) h in
           let o : is_arrival_origin d split to r.0 ≡ true =
-              and_from (arrival_inputs d split r.0 (fine_arrival d split r.0) to) (not (within_some (arrival d split to r.0))) (arrivals_fed e f r.0 r.1.0)
-              (ap (λ v. not (within_some v)) (arrival_told d split Stands place placed to stands r.0 r.1.0) ∙ r.1.1) in
+          and_from (arrival_inputs d split r.0 (fine_arrival d split r.0) to) (not (within_some (arrival d split to r.0))) (arrivals_fed e f r.0 r.1.0)
+          (ap (λ v. not (within_some v)) (arrival_told d split Stands place placed to stands r.0 r.1.0) ∙ r.1.1) in
           or_right (list_any (is_looked_origin d split to) (arcs_in d to) || list_any (is_scaled_origin d split to) (arcs_in d to) || is_slew_origin d split to)
           (list_any (is_arrival_origin d split to) (launch_edges d)) (any_from (is_arrival_origin d split to) (launch_edges d) r.0 r.1.0 o)
 
@@ -348,9 +348,9 @@ module _ (d : Design) (split : Split) (Stands : Node → Type 0) (place : Node �
   pub no_origin : is_wide_in d split (row d) to ≡ false → is_forward_origin d split to ≡ false
   no_origin near =
       let parts =
-          none_of_four (list_any (λ from. is_wide_looked d split to from (row d from)) (arcs_in d to))
-          (list_any (λ from. is_wide_scaled d split to from (row d from)) (arcs_in d to)) (not (within_some (slew_of d split (row d) to)))
-          (list_any (λ edge. not (within_some (arrival_of d split (row d) to edge))) (launch_edges d)) near in
+      none_of_four (list_any (λ from. is_wide_looked d split to from (row d from)) (arcs_in d to))
+      (list_any (λ from. is_wide_scaled d split to from (row d from)) (arcs_in d to)) (not (within_some (slew_of d split (row d) to)))
+      (list_any (λ edge. not (within_some (arrival_of d split (row d) to edge))) (launch_edges d)) near in
       all_none (list_any (is_looked_origin d split to) (arcs_in d to)) (list_any (is_scaled_origin d split to) (arcs_in d to)) (is_slew_origin d split to)
       (list_any (is_arrival_origin d split to) (launch_edges d))
       (none_from (is_looked_origin d split to) (arcs_in d to) (λ from c. looked_none from (none_at (λ f. is_wide_looked d split to f (row d f)) (arcs_in d to) parts.0 from c)))

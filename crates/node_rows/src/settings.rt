@@ -37,6 +37,7 @@ pub trait Wired {
     ghost use Rattle.node_rows.specs.declared.ports.Ports.{Ports};
 
     ghost wires: { Self → Wires };
+
     ghost ports: { Self → Ports };
 
     /// The loads of nets and the wires to their sinks.

@@ -88,7 +88,7 @@ module _ (d : Design) (linked : IsLinked d) where
     | inl e ↦ by to.pin.owner refl (subst (λ (xs : List Node). Contains xs from) (rw e refl) c)
     | inr e ↦
         let m = in_map_back (λ (pin : Pin). record { pin = pin; tran = to.tran }) (driver_on d (net_of to.pin)) from
-            (subst (λ (xs : List Node). Contains xs from) (rw e refl) c) in
+        (subst (λ (xs : List Node). Contains xs from) (rw e refl) c) in
         subst (λ (p : Pin). Contains (pins d) p) (ap (λ (n : Node). n.pin) m.same) (from_driver (net_of to.pin) m.item m.within)
   ]
     where
@@ -133,7 +133,7 @@ module _ (g : Graphed) (num : IsNumbered g.stored) (linked : IsLinked g.stored.d
       let low = node_below g.stored to s.0 s.1 in
       let m = (is.ins s.0 low).all arc arc_is refl in
       let over = greatest_over (map (λ (a : GraphArc). level_at g a.from + 1) (fan_at g.ins s.0)) (level_at g f.0 + 1)
-          (in_map (λ (a : GraphArc). level_at g a.from + 1) (fan_at g.ins s.0) arc m) in
+      (in_map (λ (a : GraphArc). level_at g a.from + 1) (fan_at g.ins s.0) arc m) in
       let here = is.levels.level s.0 low in
       let a = level_is from f.0 f.1 in
       let b = level_is to s.0 s.1 in
