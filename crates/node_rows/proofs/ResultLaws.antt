@@ -9,9 +9,9 @@ pub any_err : {T E : Type 0} (r : Result T E) (A : Type 0) → A → IfErr r (λ
 any_err (Ok x) A a = tt
 any_err (Err e) A a = a
 
-pub mapped : {T E : Type 0} (r : Result T E) (P P2 : T → Type 0) (Q Q2 : E → Type 0) → ((x : T) → P x → P2 x) → ((e : E) → Q e → Q2 e) → MatchResult r P Q → MatchResult r P2 Q2
-mapped (Ok x) P P2 Q Q2 f g h = f x h
-mapped (Err e) P P2 Q Q2 f g h = g e h
+pub mapped : {T E : Type 0} (r : Result T E) (P Both : T → Type 0) (Q Bad : E → Type 0) → ((x : T) → P x → Both x) → ((e : E) → Q e → Bad e) → MatchResult r P Q → MatchResult r Both Bad
+mapped (Ok x) P Both Q Bad f g h = f x h
+mapped (Err e) P Both Q Bad f g h = g e h
 
 pub joined : {T E : Type 0} (r : Result T E) (P Q : T → Type 0) (R : E → Type 0) → IfOk r P → IfOk r Q → IfErr r R → MatchResult r (λ x. P x × Q x) R
 joined (Ok x) P Q R a b c = (a, b)
@@ -23,10 +23,10 @@ passed_wrong (Ok x) e P Q is h = absurd is
 passed_wrong (Err y) e P Q is h = subst Q (sym is) h
 
 -- what two clauses of a value and one of an error give
-pub carried : {T E : Type 0} (r : Result T E) (P Q P2 : T → Type 0) (Q2 R2 : E → Type 0) → ((x : T) → P x → Q x → P2 x) → ((e : E) → Q2 e → R2 e)
-    → IfOk r P → IfOk r Q → IfErr r Q2 → MatchResult r P2 R2
-carried (Ok x) P Q P2 Q2 R2 f g a b c = f x a b
-carried (Err e) P Q P2 Q2 R2 f g a b c = g e c
+pub carried : {T E : Type 0} (r : Result T E) (P Q Both : T → Type 0) (Bad Worse : E → Type 0) → ((x : T) → P x → Q x → Both x) → ((e : E) → Bad e → Worse e)
+    → IfOk r P → IfOk r Q → IfErr r Bad → MatchResult r Both Worse
+carried (Ok x) P Q Both Bad Worse f g a b c = f x a b
+carried (Err e) P Q Both Bad Worse f g a b c = g e c
 
 -- an error that is handed on keeps what is known of it
 pub handed_up : {T E : Type 0} (r : Result T E) (e : E) (P : E → Type 0) → IsErrAnd r (λ y. y ≡ e) → P e → IfErr r P
