@@ -73,8 +73,8 @@ Keeps heading = Unit {0}
 Keeps (block all) = AreKept all
 Keeps (factors at flaw count all) = AreKept all
 Keeps (entry left all) = AreKept all
-Keeps (edit left session todo edits all) =
-    (1 ≤ todo) × (length edits + todo ≤ 1000) × (list_all is_edit edits ≡ true) × AreKept all
+Keeps (edit left session owed edits all) =
+    (1 ≤ owed) × (length edits + owed ≤ 1000) × (list_all is_edit edits ≡ true) × AreKept all
 Keeps (ended all) = AreKept all
 
 entries_left_kept : (t : Text) (left : ℕ) (all : List Entry) → AreKept all → Keeps (entries_left t left all)
@@ -126,11 +126,11 @@ entry_more : (all : List Entry) (session : ℕ) (edits : List Edit) → is_eco (
 entry_more all session edits good h =
     rw (list_all-append (λ (e : Entry). is_eco e.eco) all (record { session = session; eco = record { edits = edits } } ∷ [])) (rw (h, good) refl)
 
-edits_left_kept : (t : Text) (left session todo : ℕ) (edits : List Edit) (all : List Entry) → 1 ≤ length edits + todo → length edits + todo ≤ 1000 → list_all is_edit edits ≡ true → AreKept all → Keeps (edits_left t left session todo edits all)
-edits_left_kept t left session todo edits all some few good h =
-    cond_both (todo == 0) (entries_left t left (with_entry all session edits)) (edit left session todo edits all) Keeps
+edits_left_kept : (t : Text) (left session owed : ℕ) (edits : List Edit) (all : List Entry) → 1 ≤ length edits + owed → length edits + owed ≤ 1000 → list_all is_edit edits ≡ true → AreKept all → Keeps (edits_left t left session owed edits all)
+edits_left_kept t left session owed edits all some few good h =
+    cond_both (owed == 0) (entries_left t left (with_entry all session edits)) (edit left session owed edits all) Keeps
     (λ none.
-    let last : todo ≡ 0 = grind (arith, nat_tests, none) in
+    let last : owed ≡ 0 = grind (arith, nat_tests, none) in
     entries_left_kept t left (with_entry all session edits)
     (entry_more all session edits (eco_made edits (omega (arith, some, last)) (omega (arith, few)) good) h))
     (λ more. (grind (arith, nat_tests, more), few, good, h))
@@ -171,12 +171,12 @@ edits_begun_kept t left all (Ok head) h good =
     edits_left_kept t (left - 1) head.session head.edits [] all (omega (arith, good.0, none)) (omega (arith, good.1, none)) refl h
 edits_begun_kept t left all (Err fault) h good = tt
 
-edit_read_kept : (t : Text) (left session todo : ℕ) (edits : List Edit) (all : List Entry) (e : Result Edit ReadFault) → Keeps (edit left session todo edits all) → IfThere IsEdit e → IfThere Keeps (edit_read t left session todo edits all e)
-edit_read_kept t left session todo edits all (Ok e) h good =
+edit_read_kept : (t : Text) (left session owed : ℕ) (edits : List Edit) (all : List Entry) (e : Result Edit ReadFault) → Keeps (edit left session owed edits all) → IfThere IsEdit e → IfThere Keeps (edit_read t left session owed edits all e)
+edit_read_kept t left session owed edits all (Ok e) h good =
     let one : length {A = Edit} (edits ++ e ∷ []) ≡ length edits + 1 = grind (arith, length-append edits (e ∷ [])) in
-    edits_left_kept t left session (todo - 1) (edits ++ e ∷ []) all (omega (arith, one, h.0)) (omega (arith, one, h.0, h.1))
+    edits_left_kept t left session (owed - 1) (edits ++ e ∷ []) all (omega (arith, one, h.0)) (omega (arith, one, h.0, h.1))
     (rw (list_all-append is_edit edits (e ∷ [])) (rw (h.2, edit_kept e good) refl)) h.3
-edit_read_kept t left session todo edits all (Err fault) h good = tt
+edit_read_kept t left session owed edits all (Err fault) h good = tt
 
 step_kept : (t : Text) (state : State) (line : Part) → Keeps state → IfThere Keeps (step t state line)
 step_kept t heading line h = begun_kept t [] (plain_head line) refl
@@ -186,8 +186,8 @@ step_kept t (entry left all) line h =
     let next = t.first + length all + 1 in
     edits_begun_kept t left all (at_line line (entry_head next (words_of line))) h
     (at_line_lawful IsHead line (entry_head next (words_of line)) (head_kept next (words_of line)))
-step_kept t (edit left session todo edits all) line h =
-    edit_read_kept t left session todo edits all (edit_at line) h
+step_kept t (edit left session owed edits all) line h =
+    edit_read_kept t left session owed edits all (edit_at line) h
     (at_line_lawful IsEdit line (edit_of false (words_of line)) (edit_lawful false (words_of line)))
 step_kept t (ended all) line h = tt
 
@@ -201,7 +201,7 @@ end_kept t (block all) h = h
 end_kept t (factors at None count all) h = tt
 end_kept t (factors at (Some flaw) count all) h = tt
 end_kept t (entry left all) h = tt
-end_kept t (edit left session todo edits all) h = tt
+end_kept t (edit left session owed edits all) h = tt
 end_kept t (ended all) h = h
 
 finished_kept : (t : Text) (told : Result State ReadFault) → IfThere Keeps told → IfThere AreKept (finished t told)

@@ -130,7 +130,7 @@ pub data State : Type 0 where
   -- the head of the first of so many entries
   entry : (left : ℕ) → List Entry → State
   -- the first of so many edits of an entry, before so many entries
-  edit : (left session todo : ℕ) → List Edit → List Entry → State
+  edit : (left session owed : ℕ) → List Edit → List Entry → State
   -- the end
   ended : List Entry → State
 
@@ -144,8 +144,8 @@ abbrev pub with_entry : List Entry → ℕ → List Edit → List Entry
 with_entry all session edits = all ++ record { session = session; eco = record { edits = edits } } ∷ []
 
 abbrev pub edits_left : Text → ℕ → ℕ → ℕ → List Edit → List Entry → State
-edits_left t left session todo edits all =
-    (if todo == 0 then entries_left t left (with_entry all session edits) else edit left session todo edits all)
+edits_left t left session owed edits all =
+    (if owed == 0 then entries_left t left (with_entry all session edits) else edit left session owed edits all)
 
 abbrev pub counted : Part → List Part → ℕ → Result ℕ ReadFault
 counted line words k = at_line line (or_flawed (at words k) (number_of (text words k)))
@@ -232,8 +232,8 @@ edits_begun t left all (Ok head) = Ok (edits_left t (left - 1) head.session head
 edits_begun t left all (Err fault) = Err fault
 
 abbrev pub edit_read : Text → ℕ → ℕ → ℕ → List Edit → List Entry → Result Edit ReadFault → Result State ReadFault
-edit_read t left session todo edits all (Ok e) = Ok (edits_left t left session (todo - 1) (edits ++ e ∷ []) all)
-edit_read t left session todo edits all (Err fault) = Err fault
+edit_read t left session owed edits all (Ok e) = Ok (edits_left t left session (owed - 1) (edits ++ e ∷ []) all)
+edit_read t left session owed edits all (Err fault) = Err fault
 
 -- what may stand behind a line, or the line's fault
 abbrev pub step : Text → State → Part → Result State ReadFault
@@ -243,7 +243,7 @@ step t (factors at flaw count all) line =
     factors_read t at flaw count all (at_line line (derates_of (words_of line)))
 step t (entry left all) line =
     edits_begun t left all (at_line line (entry_head (t.first + length all + 1) (words_of line)))
-step t (edit left session todo edits all) line = edit_read t left session todo edits all (edit_at line)
+step t (edit left session owed edits all) line = edit_read t left session owed edits all (edit_at line)
 step t (ended all) line = bad_line line.at
 
 -- the text ends here; a line that is missing is named by the text's length
@@ -252,7 +252,7 @@ at_end t heading = bad_line t.size
 at_end t (block all) = Ok all
 at_end t (factors at flaw count all) = unless_flawed flaw (bad_line t.size)
 at_end t (entry left all) = bad_line t.size
-at_end t (edit left session todo edits all) = bad_line t.size
+at_end t (edit left session owed edits all) = bad_line t.size
 at_end t (ended all) = Ok all
 
 abbrev pub stepped : Text → Result State ReadFault → Part → Result State ReadFault
