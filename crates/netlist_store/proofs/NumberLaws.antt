@@ -1,18 +1,19 @@
 -- A numbering, as names come and go.
 
 use Rattle.std.proofs.Common.{◌≡◌, ◌≢◌, ℕ, zero, suc, ◌-◌, ◌<◌, ◌≤◌, ◌^◌, true, false, cond, List, [], ◌∷◌, ◌++◌, map, length, set, get_or, Option, None, Some, refl, sym, ap, subst, ◌∙◌, inl, inr, arith, lt-ltb, le-ltb, length-append, length-set}
-use Rattle.std.specs.Prelude.{option_and_then}
+use Rattle.std.specs.Prelude.{option_and_then, is_some, slice_get}
+use Rattle.std.specs.Option.{option_map_or}
 use Rattle.std.specs.List.{position_or_len}
 use Rattle.std.specs.Str.{bytes_eq}
 use Rattle.std.proofs.lemmas.Bool.{cases_Bool, cases_eq, cases_lt, false≢true}
 use Rattle.std.proofs.lemmas.List.Quantifiers.{position-Some}
 use Rattle.std.proofs.lemmas.List.Sums.{passes_at_first}
-use Rattle.std.proofs.lemmas.Option.{slice_get_past}
+use Rattle.std.proofs.lemmas.Option.{slice_get_past, slice_get_within}
 use Rattle.std.proofs.lemmas.List.{map-set, map-append, length-map}
 use Rattle.netlist_store.specs.declared.numberings.Slot.{Slot}
-use Rattle.netlist_store.specs.declared.numberings.Slot.TheVariants.{Named, Gap}
+use Rattle.netlist_store.specs.declared.numberings.Slot.TheVariants.{Named, Waiting, Gap}
 use Rattle.netlist_store.specs.Numbering.{name_at, number_of, is_named, is_number, with_name, Agrees, AreNumbers, AreKept}
-use Rattle.netlist_store.specs.Slots.{slot_name, slot_name_at}
+use Rattle.netlist_store.specs.Slots.{slot_name, slot_name_at, is_waiting}
 use Rattle.netlist_store.proofs.ShardLaws.{same_is, same_self}
 
 pub names_at : (slots : List Slot) (n : ℕ) → name_at (map slot_name slots) n ≡ slot_name_at slots n
@@ -243,12 +244,32 @@ slots_push slots n name high =
 pub slots_gap : (slots : List Slot) (n : ℕ) (next : Option ℕ) → map slot_name (set slots n (Gap next)) ≡ set (map slot_name slots) n None
 slots_gap slots n next = map-set slot_name slots n (Gap next)
 
+slots_waiting : (slots : List Slot) (n : ℕ) → map slot_name (set slots n Waiting) ≡ set (map slot_name slots) n None
+slots_waiting slots n = map-set slot_name slots n Waiting
+
 -- a gap gives way to another
 gap_again : (names : List (Option (List ℕ))) (n : ℕ) → is_number names n ≡ false → set names n None ≡ names
 gap_again [] n e = refl
 gap_again (None ∷ os) zero e = refl
 gap_again (Some o ∷ os) zero e = absurd (false≢true (sym e))
 gap_again (o ∷ os) (suc n) e = ap (λ xs. o ∷ xs) (gap_again os n e)
+
+-- a number that waits stands for nothing, and is one of the slots
+pub waits_none : (slots : List Slot) (n : ℕ) → option_map_or is_waiting (slice_get slots n) false ≡ true → is_number (map slot_name slots) n ≡ false
+waits_none slots n h = ap is_some (names_at slots n) ∙ by (slice_get slots n) h
+  where
+    by : (o : Option Slot) → option_map_or is_waiting o false ≡ true → is_some (option_and_then slot_name o) ≡ false
+    by None h = absurd (false≢true h)
+    by (Some (Named name)) h = absurd (false≢true h)
+    by (Some Waiting) h = refl
+    by (Some (Gap next)) h = absurd (false≢true h)
+
+pub waits_within : (slots : List Slot) (n : ℕ) → option_map_or is_waiting (slice_get slots n) false ≡ true → n < length slots
+waits_within slots n h = by (slice_get slots n) refl h
+  where
+    by : (o : Option Slot) → slice_get slots n ≡ o → option_map_or is_waiting o false ≡ true → n < length slots
+    by None e h = absurd (false≢true h)
+    by (Some s) e h = slice_get_within slots n s e
 
 pub slots_regap : (slots after : List Slot) (names : List (Option (List ℕ))) (n : ℕ) (next : Option ℕ) → map slot_name slots ≡ names
     → is_number names n ≡ false → after ≡ set slots n (Gap next) → map slot_name after ≡ names
@@ -257,14 +278,14 @@ slots_regap slots after names n next view e put =
 
 pub removed : (number after : List ℕ → Option ℕ) (slots written : List Slot) (names : List (Option (List ℕ))) (n : ℕ) (name : List ℕ)
     → Agrees number (map slot_name slots) → map slot_name slots ≡ names → name_at names n ≡ Some name
-    → ((q : List ℕ) → after q ≡ cond (bytes_eq name q) None (number q)) → written ≡ set slots n (Gap None) → Agrees after (map slot_name written)
+    → ((q : List ℕ) → after q ≡ cond (bytes_eq name q) None (number q)) → written ≡ set slots n Waiting → Agrees after (map slot_name written)
 removed number after slots written names n name a view here e put =
-    subst (Agrees after) (sym (ap (map slot_name) put ∙ slots_gap slots n None))
+    subst (Agrees after) (sym (ap (map slot_name) put ∙ slots_waiting slots n))
     (agrees_removed number (map slot_name slots) a after n name (ap (λ xs. name_at xs n) view ∙ here) e)
 
 pub removed_names : (slots written : List Slot) (names : List (Option (List ℕ))) (n : ℕ) → map slot_name slots ≡ names
-    → written ≡ set slots n (Gap None) → map slot_name written ≡ set names n None
-removed_names slots written names n view put = ap (map slot_name) put ∙ slots_gap slots n None ∙ ap (λ xs. set xs n None) view
+    → written ≡ set slots n Waiting → map slot_name written ≡ set names n None
+removed_names slots written names n view put = ap (map slot_name) put ∙ slots_waiting slots n ∙ ap (λ xs. set xs n None) view
 
 pub still_short : (slots written : List Slot) (n : ℕ) (s : Slot) → written ≡ set slots n s → length slots < 2 ^ 31 → length written < 2 ^ 31
 still_short slots written n s put short = subst (λ k. k < 2 ^ 31) (sym (ap length put ∙ length-set slots n s)) short

@@ -13,11 +13,45 @@ ghost use Rattle.netlist_store.specs.Drafts.{FollowsAll};
 
 use crate::edit_checks::check_edit;
 use crate::stores::Store;
+use crate::tables::Names;
 use crate::touched::Touched;
+use sta_units::Memory;
 use std::alloc::Global;
 use timing_defs::{Eco, Edit, Fault};
 
+impl Names {
+    /// The names, with the numbers that became free ready for other names.
+    fn settled(self) -> Result<Names, Memory>
+        ensures { IfOk result (λ after. after ≡ self) }
+    {
+        let Names { insts, nets, pins } = self;
+        let insts = insts.settled()?;
+        let nets = nets.settled()?;
+        let pins = pins.settled()?;
+        Ok(Names { insts, nets, pins })
+    }
+}
+
 impl Store {
+    /// The store, with the numbers that became free ready for other names.
+    fn settled(self) -> Result<Store, Memory>
+        ensures { IfOk result (λ after. after ≡ self) }
+    {
+        let Store {
+            frame,
+            names,
+            rows,
+            orders,
+        } = self;
+        let names = names.settled()?;
+        Ok(Store {
+            frame,
+            names,
+            rows,
+            orders,
+        })
+    }
+
     /// The store after one edit, or the edit's first fault. What the edit touches is added.
     fn after(
         self,
@@ -38,12 +72,9 @@ impl Store {
         Ok(after)
     }
 
-    /// The store after all edits of an ECO in order, or the first fault. The base stays as it is, and
-    /// shares with the edited store what the edits do not change. The time grows with the edits, the
-    /// pins of their cells and the connections of their instances and nets, and not with the design.
-    /// A name keeps its number, and a number that the base has stands for no other name.
+    /// The store after all edits in order, in which the numbers that became free wait, or the first fault.
     #[tactic(auto, using(crate::proofs::EditEnds::follows_copy))]
-    pub fn apply(&self, alloc: Global, eco: &Eco) -> Result<(Store, Touched), Fault>
+    fn applied(&self, alloc: Global, eco: &Eco) -> Result<(Store, Touched), Fault>
         requires eco { is_eco eco.now ≡ true }
         requires sized { IsSized self.now.design }
         ensures design { IfOk result (λ made. edited self.now.design eco.now ≡ Ok made.0.design) }
@@ -59,6 +90,25 @@ impl Store {
         for edit in edits {
             store = store.after(alloc, self, &mut touched, edit)?;
         }
+        Ok((store, touched))
+    }
+
+    /// The store after all edits of an ECO in order, or the first fault. The base stays as it is, and
+    /// shares with the edited store what the edits do not change. The time grows with the edits, the
+    /// pins of their cells and the connections of their instances and nets, and not with the design.
+    /// A name keeps its number, and a number that the base has stands for no other name.
+    pub fn apply(&self, alloc: Global, eco: &Eco) -> Result<(Store, Touched), Fault>
+        requires eco { is_eco eco.now ≡ true }
+        requires sized { IsSized self.now.design }
+        ensures design { IfOk result (λ made. edited self.now.design eco.now ≡ Ok made.0.design) }
+        ensures insts { IfOk result (λ made. made.1.insts ≡ (touched_list self.now.design eco.now.edits).insts) }
+        ensures nets { IfOk result (λ made. made.1.nets ≡ (touched_list self.now.design eco.now.edits).nets) }
+        ensures numbers { IfOk result (λ made. KeepsNumbers self.now made.0) }
+        ensures fault { IfErr result (λ fault. IsRefused self.now.design eco.now fault) }
+    {
+        let made = self.applied(alloc, eco)?;
+        let (store, touched) = made;
+        let store = store.settled()?;
         Ok((store, touched))
     }
 }

@@ -12,9 +12,10 @@
 //!   a library with an `IndexMap` from names to places.
 //! - `Numbering`, one for each kind: the name of each number, in a `CowTable`, and a `NameMap` back.
 //!   A `NameMap` is an `IndexMap` cut into 16,381 shards by a hash of the name. Versions share the
-//!   shards, and an edit copies the few that it changes; a resize copies none. A name that goes leaves
-//!   a gap, and one that comes back within the ECO gets its old number: thus a number of the base
-//!   never stands for another name in the edited store. Gaps are not yet used for other names.
+//!   shards, and an edit copies the few that it changes; a resize copies none. A number whose
+//!   name goes waits until the ECO ends, and a name that comes back within it gets its old number:
+//!   thus a number of the base never stands for another name in the edited store. Then the number
+//!   is a gap, which holds the next one, so numbers are used again at constant cost.
 //! - `insts`, `rcs`, `net_pins`, `pins`: by numbers, what is known of each. `insts` and `rcs` hold
 //!   the `Inst` and the `NetRc` of the design. `net_pins` lists the pins on a net. `pins` has the
 //!   owner, the net and the direction of each pin. Rows are held by `Arc`, so the copy of a chunk

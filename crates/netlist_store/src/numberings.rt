@@ -1,11 +1,11 @@
 //! Names and their numbers.
 
 ghost use Rattle.std.specs.Prelude.{◌≡◌, ◌<◌, ◌≤◌, ◌^◌, ◌∷◌, ◌++◌, [], ℕ, List, true, false, None, length, map, set, slice_get, IfOk, IfSome};
-ghost use Rattle.std.specs.Option.{option_copied};
+ghost use Rattle.std.specs.Option.{option_copied, option_map_or};
 ghost use Rattle.timing_defs.specs.Names.{is_name};
 ghost use Rattle.timing_defs.specs.Netlist.{are_distinct};
 ghost use Rattle.netlist_store.specs.Numbering.{name_at, number_of, is_number, with_name, AreNumbers, AreKept};
-ghost use Rattle.netlist_store.specs.Slots.{slot_name, slot_name_at};
+ghost use Rattle.netlist_store.specs.Slots.{slot_name, slot_name_at, is_waiting};
 
 use crate::held::Held;
 use crate::name_maps::NameMap;
@@ -13,15 +13,17 @@ use cow_table::CowTable;
 use sta_units::{Again, Memory};
 use std::alloc::Global;
 use std::marker::Model;
-use timing_defs::Name;
+use timing_defs::{Items, Name};
 
 /// The greatest number of numbers.
 const MOST: usize = 0x7fff_ffff;
 
-/// What a number stands for: a name, or nothing; a gap knows the next one that may be taken.
+/// What a number stands for: a name, or nothing. A number whose name was taken out waits until the
+/// ECO ends; then it is a gap, which may be taken, and knows the next one.
 #[derive(Debug, Drop)]
 pub(crate) enum Slot {
     Named(Held<Name>),
+    Waiting,
     Gap(Option<u32>),
 }
 
@@ -29,6 +31,7 @@ impl Again for Slot {
     fn again(&self, alloc: Global) -> Result<Slot, Memory> {
         Ok(match self {
             Slot::Named(name) => Slot::Named(name.again(alloc)?),
+            Slot::Waiting => Slot::Waiting,
             Slot::Gap(next) => Slot::Gap(*next),
         })
     }
@@ -52,7 +55,17 @@ fn name_in(slots: &CowTable<Slot>, number: u32) -> Option<&Held<Name>>
 {
     match slot_at(slots, number)? {
         Slot::Named(name) => Some(name),
-        Slot::Gap(_) => None,
+        _ => None,
+    }
+}
+
+/// Whether a number waits to be released.
+fn waits(slots: &CowTable<Slot>, number: u32) -> bool
+    ensures { result ≡ option_map_or is_waiting (slice_get slots.now number) false }
+{
+    match slot_at(slots, number) {
+        Some(Slot::Waiting) => true,
+        _ => false,
     }
 }
 
@@ -64,12 +77,13 @@ struct Choice {
 }
 
 /// Names with numbers, distinct both ways. Contracts see what each number stands for. The number of
-/// a name that is taken out may be used again once it is released.
+/// a name that is taken out may be used again once the ECO ends: until then it is among `left`.
 #[derive(Debug, Drop)]
 pub(crate) struct Numbering {
     slots: CowTable<Slot>,
     numbers: NameMap,
     free: Option<u32>,
+    left: Items<u32>,
     alloc: Global,
 }
 
@@ -96,6 +110,7 @@ impl Numbering {
             slots: CowTable::new(alloc),
             numbers,
             free: None,
+            left: Items::new(alloc),
             alloc,
         })
     }
@@ -106,10 +121,12 @@ impl Numbering {
     {
         let slots = self.slots.copy()?;
         let numbers = self.numbers.copy()?;
+        let left = self.left.again(self.alloc)?;
         Ok(Numbering {
             slots,
             numbers,
             free: self.free,
+            left,
             alloc: self.alloc,
         })
     }
@@ -175,6 +192,7 @@ impl Numbering {
             mut slots,
             mut numbers,
             free,
+            left,
             alloc,
         } = self;
         numbers.put(name.copied(alloc)?, number)?;
@@ -183,12 +201,13 @@ impl Numbering {
             slots,
             numbers,
             free,
+            left,
             alloc,
         })
     }
 
     /// The numbering without the name of a number. The number is not used for another name until
-    /// it is released.
+    /// the numbering is settled.
     pub(crate) fn without(self, number: u32) -> Result<Numbering, Memory>
         requires { is_number self number ≡ true }
         ensures { IfOk result (λ after. after ≡ set self number None) }
@@ -198,29 +217,33 @@ impl Numbering {
             mut slots,
             mut numbers,
             free,
+            mut left,
             alloc,
         } = self;
         numbers.remove(&name)?;
-        slots.set(number as usize, Slot::Gap(None))?;
+        slots.set(number as usize, Slot::Waiting)?;
+        left.push(number)?;
         Ok(Numbering {
             slots,
             numbers,
             free,
+            left,
             alloc,
         })
     }
 
-    /// Lets a number that stands for nothing be used again; another is left as it is.
-    pub(crate) fn released(self, number: u32) -> Result<Numbering, Memory>
+    /// Lets a number that waits be used again; another is left as it is.
+    fn released(self, number: u32) -> Result<Numbering, Memory>
         ensures { IfOk result (λ after. after ≡ self) }
     {
-        if number as usize >= self.slots.len() || self.has(number) {
+        if !waits(&self.slots, number) {
             return Ok(self);
         }
         let Numbering {
             mut slots,
             numbers,
             free,
+            left,
             alloc,
         } = self;
         slots.set(number as usize, Slot::Gap(free))?;
@@ -228,8 +251,42 @@ impl Numbering {
             slots,
             numbers,
             free: Some(number),
+            left,
             alloc,
         })
+    }
+
+    /// The numbers that wait, and the numbering in which none does yet.
+    fn unsettled(self) -> (Numbering, Items<u32>)
+        ensures { result.0 ≡ self }
+    {
+        let Numbering {
+            slots,
+            numbers,
+            free,
+            left,
+            alloc,
+        } = self;
+        let rest = Numbering {
+            slots,
+            numbers,
+            free,
+            left: Items::new(alloc),
+            alloc,
+        };
+        (rest, left)
+    }
+
+    /// Lets all numbers whose names were taken out be used again, in time of their count.
+    pub(crate) fn settled(self) -> Result<Numbering, Memory>
+        ensures { IfOk result (λ after. after ≡ self) }
+    {
+        let (rest, left) = self.unsettled();
+        let mut after = rest;
+        for number in left.as_slice() {
+            after = after.released(*number)?;
+        }
+        Ok(after)
     }
 
     /// A gap that was released and that stands for nothing in the base either, and the next one.
@@ -243,11 +300,11 @@ impl Numbering {
             return None;
         }
         match slot_at(&self.slots, number)? {
-            Slot::Named(_) => None,
             Slot::Gap(next) => Some(Choice {
                 number,
                 free: *next,
             }),
+            _ => None,
         }
     }
 
@@ -296,6 +353,7 @@ impl Numbering {
             slots,
             mut numbers,
             free: _,
+            left,
             alloc,
         } = self;
         numbers.put(name.copied(alloc)?, choice.number)?;
@@ -304,6 +362,7 @@ impl Numbering {
             slots,
             numbers,
             free: choice.free,
+            left,
             alloc,
         };
         Ok((made, choice.number))

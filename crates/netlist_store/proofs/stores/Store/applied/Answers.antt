@@ -4,7 +4,7 @@ use Rattle.timing_defs.specs.Edits.{edited}
 use Rattle.timing_defs.specs.Cones.{touched_list}
 use Rattle.netlist_store.proofs.EditEnds.{numbers_kept}
 use Rattle.netlist_store.proofs.EcoSteps.{eco_edit, eco_more, eco_end, touch_more, touch_end, end_insts, end_nets}
-use Rattle.netlist_store.proofs.stores.Store.apply.Goals as goal
+use Rattle.netlist_store.proofs.stores.Store.applied.Goals as goal
 
 pub after-requires : goal.after-requires
 after-requires c = record {

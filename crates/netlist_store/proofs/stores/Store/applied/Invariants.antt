@@ -4,7 +4,7 @@ use Rattle.timing_defs.specs.Edits.{edited_list, edited}
 use Rattle.timing_defs.specs.Cones.{touched_list}
 use Rattle.netlist_store.specs.Touching.{touched_with}
 use Rattle.netlist_store.specs.Drafts.{FollowsAll}
-use Rattle.netlist_store.proofs.stores.Store.apply.Given as goal
+use Rattle.netlist_store.proofs.stores.Store.applied.Given as goal
 
 abbrev pub invariant-loop-edit : goal.invariant-loop-edit
 invariant-loop-edit l = record {
