@@ -1,0 +1,100 @@
+//! The fan-in cone of an endpoint.
+
+ghost use Rattle.std.specs.Prelude.{◌≡◌, ◌<◌, ◌^◌, All, IfOk};
+ghost use Rattle.timing_defs.specs.Range.{NoOrigin};
+ghost use Rattle.node_rows.specs.PortTables.{ArePorts};
+ghost use Rattle.node_rows.specs.WireTables.{AreWires};
+ghost use Rattle.pin_graph.specs.Nodes.{node_bound};
+ghost use Rattle.pin_graph.specs.RowTables.{AreRows};
+ghost use Rattle.path_cones.specs.FanIns.{IsFanIn};
+ghost use Rattle.path_cones.specs.Reaching.{AreOrdered};
+
+use crate::leveling::sort_by_level;
+use crate::listing::{Listed, Sources, list_arcs};
+use crate::reaching::reached;
+use indexmap::IndexSet;
+use netlist_store::Store;
+use node_rows::{Setting, Wired};
+use pin_graph::Graph;
+use sta_units::Memory;
+use std::alloc::Global;
+use timing_defs::{Items, Kind, Rows};
+use worst_walks::WalkArc;
+
+/// The fan-in cone of an endpoint: the graph's number of each node, by its place in the cone, and the
+/// arcs into each place, `arcs[starts[place]..starts[place + 1]]`, which lead from higher places to
+/// lower ones. Delays are in fs: of setup tests the late ones, of hold tests the early ones with their
+/// signs turned.
+#[derive(Debug, Clone, PartialEq, Eq, Drop)]
+pub struct FanIn {
+    pub nodes: Items<u32>,
+    pub starts: Items<u32>,
+    pub arcs: Items<WalkArc>,
+}
+
+/// The numbers of a graph's nodes fit.
+fn bounded(graph: &Graph)
+    ensures { node_bound graph.now.stored < 2 ^ 32 }
+{
+    let _ = graph.count();
+}
+
+/// The nodes of a cone, those of higher levels first.
+fn ordered(alloc: Global, graph: &Graph, ends: &[u32]) -> Result<IndexSet<u32>, Memory>
+    requires { All (λ end. end < node_bound graph.now.stored) ends.now }
+    ensures { IfOk result (λ nodes. AreOrdered graph.now ends.now nodes.keys) }
+{
+    let mut nodes = reached(alloc, graph, ends)?;
+    sort_by_level(graph, ends, &mut nodes)?;
+    Ok(nodes)
+}
+
+/// Some nodes and the arcs into each.
+fn joined(alloc: Global, nodes: &IndexSet<u32>, listed: Listed) -> Result<FanIn, Memory>
+    ensures { IfOk result (λ f. f ≡ record { nodes = nodes.now.keys; starts = listed.starts; arcs = listed.arcs }) }
+{
+    let copied = Items::from_slice(alloc, nodes.as_slice())?;
+    Ok(FanIn {
+        nodes: copied,
+        starts: listed.starts,
+        arcs: listed.arcs,
+    })
+}
+
+/// The cone of some end nodes: each node from which a walk of arcs leads to one of them and whose nodes
+/// after the first are outside the clock network, and the arcs between these. Takes the time of the
+/// cone's arcs and of sorting its nodes. Fails for want of memory, and where there are `2^22` nodes or
+/// `2^32` arcs or more.
+pub fn fan_in<A: Rows + Wired>(
+    alloc: Global,
+    store: &Store,
+    graph: &Graph,
+    arrivals: &A,
+    ends: &[u32],
+    kind: Kind,
+) -> Result<FanIn, Memory>
+    requires graph { graph.now.stored ≡ store.now }
+    requires rows { AreRows store.now (A.rows arrivals.now) }
+    requires wires { AreWires store.now (A.wires arrivals.now) }
+    requires ports { ArePorts store.now.design.constraints (A.ports arrivals.now) }
+    requires none { NoOrigin store.now.design }
+    requires ends { All (λ end. end < node_bound graph.now.stored) ends.now }
+    ensures { IfOk result (IsFanIn graph.now kind ends.now) }
+{
+    store.laws();
+    graph.laws();
+    bounded(graph);
+    let sources = Sources {
+        setting: Setting {
+            store,
+            wires: arrivals.wires(),
+            ports: arrivals.ports(),
+        },
+        graph,
+        arrivals,
+        kind,
+    };
+    let nodes = ordered(alloc, graph, ends)?;
+    let listed = list_arcs(alloc, &sources, &nodes)?;
+    joined(alloc, &nodes, listed)
+}
