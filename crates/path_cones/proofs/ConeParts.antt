@@ -10,6 +10,7 @@ use Rattle.std.proofs.lemmas.Option.{none-some}
 use Rattle.std.proofs.lemmas.List.Elements.{All-contains, All-nil}
 use Rattle.std.proofs.lemmas.List.Folds.{list_any_at}
 use Rattle.std.proofs.lemmas.List.FromFn.{length-range_with_len}
+use Rattle.std.proofs.lemmas.Int.{ints}
 use Rattle.std.proofs.Math.Nat.{le-max_left, le-max_right, max-eq_left, max-eq_right}
 use Rattle.sta_units.specs.Numbers.{Within, limit}
 use Rattle.timing_defs.specs.declared.kinds.Kind.{Kind}
@@ -17,11 +18,13 @@ use Rattle.timing_defs.specs.declared.kinds.Kind.TheVariants.{Setup, Hold}
 use Rattle.timing_defs.specs.declared.kinds.Split.{Split}
 use Rattle.timing_defs.specs.declared.kinds.Tran.{Tran}
 use Rattle.timing_defs.specs.declared.kinds.Tran.TheVariants.{Rise, Fall}
+use Rattle.timing_defs.specs.declared.library.CellArc.{CellArc}
 use Rattle.timing_defs.specs.declared.design.Design.{Design}
 use Rattle.timing_defs.specs.declared.rows.NodeRow.{NodeRow}
+use Rattle.timing_defs.specs.Lookup.{look}
 use Rattle.timing_defs.specs.Netlist.{Node, name_of, is_driver, same_node, same_pin, same_tran}
 use Rattle.timing_defs.specs.Wires.{wire_delay}
-use Rattle.timing_defs.specs.Rows.{arcs_in, row, delay, delay_from, delay_along, raw_delay, scaled, slew_in, net_name}
+use Rattle.timing_defs.specs.Rows.{arcs_in, row, delay, delay_from, delay_along, raw_delay, scaled, slew_in, net_name, load_at, outermost, library_arcs}
 use Rattle.timing_defs.specs.Range.{within_some, NoOrigin}
 use Rattle.timing_defs.specs.Cones.{has_register_arc}
 use Rattle.timing_defs.specs.Paths.{arc_delay}
@@ -30,6 +33,7 @@ use Rattle.netlist_store.specs.Linked.{IsLinked}
 use Rattle.netlist_store.specs.Numbering.{Stored, number_of, IsNumbered}
 use Rattle.levelizer.specs.Levels.{greatest}
 use Rattle.node_rows.specs.declared.pin_wires.Wires.{Wires}
+use Rattle.node_rows.specs.declared.ports.Ports.{Ports}
 use Rattle.node_rows.specs.declared.settings.Setting.{Setting}
 use Rattle.node_rows.specs.PortTables.{ArePorts}
 use Rattle.node_rows.specs.WireTables.{AreWires}
@@ -100,7 +104,9 @@ over_is d split to from row v e = by (slew_in split row) refl (is_driver to.pin)
         let a : scaled_over d split to from row ≡ Some (scaled d split to (wire_delay d split (net_name to.pin) from.pin to.pin)) =
             ap (λ t. if t then option_map (scaled d split to) (option_and_then (raw_delay d split from to) (slew_in split row))
             else Some (scaled d split to (wire_delay d split (net_name to.pin) from.pin to.pin))) q in
-        let b : delay_along d split from to x ≡ Some (scaled d split to (wire_delay d split (net_name to.pin) from.pin to.pin)) = rw q refl in
+        let b : delay_along d split from to x ≡ Some (scaled d split to (wire_delay d split (net_name to.pin) from.pin to.pin)) =
+            ap (λ t. option_map (scaled d split to) (if t then outermost split (λ (arc : CellArc). Some (look arc.delay x (load_at d split to.pin))) None (library_arcs d split from to)
+            else Some (wire_delay d split (net_name to.pin) from.pin to.pin))) q in
         a ∙ sym b ∙ f
 
 delay_bound : (d : Design) (split : Split) (to from : Node) (row : NodeRow) (v : ℤ) → is_wide_along d split to from row ≡ false → delay_from d split from to row ≡ Some v → Within v
@@ -109,14 +115,12 @@ delay_bound d split to from row v narrow e =
     let two = or_parts (is_wide_looked d split to from row) (is_wide_scaled d split to from row) all.0 in
     bound_of v (sym (ap within_some (over_is d split to from row v e)) ∙ not-false (within_some (scaled_over d split to from row)) two.1)
 
-turned_abs : (v : ℤ) → unsigned_abs (pos 0 -ℤ v) ≡ unsigned_abs v
-turned_abs (pos zero) = refl
-turned_abs (pos (suc n)) = refl
-turned_abs (negsuc n) = refl
+turned_within : (v : ℤ) → Within v → Within (pos 0 -ℤ v)
+turned_within v h = omega (arith, ints)
 
 signed_bound : (kind : Kind) (v : ℤ) → Within v → Within (signed kind v)
 signed_bound Setup v h = h
-signed_bound Hold v h = subst (λ n. n ≤ limit) (sym (turned_abs v)) h
+signed_bound Hold v h = turned_within v h
 
 module _ (g : Graphed) (num : IsNumbered g.stored) (linked : IsLinked g.stored.design) (is : IsGraph g) where
   -- levels rise along arcs, and are below the bound of numbers
@@ -322,15 +326,18 @@ ordered_low g ends nodes order = λ i d low.
     order.reached.below (get_or nodes i d) (list_any_at (nat_eq (get_or nodes i d)) nodes i d low (eq-eqb (get_or nodes i d) (get_or nodes i d) refl))
 
 -- what delays are found from
-pub found_there : (setting : Setting) (g : Graphed) (rows : List NodeRow) → g.stored ≡ setting.store.now → IsNumbered setting.store.now
-    → IsLinked setting.store.now.design → IsGraph g → AreWires setting.store.now setting.wires.now
-    → ArePorts setting.store.now.design.constraints setting.ports.now → AreRows setting.store.now rows → NoOrigin setting.store.now.design
-    → IsFound setting g rows
-found_there setting g rows same num linked is wires ports are none = record {
-  tables = record { wires = wires; ports = ports };
+pub found_there : (setting : Setting) (g : Graphed) (rows : List NodeRow) (wires : Wires) (ports : Ports) → g.stored ≡ setting.store.now
+    → IsNumbered setting.store.now → IsLinked setting.store.now.design → IsGraph g → setting.wires.now ≡ wires → setting.ports.now ≡ ports
+    → AreWires setting.store.now wires → ArePorts setting.store.now.design.constraints ports → AreRows setting.store.now rows
+    → NoOrigin setting.store.now.design → IsFound setting g rows
+found_there setting g rows wires ports same num linked is of_wires of_ports are_wires are_ports are none = record {
+  tables = record {
+    wires = subst (λ (w : Wires). AreWires setting.store.now w) (sym of_wires) are_wires;
+    ports = subst (λ (p : Ports). ArePorts setting.store.now.design.constraints p) (sym of_ports) are_ports;
+  };
   same = same;
   rows_are = subst (λ (x : Stored). AreRows x rows) (sym same) are;
   within =
       subst (λ (x : Stored). AreWithin x.design) (sym same)
-      (within g setting.store.now same num linked is setting.wires.now wires (rows_fine setting.store.now.design none));
+      (within g setting.store.now same num linked is wires are_wires (rows_fine setting.store.now.design none));
 }
