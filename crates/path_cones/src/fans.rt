@@ -63,8 +63,8 @@ fn joined(alloc: Global, nodes: &IndexSet<u32>, listed: Listed) -> Result<FanIn,
 
 /// The cone of some end nodes: each node from which a walk of arcs leads to one of them and whose nodes
 /// after the first are outside the clock network, and the arcs between these. Takes the time of the
-/// cone's arcs and of sorting its nodes. Fails for want of memory, and where there are `2^22` nodes or
-/// `2^32` arcs or more.
+/// cone's arcs and of sorting its nodes. Fails for want of memory, and where there are `2^22` nodes, more
+/// than a sound design has, or `2^32` arcs.
 pub fn fan_in<A: Rows + Wired>(
     alloc: Global,
     store: &Store,
