@@ -1,14 +1,13 @@
 -- The arcs of a cone by places: from higher places to lower ones, one between two nodes, with the
 -- delays of the definition.
 
-use Rattle.std.proofs.Common.{◌≡◌, ◌⊎◌, ℕ, zero, suc, ◌+◌, ◌-◌, ◌^◌, ◌<◌, ◌≤◌, ℤ, Bool, true, false, ◌&&◌, ◌||◌, if◌then◌else◌, cond, max, List, [], ◌∷◌, map, length, get_or, Option, None, Some, refl, sym, ap, subst, ◌∙◌, inl, inr, arith}
+use Rattle.std.proofs.Common.{◌≡◌, ℕ, zero, suc, ◌+◌, ◌<◌, ◌≤◌, ℤ, Bool, true, false, ◌||◌, if◌then◌else◌, cond, List, [], ◌∷◌, length, get_or, Option, None, Some, refl, sym, ap, subst, ◌∙◌, inl, inr, arith}
 use Rattle.std.specs.Prelude.{nat_eq, All, Contains, position, slice_index, option_map, option_and_then, count_by}
-use Rattle.std.specs.List.{list_any, filter_map, cons_option, position_or_len, range_with_len}
-use Rattle.std.proofs.lemmas.Bool.{cases_Bool, cases_eq, cases_lt, eqb-true, eq-eqb, ne_eqb, false≢true, and_parts, and_from, lt-ltb}
+use Rattle.std.specs.List.{list_any, filter_map, cons_option, position_or_len}
+use Rattle.std.proofs.lemmas.Bool.{cases_Bool, cases_eq, eqb-true, eq-eqb, ne_eqb, false≢true, lt-ltb}
 use Rattle.std.proofs.lemmas.Option.{none-some}
-use Rattle.std.proofs.lemmas.List.Elements.{All-contains_itself, All-contains}
+use Rattle.std.proofs.lemmas.List.Elements.{All-contains_itself}
 use Rattle.std.proofs.lemmas.List.Folds.{list_any_at}
-use Rattle.std.proofs.lemmas.List.FromFn.{length-range_with_len}
 use Rattle.std.proofs.lemmas.List.Quantifiers.{position-Some}
 use Rattle.std.proofs.lemmas.List.Sums.{sum_by-cons}
 use Rattle.sta_units.specs.Numbers.{Within}
@@ -41,7 +40,7 @@ place_is : (nodes : List ℕ) (x a : ℕ) → AreOnce nodes → a < length nodes
 place_is nodes x a once low e =
     let found = low_place x nodes (subst (λ y. is_among nodes y ≡ true) e (among_at nodes a low)) in
     let there : position (λ n. nat_eq x n) nodes ≡ Some (position_or_len (λ n. nat_eq x n) nodes) =
-        rw (lt-ltb (position_or_len (λ n. nat_eq x n) nodes) (length nodes) found) refl in
+    rw (lt-ltb (position_or_len (λ n. nat_eq x n) nodes) (length nodes) found) refl in
     let r = placed_at nodes x (position_or_len (λ n. nat_eq x n) nodes) there in
     there ∙ ap Some (once (position_or_len (λ n. nat_eq x n) nodes) a found low (r.1 ∙ sym e))
 

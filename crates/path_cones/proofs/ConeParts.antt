@@ -1,18 +1,18 @@
 -- The fan-in cone of end nodes, from the arcs of the graph: each arc leads from a higher level, and an
 -- arc between two nodes of the graph is one of the design.
 
-use Rattle.std.proofs.Common.{◌≡◌, ◌⊎◌, ℕ, zero, suc, ◌+◌, ◌-◌, ◌^◌, ◌<◌, ◌≤◌, ℤ, Bool, true, false, ◌&&◌, ◌||◌, if◌then◌else◌, max, List, [], ◌∷◌, map, length, get_or, Option, None, Some, refl, sym, ap, subst, ◌∙◌, inl, inr, arith}
-use Rattle.std.specs.Prelude.{nat_eq, nat_lt, All, Contains, slice_index, option_map, option_and_then, not, unsigned_abs, pos, negsuc, ◌-ℤ◌}
+use Rattle.std.proofs.Common.{◌≡◌, ◌⊎◌, ℕ, zero, suc, ◌+◌, ◌-◌, ◌^◌, ◌<◌, ◌≤◌, ℤ, Bool, true, false, ◌||◌, if◌then◌else◌, max, List, [], ◌∷◌, map, length, get_or, Option, None, Some, refl, sym, ap, subst, ◌∙◌, inl, inr, arith}
+use Rattle.std.specs.Prelude.{nat_eq, All, Contains, slice_index, option_map, option_and_then, pos, ◌-ℤ◌}
 use Rattle.std.specs.List.{list_any, filter_map, range_with_len}
 use Rattle.std.specs.List.Sorted.{IsNonDecreasingBy}
 use Rattle.std.proofs.lemmas.Bool.{cases_Bool, cases_lt, eqb-true, eq-eqb, false≢true, and_parts, and_from, lt-ltb, or_parts, not-false}
 use Rattle.std.proofs.lemmas.Option.{none-some}
-use Rattle.std.proofs.lemmas.List.Elements.{All-contains, All-nil}
+use Rattle.std.proofs.lemmas.List.Elements.{All-contains}
 use Rattle.std.proofs.lemmas.List.Folds.{list_any_at}
 use Rattle.std.proofs.lemmas.List.FromFn.{length-range_with_len}
 use Rattle.std.proofs.lemmas.Int.{ints}
 use Rattle.std.proofs.Math.Nat.{le-max_left, le-max_right, max-eq_left, max-eq_right}
-use Rattle.sta_units.specs.Numbers.{Within, limit}
+use Rattle.sta_units.specs.Numbers.{Within}
 use Rattle.timing_defs.specs.declared.kinds.Kind.{Kind}
 use Rattle.timing_defs.specs.declared.kinds.Kind.TheVariants.{Setup, Hold}
 use Rattle.timing_defs.specs.declared.kinds.Split.{Split}
@@ -46,13 +46,13 @@ use Rattle.pin_graph.specs.RowTables.{AreRows}
 use Rattle.pin_graph.proofs.Members.{some_is, none_in, in_map, any_in, any_back, number_in}
 use Rattle.pin_graph.proofs.PinNames.{same_is, same_self}
 use Rattle.pin_graph.proofs.LevelBound.{level_low}
-use Rattle.pin_graph.proofs.NodeLaws.{HasNode, node_told, node_below, has_node, same_node_at}
+use Rattle.pin_graph.proofs.NodeLaws.{HasNode, node_told, has_node, same_node_at}
 use Rattle.pin_graph.proofs.GraphRows.{placed}
 use Rattle.path_cones.specs.declared.fans.FanIn.{FanIn}
-use Rattle.path_cones.specs.Reaching.{is_among, AreAmong, followed, AreReached, AreOnce, AreOrdered, depth_at}
+use Rattle.path_cones.specs.Reaching.{is_among, followed, AreReached, AreOnce, AreOrdered, depth_at}
 use Rattle.path_cones.specs.Delays.{delay_numbered, arc_numbered, signed, followed_delay, walk_arc, arcs_placed, AreWithin, IsFound}
-use Rattle.path_cones.specs.FanIns.{AreParts, part_at, IsFromAbove, IsFanIn}
-use Rattle.path_cones.proofs.Growing.{from_low, place_of}
+use Rattle.path_cones.specs.FanIns.{AreParts, IsFromAbove, IsFanIn}
+use Rattle.path_cones.proofs.Growing.{from_low}
 use Rattle.path_cones.proofs.DelayLaws.{narrow_arc}
 use Rattle.path_cones.proofs.RangeLaws.{within, rows_fine}
 use Rattle.path_cones.proofs.ConeLaws.{among_at, above_part, apart_part, delay_part}
@@ -97,16 +97,16 @@ over_is d split to from row v e = by (slew_in split row) refl (is_driver to.pin)
     by None p b q f = absurd (none-some v f)
     by (Some x) p true q f =
         let a : scaled_over d split to from row ≡ option_map (scaled d split to) (option_and_then (raw_delay d split from to) (slew_in split row)) =
-            ap (λ t. if t then option_map (scaled d split to) (option_and_then (raw_delay d split from to) (slew_in split row))
-            else Some (scaled d split to (wire_delay d split (net_name to.pin) from.pin to.pin))) q in
+        ap (λ t. if t then option_map (scaled d split to) (option_and_then (raw_delay d split from to) (slew_in split row))
+        else Some (scaled d split to (wire_delay d split (net_name to.pin) from.pin to.pin))) q in
         a ∙ ap (λ o. option_map (scaled d split to) (option_and_then (raw_delay d split from to) o)) p ∙ f
     by (Some x) p false q f =
         let a : scaled_over d split to from row ≡ Some (scaled d split to (wire_delay d split (net_name to.pin) from.pin to.pin)) =
-            ap (λ t. if t then option_map (scaled d split to) (option_and_then (raw_delay d split from to) (slew_in split row))
-            else Some (scaled d split to (wire_delay d split (net_name to.pin) from.pin to.pin))) q in
+        ap (λ t. if t then option_map (scaled d split to) (option_and_then (raw_delay d split from to) (slew_in split row))
+        else Some (scaled d split to (wire_delay d split (net_name to.pin) from.pin to.pin))) q in
         let b : delay_along d split from to x ≡ Some (scaled d split to (wire_delay d split (net_name to.pin) from.pin to.pin)) =
-            ap (λ t. option_map (scaled d split to) (if t then outermost split (λ (arc : CellArc). Some (look arc.delay x (load_at d split to.pin))) None (library_arcs d split from to)
-            else Some (wire_delay d split (net_name to.pin) from.pin to.pin))) q in
+        ap (λ t. option_map (scaled d split to) (if t then outermost split (λ (arc : CellArc). Some (look arc.delay x (load_at d split to.pin))) None (library_arcs d split from to)
+        else Some (wire_delay d split (net_name to.pin) from.pin to.pin))) q in
         a ∙ sym b ∙ f
 
 delay_bound : (d : Design) (split : Split) (to from : Node) (row : NodeRow) (v : ℤ) → is_wide_along d split to from row ≡ false → delay_from d split from to row ≡ Some v → Within v
@@ -127,7 +127,7 @@ module _ (g : Graphed) (num : IsNumbered g.stored) (linked : IsLinked g.stored.d
   rising_along : (n : ℕ) → n < node_bound g.stored → (arc : GraphArc) → Contains (fan_at g.ins n) arc → level_at g arc.from < level_at g n
   rising_along n low arc c =
       let over = greatest_over (map (λ (a : GraphArc). level_at g a.from + 1) (fan_at g.ins n)) (level_at g arc.from + 1)
-          (in_map (λ (a : GraphArc). level_at g a.from + 1) (fan_at g.ins n) arc c) in
+      (in_map (λ (a : GraphArc). level_at g a.from + 1) (fan_at g.ins n) arc c) in
       let here = is.levels.level n low in
       omega (arith, over, here)
 
@@ -141,7 +141,7 @@ module _ (g : Graphed) (num : IsNumbered g.stored) (linked : IsLinked g.stored.d
   level_fits : (n : ℕ) → n < node_bound g.stored → level_at g n < node_bound g.stored
   level_fits n low =
       let h = level_low (range_with_len 0 (node_bound g.stored)) (λ m. m < node_bound g.stored) (λ m l. number_in (node_bound g.stored) m l) (level_at g)
-          (λ m k l e. lower m k l e) n low in
+      (λ m k l e. lower m k l e) n low in
       let same = length-range_with_len 0 (node_bound g.stored) in
       omega (arith, h, same)
 
@@ -182,8 +182,8 @@ module _ (g : Graphed) (num : IsNumbered g.stored) (linked : IsLinked g.stored.d
         let f : node_at g.stored x ≡ Some a.from = ap (node_at g.stored) (sym (eqb-true r.item.from x r.passes)) ∙ a.from_number in
         let t : node_at g.stored n ≡ Some a.to = ap (node_at g.stored) (sym sound.1) ∙ a.to_number in
         let there : list_any (same_node a.from) (arcs_in g.stored.design a.to) ≡ true =
-            any_in (same_node a.from) (arcs_in g.stored.design a.to) a.from a.within
-            (and_from (same_pin a.from.pin a.from.pin) (same_tran a.from.tran a.from.tran) (same_self (name_of a.from.pin)) (tran_self a.from.tran)) in
+        any_in (same_node a.from) (arcs_in g.stored.design a.to) a.from a.within
+        (and_from (same_pin a.from.pin a.from.pin) (same_tran a.from.tran a.from.tran) (same_self (name_of a.from.pin)) (tran_self a.from.tran)) in
         ap (λ o. option_and_then (λ b. option_and_then (arc_delay g.stored.design split b) (node_at g.stored n)) o) f
         ∙ ap (λ o. option_and_then (arc_delay g.stored.design split a.from) o) t
         ∙ ap (λ b. if b then delay g.stored.design split a.from a.to else None) there
@@ -245,8 +245,8 @@ module _ (g : Graphed) (num : IsNumbered g.stored) (linked : IsLinked g.stored.d
     its_bound n low arc c v e =
         let a = ((is.ins n low).sound arc (arc_low n arc low c)).0 in
         let is_delay : delay_numbered g.stored (data_split kind) arc.from arc.to ≡ delay g.stored.design (data_split kind) a.from a.to =
-            ap (λ o. option_and_then (λ f. option_and_then (delay g.stored.design (data_split kind) f) (node_at g.stored arc.to)) o) a.from_number
-            ∙ ap (λ o. option_and_then (delay g.stored.design (data_split kind) a.from) o) a.to_number in
+        ap (λ o. option_and_then (λ f. option_and_then (delay g.stored.design (data_split kind) f) (node_at g.stored arc.to)) o) a.from_number
+        ∙ ap (λ o. option_and_then (delay g.stored.design (data_split kind) a.from) o) a.to_number in
         signed_bound kind v (delay_bound g.stored.design (data_split kind) a.to a.from (row g.stored.design a.from) v
         (narrow_arc g num linked is fine arc a (data_split kind)) (sym is_delay ∙ e))
 
@@ -288,7 +288,7 @@ module _ (g : Graphed) (num : IsNumbered g.stored) (linked : IsLinked g.stored.d
               (subst (λ (xs : List GraphArc). Contains xs r.item) same r.within))
           | inr none ↦
               let gone : arc_numbered g.stored (data_split kind) x n ≡ None =
-                  arc_is (data_split kind) x n low ∙ ap (λ b. if b then delay_numbered g.stored (data_split kind) x n else None) none in
+              arc_is (data_split kind) x n low ∙ ap (λ b. if b then delay_numbered g.stored (data_split kind) x n else None) none in
               absurd (none-some v (sym (ap (option_map (signed kind)) gone) ∙ f))
         ]
 

@@ -1,7 +1,7 @@
 -- The delay along an arc of the graph, over the rows of the definition.
 
-use Rattle.std.proofs.Common.{◌≡◌, ℕ, ◌<◌, ℤ, Bool, true, false, if◌then◌else◌, List, [], ◌∷◌, length, Option, Some, None, refl, sym, ap, subst, ◌∙◌, arith}
-use Rattle.std.specs.Prelude.{Contains, slice_get, is_some, option_map, option_and_then}
+use Rattle.std.proofs.Common.{◌≡◌, ℕ, ◌<◌, Bool, true, false, if◌then◌else◌, List, [], ◌∷◌, length, Some, None, sym, ap, subst, ◌∙◌}
+use Rattle.std.specs.Prelude.{Contains, slice_get, is_some, option_and_then}
 use Rattle.std.specs.Option.{option_map_or}
 use Rattle.std.proofs.lemmas.Bool.{false≢true}
 use Rattle.timing_defs.specs.declared.kinds.Split.{Split}
@@ -21,7 +21,7 @@ use Rattle.node_rows.specs.Evaluation.{node_of, values_along, is_wide_along, tol
 use Rattle.pin_graph.specs.declared.arcs.GraphArc.{GraphArc}
 use Rattle.pin_graph.specs.Nodes.{node_at, node_bound, pin_under, tran_under}
 use Rattle.pin_graph.specs.Graphs.{Graphed, IsGraph, IsArc, network_at}
-use Rattle.pin_graph.specs.RowTables.{AreRows, row_numbered}
+use Rattle.pin_graph.specs.RowTables.{AreRows}
 use Rattle.pin_graph.proofs.Members.{some_is, first_in, later_in, in_flat_map}
 use Rattle.pin_graph.proofs.NodeLaws.{HasNode, under_number, node_below, has_node}
 use Rattle.path_cones.specs.Delays.{place_told, delay_numbered, AreWithin}

@@ -1,12 +1,12 @@
 -- Lists of nodes that grow by the nodes before them, and the same in another order.
 
-use Rattle.std.proofs.Common.{◌≡◌, ℕ, zero, suc, ◌+◌, ◌/◌, ◌^◌, ◌<◌, ◌≤◌, Bool, true, false, ◌||◌, if◌then◌else◌, List, [], ◌∷◌, ◌++◌, map, length, get_or, Option, Some, None, refl, sym, ap, subst, ◌∙◌, inl, inr, arith, length-append}
+use Rattle.std.proofs.Common.{◌≡◌, ℕ, zero, suc, ◌+◌, ◌^◌, ◌<◌, ◌≤◌, Bool, true, false, ◌||◌, if◌then◌else◌, List, [], ◌∷◌, ◌++◌, map, length, get_or, Option, Some, None, refl, sym, ap, subst, ◌∙◌, inl, inr, arith}
 use Rattle.std.specs.Prelude.{nat_eq, All, slice_get, slice_index, option_map, option_and_then}
 use Rattle.std.specs.List.{list_any, IsDistinct, AllByRecursion}
 use Rattle.std.proofs.lemmas.Bool.{cases_eq, eqb-true, eq-eqb, or_cases, or_right, both_ways, false≢true}
 use Rattle.std.proofs.lemmas.List.{append_assoc, append-nil, get_or_append_left}
 use Rattle.std.proofs.lemmas.List.Elements.{All-append, All-cons, All-nil, All-head, All-tail, All-map, All-weaker, All-contains_itself}
-use Rattle.std.proofs.lemmas.List.Folds.{list_any-append, list_any_at}
+use Rattle.std.proofs.lemmas.List.Folds.{list_any-append}
 use Rattle.std.proofs.lemmas.Option.{none-some, slice_get_within, get_or_from_slice_get}
 use Rattle.indexmap.specs.IndexSet.{insert_key, insert_all}
 use Rattle.timing_defs.specs.Netlist.{Node, pin_named}
@@ -121,7 +121,7 @@ reaching_more g ends nodes new k node is h at e =
     let to : new ≡ nodes ++ r.more = e ∙ r.is in
     let among : (n : ℕ) → is_among nodes n ≡ true → is_among new n ≡ true = among_weaker nodes new r.more to in
     let same : (i : ℕ) → i < length nodes → slice_index new i ≡ slice_index nodes i =
-        (λ i l. ap (λ ns. slice_index ns i) to ∙ get_or_append_left nodes r.more 0 i l) in
+    (λ i l. ap (λ ns. slice_index ns i) to ∙ get_or_append_left nodes r.more 0 i l) in
     record {
       targets = All-weaker (λ x. is_among nodes x ≡ true) (λ x. is_among new x ≡ true) among ends h.targets;
       sources = λ i l m.

@@ -16,14 +16,13 @@ use Rattle.timing_defs.specs.declared.edge_times.EdgeTime.{EdgeTime}
 use Rattle.timing_defs.specs.declared.library.CellArc.{CellArc}
 use Rattle.timing_defs.specs.declared.netlist.Inst.{Inst}
 use Rattle.timing_defs.specs.declared.parasitics.NetRc.{NetRc}
-use Rattle.timing_defs.specs.declared.rows.NodeRow.{NodeRow}
 use Rattle.timing_defs.specs.declared.faults.Place.TheVariants.{Pin as at_pin, Net as at_net}
 use Rattle.timing_defs.specs.declared.design.Design.{Design}
 use Rattle.timing_defs.specs.Lookup.{look}
 use Rattle.timing_defs.specs.Netlist.{Pin, Node, name_of, pins, nodes, both_nodes, net_of, driver, is_driver, is_listed}
 use Rattle.timing_defs.specs.Wires.{net_load, rc_of, sum_of, res_of, wire_delay, wire_slew}
 use Rattle.timing_defs.specs.Clocking.{driver_on, is_network}
-use Rattle.timing_defs.specs.Rows.{arcs_in, all_arcs_in, net_arcs_in, cell_arcs_in, library_arcs, load_at, net_name, outermost, slew_in, slew_along, slew_of, arrival_of, launch_edges, edge_time, as_fs, step, row, is_input_port, port_slew}
+use Rattle.timing_defs.specs.Rows.{arcs_in, all_arcs_in, net_arcs_in, cell_arcs_in, library_arcs, load_at, net_name, outermost, slew_in, slew_along, slew_of, arrival_of, launch_edges, edge_time, as_fs, step, row, port_slew}
 use Rattle.timing_defs.specs.Range.{within_some, either_split, wires_within, net_wires_within, is_large_rc, is_net_origin, is_loaded, looked_within, is_forward_origin, is_back_origin, is_node_origin, NoOrigin}
 use Rattle.timing_defs.proofs.RowLaws.{ArePlacedNodes, row_is}
 use Rattle.netlist_store.specs.Linked.{IsLinked}
@@ -32,7 +31,7 @@ use Rattle.node_rows.specs.declared.pin_wires.Wires.{Wires}
 use Rattle.node_rows.specs.WireTables.{AreWires}
 use Rattle.node_rows.specs.Evaluation.{is_wide_looked, is_wide_scaled, is_wide_end, is_wide_along, is_wide_in, is_row_within}
 use Rattle.node_rows.proofs.FineLaws.{IsFine, IsCarried, fine_more, wide_is_origin}
-use Rattle.node_rows.proofs.MergeLaws.{AreMatched, outermost_same, outermost_within}
+use Rattle.node_rows.proofs.MergeLaws.{outermost_same, outermost_within}
 use Rattle.pin_graph.specs.Nodes.{node_number}
 use Rattle.pin_graph.specs.Graphs.{Graphed, IsGraph}
 use Rattle.pin_graph.specs.RowTables.{AreRowsFine}
@@ -150,7 +149,7 @@ module _ (d : Design) (split : Split) (to : Node) (near : IsNear d split to) whe
         slews : looked_within d split from to (λ arc. arc.slew) x ≡ true
         slews =
             let both = and_rest (is_driver to.pin) (option_map_or (λ y. not (looked_within d split from to (λ arc. arc.slew) y) || not (looked_within d split from to (λ arc. arc.delay) y)) (slew_in split (row d from)) false)
-                drives (near.looked from c) in
+            drives (near.looked from c) in
             not_false (looked_within d split from to (λ arc. arc.slew) x)
             (or_parts (not (looked_within d split from to (λ arc. arc.slew) x)) (not (looked_within d split from to (λ arc. arc.delay) x))
             (sym (ap (λ o. option_map_or (λ y. not (looked_within d split from to (λ arc. arc.slew) y) || not (looked_within d split from to (λ arc. arc.delay) y)) o false) e) ∙ both)).0
@@ -211,7 +210,7 @@ module _ (d : Design) (Stands : Node → Type 0) (place : Node → ℕ) (placed 
     fine_below zero n s l = absurd (omega (arith, l))
     fine_below (suc k) n s l =
         let before : (from : Node) → Contains (arcs_in d n) from → IsFine d split from =
-            (λ from c. fine_below k from (placed.closed n s from c) (let up = placed.rising n s from c in omega (arith, l, up))) in
+        (λ from c. fine_below k from (placed.closed n s from c) (let up = placed.rising n s from c in omega (arith, l, up))) in
         fine_more d split Stands place placed n s before (carried split n s) (near_over n s before)
 
     near : (n : Node) → Stands n → IsNear d split n

@@ -1,6 +1,6 @@
 -- The delays along the arcs of a cone, by the numbers of nodes.
 
-use Rattle.std.specs.Prelude.{ℕ, ◌≡◌, ◌<◌, ℤ, pos, ◌-ℤ◌, Bool, true, false, if◌then◌else◌, List, Contains, Option, None, Some, option_map, option_and_then, position, nat_eq, slice_index}
+use Rattle.std.specs.Prelude.{ℕ, ◌≡◌, ℤ, pos, ◌-ℤ◌, true, false, if◌then◌else◌, List, Contains, Option, None, Some, option_map, option_and_then, position, nat_eq, slice_index}
 use Rattle.std.specs.List.{filter_map}
 use Rattle.timing_defs.specs.declared.kinds.Kind.{Kind}
 use Rattle.timing_defs.specs.declared.kinds.Kind.TheVariants.{Setup, Hold}
@@ -11,8 +11,7 @@ use Rattle.timing_defs.specs.Netlist.{Node, nodes}
 use Rattle.timing_defs.specs.Rows.{arcs_in, row, delay}
 use Rattle.timing_defs.specs.Paths.{arc_delay}
 use Rattle.timing_defs.specs.Tests.{data_split}
-use Rattle.netlist_store.specs.Numbering.{Stored, is_number, IsNumbered}
-use Rattle.netlist_store.specs.Linked.{IsLinked}
+use Rattle.netlist_store.specs.Numbering.{Stored, is_number}
 use Rattle.node_rows.specs.declared.settings.NodeAt.{NodeAt}
 use Rattle.node_rows.specs.declared.settings.Setting.{Setting}
 use Rattle.node_rows.specs.Evaluation.{is_row_within, is_wide_along, IsSetting}

@@ -22,7 +22,11 @@ fn depth(graph: &Graph, node: u32) -> u32
 
 /// Puts nodes of higher levels before those of lower ones.
 #[tactic(auto, using(crate::proofs::Growing::reached_again, crate::proofs::Growing::apart_by))]
-pub(crate) fn sort_by_level(graph: &Graph, ends: &[u32], nodes: &mut IndexSet<u32>) -> Result<(), Memory>
+pub(crate) fn sort_by_level(
+    graph: &Graph,
+    ends: &[u32],
+    nodes: &mut IndexSet<u32>,
+) -> Result<(), Memory>
     requires { AreReached graph.now ends.now nodes.old.keys }
     ensures reached { OnOk result (AreReached graph.now ends.now nodes.new.keys) }
     ensures apart { OnOk result (AreOnce nodes.new.keys) }

@@ -39,7 +39,13 @@ fn walk_arc<A: Rows>(
     ensures { result ≡ walk_arc sources.now.graph.now.stored sources.now.kind nodes.now.keys arc }
 {
     let split = data_split(sources.kind);
-    let delay = delay_along(&sources.setting, sources.graph, sources.arrivals, split, &arc)?;
+    let delay = delay_along(
+        &sources.setting,
+        sources.graph,
+        sources.arrivals,
+        split,
+        &arc,
+    )?;
     let from = nodes.get_index_of(&arc.from)?;
     Some(WalkArc {
         from: from as u32,
