@@ -1,0 +1,10 @@
+mod AfterLaws
+mod BackLaws
+mod CarriedLaws
+mod ClockLaws
+mod ForwardLaws
+mod ListingLaws
+mod PassLaws
+mod SplitLaws
+mod TestLaws
+mod TimeLaws

@@ -1,0 +1,3 @@
+pub mod Leveled
+pub mod Behinds
+pub mod Worked

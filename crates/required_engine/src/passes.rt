@@ -1,0 +1,194 @@
+//! The pass over the levels of a graph, the highest first.
+
+ghost use Rattle.std.specs.Prelude.{ℕ, ◌≡◌, ◌+◌, ◌<◌, ◌≤◌, ◌^◌, ⊤, length, IfOk, IfErr, OnOk};
+ghost use Rattle.level_workers.specs.Mapped.{IsMap};
+ghost use Rattle.pin_graph.specs.Nodes.{node_bound};
+ghost use Rattle.pin_graph.specs.Graphs.{level_at};
+ghost use Rattle.pin_graph.specs.RowTables.{AreBackRows, AreBacksFine, IsRangeFault};
+ghost use Rattle.required_engine.specs.Worked.{AreBacksWithin, AreFound, AreDoneFrom, AreOfLevel, IsAnswer, IsEvaluated};
+ghost use Rattle.required_engine.specs.Leveled.{AreLevels};
+
+use crate::nodes::{empty_back, evaluated};
+use crate::ordering::by_level;
+use crate::tables::lengthen;
+use cow_table::CowTable;
+use level_workers::map_level;
+use netlist_store::Store;
+use node_rows::Wired;
+use pin_graph::Graph;
+use sta_outside::Gate;
+use sta_units::Memory;
+use std::alloc::Global;
+use std::thread::Threads;
+use timing_defs::{BackRow, Fault, Items, Rows};
+
+/// What is found for a node: its required times, or why it has none.
+#[derive(Debug, Drop)]
+pub(crate) struct Evaluated {
+    pub(crate) node: u32,
+    pub(crate) row: Result<BackRow, Fault>,
+}
+
+/// The required times of a node of a level, over those of the higher ones. Nothing is asked of other
+/// numbers.
+fn level_answer<A: Rows + Wired>(
+    alloc: Global,
+    store: &Store,
+    graph: &Graph,
+    arrivals: &A,
+    rows: &CowTable<BackRow>,
+    level: u32,
+    node: u32,
+) -> Result<BackRow, Fault>
+    requires graph { graph.now.stored ≡ store.now }
+    requires found { AreFound store.now (A.rows arrivals.now) (A.wires arrivals.now) (A.ports arrivals.now) }
+    requires done { AreDoneFrom graph.now rows.now (level + 1) }
+    ensures { node < node_bound graph.now.stored → level_at graph.now node ≡ level → IsAnswer graph.now.stored node result }
+{
+    store.laws();
+    graph.laws();
+    if node >= graph.count() {
+        return Ok(empty_back(alloc));
+    }
+    if graph.level(node) != level {
+        return Ok(empty_back(alloc));
+    }
+    evaluated(alloc, store, graph, arrivals, rows, node)
+}
+
+/// What is found for a node of a level.
+fn level_row<A: Rows + Wired>(
+    alloc: Global,
+    store: &Store,
+    graph: &Graph,
+    arrivals: &A,
+    rows: &CowTable<BackRow>,
+    level: u32,
+    node: u32,
+) -> Evaluated
+    requires graph { graph.now.stored ≡ store.now }
+    requires found { AreFound store.now (A.rows arrivals.now) (A.wires arrivals.now) (A.ports arrivals.now) }
+    requires done { AreDoneFrom graph.now rows.now (level + 1) }
+    ensures { IsEvaluated graph.now level node result }
+{
+    let row = level_answer(alloc, store, graph, arrivals, rows, level, node);
+    Evaluated { node, row }
+}
+
+/// What is found for the nodes of a level, by several threads.
+fn level_rows<H: Threads + Sync, A: Rows + Wired + Sync, G: Gate>(
+    rt: &H,
+    alloc: Global,
+    store: &Store,
+    graph: &Graph,
+    arrivals: &A,
+    rows: &CowTable<BackRow>,
+    workers: u32,
+    level: u32,
+    nodes: &[u32],
+    gate: &G,
+) -> Result<Items<Evaluated>, Memory>
+    requires some { 1 ≤ workers }
+    requires most { workers ≤ 32 }
+    requires graph { graph.now.stored ≡ store.now }
+    requires found { AreFound store.now (A.rows arrivals.now) (A.wires arrivals.now) (A.ports arrivals.now) }
+    requires done { AreDoneFrom graph.now rows.now (level + 1) }
+    ensures { IfOk result (IsMap (IsEvaluated graph.now level) nodes.now) }
+{
+    let evaluate = |node: &u32| -> Result<Evaluated, Memory>
+        requires { (graph.now.stored ≡ store.now) × AreFound store.now (A.rows arrivals.now) (A.wires arrivals.now) (A.ports arrivals.now) × AreDoneFrom graph.now rows.now (level + 1) }
+        ensures { IfOk result (IsEvaluated graph.entry.now level node.now) }
+    { Ok(level_row(alloc, store, graph, arrivals, rows, level, *node)) };
+    map_level(rt, alloc, workers, level, nodes, &evaluate, gate)
+}
+
+/// Writes the rows of the nodes of a level.
+fn put_rows(
+    graph: &Graph,
+    rows: &mut CowTable<BackRow>,
+    level: u32,
+    nodes: &[u32],
+    found: Vec<Evaluated>,
+) -> Result<(), Fault>
+    requires nodes { AreOfLevel graph.now level nodes.now }
+    requires found { IsMap (IsEvaluated graph.now level) nodes.now found.items }
+    requires done { AreDoneFrom graph.now rows.old (level + 1) }
+    ensures done { OnOk result (AreDoneFrom graph.now rows.new level) }
+    ensures err { IfErr result (IsRangeFault graph.now.stored.design) }
+{
+    // The graph, the level and its nodes are asked for by the contract alone.
+    let _ = graph;
+    let _ = level;
+    let _ = nodes;
+    for evaluated in found {
+        let Evaluated { node, row } = evaluated;
+        rows.set(node as usize, row?)?;
+    }
+    Ok(())
+}
+
+/// Evaluates the nodes of each level in turn, from the highest down, over the rows of the higher ones.
+fn all_levels<H: Threads + Sync, A: Rows + Wired + Sync, G: Gate>(
+    rt: &H,
+    alloc: Global,
+    store: &Store,
+    graph: &Graph,
+    arrivals: &A,
+    rows: &mut CowTable<BackRow>,
+    workers: u32,
+    levels: &[Items<u32>],
+    gate: &G,
+) -> Result<(), Fault>
+    requires some { 1 ≤ workers }
+    requires most { workers ≤ 32 }
+    requires graph { graph.now.stored ≡ store.now }
+    requires found { AreFound store.now (A.rows arrivals.now) (A.wires arrivals.now) (A.ports arrivals.now) }
+    requires levels { AreLevels graph.now levels.now }
+    requires few { length levels.now ≤ 2 ^ 32 }
+    requires rows { length rows.old ≡ node_bound graph.now.stored }
+    ensures done { OnOk result (AreDoneFrom graph.now rows.new 0) }
+    ensures err { IfErr result (IsRangeFault graph.now.stored.design) }
+{
+    let mut left = levels.len();
+    while left > 0 {
+        left -= 1;
+        let level = left as u32;
+        let nodes = levels[left].as_slice();
+        let found = level_rows(
+            rt, alloc, store, graph, arrivals, rows, workers, level, nodes, gate,
+        )?;
+        put_rows(graph, rows, level, nodes, found.into_vec())?;
+    }
+    Ok(())
+}
+
+/// The required times of all nodes, from nothing.
+pub(crate) fn full_rows<H: Threads + Sync, A: Rows + Wired + Sync, G: Gate>(
+    rt: &H,
+    alloc: Global,
+    store: &Store,
+    graph: &Graph,
+    arrivals: &A,
+    workers: u32,
+    gate: &G,
+) -> Result<CowTable<BackRow>, Fault>
+    requires some { 1 ≤ workers }
+    requires most { workers ≤ 32 }
+    requires graph { graph.now.stored ≡ store.now }
+    requires found { AreFound store.now (A.rows arrivals.now) (A.wires arrivals.now) (A.ports arrivals.now) }
+    ensures rows { IfOk result (AreBackRows store.now) }
+    ensures fine { OnOk result (AreBacksFine store.now.design) }
+    ensures within { IfOk result AreBacksWithin }
+    ensures err { IfErr result (IsRangeFault store.now.design) }
+{
+    store.laws();
+    graph.laws();
+    let levels = by_level(alloc, graph)?;
+    let mut rows = CowTable::new(alloc);
+    lengthen(alloc, &mut rows, graph.count() as usize)?;
+    let nodes = levels.as_slice();
+    all_levels(
+        rt, alloc, store, graph, arrivals, &mut rows, workers, nodes, gate,
+    )?;
+    Ok(rows)
+}
