@@ -1,0 +1,86 @@
+-- The offers of a list of nodes, node by node.
+
+use Rattle.std.proofs.Common.{◌≡◌, ℕ, ◌+◌, ◌<◌, ◌≤◌, ℤ, List, [], ◌∷◌, ◌++◌, length, Option, None, Some, refl, sym, ap, subst, ◌∙◌, inl, inr, arith}
+use Rattle.std.specs.Prelude.{Contains, slice_index}
+use Rattle.std.proofs.lemmas.Bool.{cases_eq}
+use Rattle.std.proofs.lemmas.List.Elements.{Contains-append_left, Contains-append_right, Contains-append_cases}
+use Rattle.timing_defs.specs.declared.kinds.Tran.{Tran}
+use Rattle.timing_defs.specs.declared.kinds.Kind.{Kind}
+use Rattle.timing_defs.specs.Netlist.{Node}
+use Rattle.timing_defs.specs.Tests.{data_split}
+use Rattle.timing_defs.specs.Paths.{named}
+use Rattle.netlist_store.specs.Numbering.{Stored}
+use Rattle.pin_graph.specs.Nodes.{node_at}
+use Rattle.pin_graph.proofs.Members.{none_in, in_cases}
+use Rattle.worst_walks.specs.declared.cones.Launch.{Launch}
+use Rattle.path_search.specs.Launches.{IsLaunched, launch_slacks}
+use Rattle.path_search.specs.Offers.{IsOfferAt, AreOffers}
+use Rattle.path_search.specs.Slacks.{IsOfferOf, put_offer}
+
+-- the offers of the first nodes of a list, for the end node of a number
+pub record AreOffersUpTo (s : Stored) (kind : Kind) (nodes : List ℕ) (end : ℕ) (launches : List Launch) (done : ℕ) : Type 0 where
+  pub few : length launches ≤ done
+  pub sound : (node : Node) → node_at s end ≡ Some node → (launch : Launch) → Contains launches launch → IsOfferAt s kind nodes (named node) launch
+  pub all : (endnode : Node) → node_at s end ≡ Some endnode → (place : ℕ) (node : Node) → place < done → node_at s (slice_index nodes place) ≡ Some node
+      → (edge : ℕ × Tran) (time : ℤ) → IsLaunched s.design (data_split kind) edge (named node) time
+      → (launch_slacks s.design kind (named node) edge time (named endnode) ≡ [] → ⊥)
+      → (offer : ℤ) × Contains launches (record { node = place; offer = offer })
+
+pub offers_start : (s : Stored) (kind : Kind) (nodes : List ℕ) (end : ℕ) → AreOffersUpTo s kind nodes end [] 0
+offers_start s kind nodes end = record {
+  few = omega arith;
+  sound = λ node e launch c. absurd (none_in launch c);
+  all = λ endnode e place node low at edge time l some. absurd (omega (arith, low));
+}
+
+one_length : (xs : List Launch) (place : ℕ) (o : Option ℤ) → length (xs ++ put_offer place o) ≤ length xs + 1
+one_length [] place None = omega arith
+one_length [] place (Some x) = omega arith
+one_length (y ∷ ys) place o = (let r = one_length ys place o in omega (arith, r))
+
+module _ (s : Stored) (kind : Kind) (nodes : List ℕ) (end : ℕ) (launches more : List Launch) (place : ℕ) (had : AreOffersUpTo s kind nodes end launches place) (low : place < length nodes)
+    (offer : Option ℤ) (is : IsOfferOf s kind (slice_index nodes place) end offer) (put : more ≡ launches ++ put_offer place offer) where
+  new_sound : (o : Option ℤ) → IsOfferOf s kind (slice_index nodes place) end o → (node : Node) → node_at s end ≡ Some node → (launch : Launch) → Contains (put_offer place o) launch
+      → IsOfferAt s kind nodes (named node) launch
+  new_sound None k node e launch c = absurd (none_in launch c)
+  new_sound (Some x) k node e launch c = elim (in_cases (record { node = place; offer = x }) [] launch c) [
+    | inr none ↦ absurd (none_in launch none)
+    | inl same ↦
+        let r = k node e in
+        subst (λ (l : Launch). IsOfferAt s kind nodes (named node) l) same (record { low = low; node = r.0; its = r.1; offer = r.2; bounded = r.3 })
+  ]
+
+  new_all : (o : Option ℤ) → IsOfferOf s kind (slice_index nodes place) end o → (endnode : Node) → node_at s end ≡ Some endnode → (node : Node)
+      → node_at s (slice_index nodes place) ≡ Some node → (edge : ℕ × Tran) (time : ℤ) → IsLaunched s.design (data_split kind) edge (named node) time
+      → (launch_slacks s.design kind (named node) edge time (named endnode) ≡ [] → ⊥) → (x : ℤ) × Contains (put_offer place o) (record { node = place; offer = x })
+  new_all None k endnode e node at edge time l some = absurd (some (k endnode e node at edge time l))
+  new_all (Some x) k endnode e node at edge time l some = (x, (0, omega arith, refl))
+
+  pub offers_more : AreOffersUpTo s kind nodes end more (place + 1)
+  offers_more = subst (λ (xs : List Launch). AreOffersUpTo s kind nodes end xs (place + 1)) (sym put) (record {
+    few = (let a = had.few in let b = one_length launches place offer in omega (arith, a, b));
+    sound = λ node e launch c. elim (Contains-append_cases launches (put_offer place offer) launch c) [
+      | inl d ↦ had.sound node e launch d
+      | inr d ↦ new_sound offer is node e launch d
+    ];
+    all = λ endnode e at node below its edge time l some. elim (cases_eq at place) [
+      | inl same ↦
+          let k = ap (λ (i : ℕ). node_at s (slice_index nodes i)) (sym same) ∙ its in
+          let r = new_all offer is endnode e node k edge time l some in (
+            r.0,
+            Contains-append_right launches (put_offer place offer) (record { node = at; offer = r.0 })
+                (subst (λ (i : ℕ). Contains (put_offer place offer) (record { node = i; offer = r.0 })) (sym same) r.1),
+          )
+      | inr other ↦
+          let r = had.all endnode e at node (omega (arith, below, other)) its edge time l some in
+          (r.0, Contains-append_left launches (put_offer place offer) (record { node = at; offer = r.0 }) r.1)
+    ];
+  })
+
+pub offers_done : (s : Stored) (kind : Kind) (nodes : List ℕ) (end : ℕ) (launches : List Launch) (done : ℕ) → AreOffersUpTo s kind nodes end launches done → done ≡ length nodes
+    → (node : Node) → node_at s end ≡ Some node → AreOffers s kind nodes (named node) launches
+offers_done s kind nodes end launches done had all node e = record {
+  few = (let a = had.few in omega (arith, a, all));
+  sound = had.sound node e;
+  all = λ place n low. had.all node e place n (omega (arith, low, all));
+}

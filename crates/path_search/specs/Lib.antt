@@ -1,0 +1,10 @@
+pub mod Counts
+pub mod Launches
+pub mod Offers
+pub mod PinCones
+pub mod Ranks
+pub mod Runs
+pub mod Slacks
+pub mod Sources
+pub mod Trees
+pub mod WalkTimes

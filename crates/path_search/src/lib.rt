@@ -1,0 +1,27 @@
+//! The worst path to an endpoint.
+//!
+//! The fan-in of the endpoint's two nodes is a cone (`cones`), with what each of its nodes offers as the
+//! launch of paths to an end node (`offers`): the least slack by a test of the end node (`ends`,
+//! `test_slacks`), less the delays after the launch node (`launches`). Credits are found in the clock tree
+//! (`trees`). The worst walk of the cone is found in the order of the names of pins (`orders`), and a
+//! path is read off it (`shown`), by the test that counts (`counted`).
+#![tactic(auto)]
+
+mod cones;
+mod counted;
+mod edges;
+mod ends;
+mod launches;
+mod names;
+mod offers;
+mod orders;
+mod searching;
+mod shown;
+mod sources;
+mod sums;
+mod test_slacks;
+mod trees;
+
+pub use edges::LaunchEdge;
+pub use searching::{worst_path, worst_slack};
+pub use trees::clock_tree;

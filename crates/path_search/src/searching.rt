@@ -1,0 +1,259 @@
+//! The worst path to an endpoint, and its slack.
+
+ghost use Rattle.std.specs.Prelude.{◌≡◌, Contains, Some, None, option_map, IfOk};
+ghost use Rattle.timing_defs.specs.Checks.{IsSound};
+ghost use Rattle.timing_defs.specs.Range.{NoOrigin};
+ghost use Rattle.timing_defs.specs.Reports.{endpoints};
+ghost use Rattle.timing_defs.specs.Paths.{IsSlack, IsShown};
+ghost use Rattle.node_rows.specs.PortTables.{ArePorts};
+ghost use Rattle.node_rows.specs.WireTables.{AreWires};
+ghost use Rattle.pin_graph.specs.RowTables.{AreRows};
+ghost use Rattle.path_search.specs.Sources.{AreSources};
+ghost use Rattle.path_search.specs.Trees.{IsClockTree};
+ghost use Rattle.worst_walks.specs.Walks.{IsLeastSlack, IsWorst};
+ghost use Rattle.path_search.specs.Ranks.{place_rank, places_before};
+ghost use Rattle.path_search.specs.PinCones.{IsPinCone, IsSearchFine, IsWalkPath};
+
+use crate::cones::{PinCone, pin_cone};
+use crate::orders::ByName;
+use crate::shown::path_of;
+use crate::sources::Sources;
+use netlist_store::Store;
+use node_rows::Wired;
+use pessimism_credit::ClockTree;
+use pin_graph::Graph;
+use sta_units::{Fs, Memory};
+use std::alloc::Global;
+use timing_defs::{Kind, Name, Path, Rows};
+use worst_walks::{Walk, least_slack, worst_walk};
+
+/// What a search of a pin's cone asks for; the call does nothing.
+fn search_laws(store: &Store, graph: &Graph, kind: Kind, endpoint: &Name, search: &PinCone)
+    requires graph { graph.now.stored ≡ store.now }
+    requires search { IsPinCone graph.now kind endpoint.now search.now }
+    ensures { IsSearchFine store.now graph.now search.now }
+{
+    store.laws();
+    graph.laws();
+    let _ = kind;
+    let _ = endpoint;
+    let _ = search;
+}
+
+/// That the least slack of the walks of a cone is the pin's; the call does nothing.
+fn slack_law(
+    store: &Store,
+    graph: &Graph,
+    kind: Kind,
+    endpoint: &Name,
+    search: &PinCone,
+    slack: Option<i64>,
+)
+    requires graph { graph.now.stored ≡ store.now }
+    requires search { IsPinCone graph.now kind endpoint.now search.now }
+    requires slack { IsLeastSlack search.now.cone slack }
+    ensures { IsSlack store.now.design kind endpoint.now slack }
+{
+    store.laws();
+    graph.laws();
+    let _ = kind;
+    let _ = endpoint;
+    let _ = search;
+    let _ = slack;
+}
+
+/// A slack in fs.
+fn in_fs(slack: Option<i64>) -> Option<Fs>
+    ensures { option_map (λ s. s.0) result ≡ slack }
+{
+    match slack {
+        Some(least) => Some(Fs(least)),
+        None => None,
+    }
+}
+
+/// The least slack of the walks of a cone.
+fn slack_in(
+    alloc: Global,
+    store: &Store,
+    graph: &Graph,
+    kind: Kind,
+    endpoint: &Name,
+    search: &PinCone,
+) -> Result<Option<Fs>, Memory>
+    requires graph { graph.now.stored ≡ store.now }
+    requires search { IsPinCone graph.now kind endpoint.now search.now }
+    ensures { IfOk result (λ slack. IsSlack store.now.design kind endpoint.now (option_map (λ s. s.0) slack)) }
+{
+    search_laws(store, graph, kind, endpoint, search);
+    let slack = least_slack(alloc, &search.cone)?;
+    slack_law(store, graph, kind, endpoint, search, slack);
+    Ok(in_fs(slack))
+}
+
+/// The worst walk of a cone, in the order of the names of pins.
+fn worst_in(
+    alloc: Global,
+    store: &Store,
+    graph: &Graph,
+    kind: Kind,
+    endpoint: &Name,
+    search: &PinCone,
+) -> Result<Option<Walk>, Memory>
+    requires graph { graph.now.stored ≡ store.now }
+    requires search { IsPinCone graph.now kind endpoint.now search.now }
+    ensures { IfOk result (IsWorst (place_rank store.now search.now.nodes) (places_before graph.now search.now.nodes) search.now.cone) }
+{
+    search_laws(store, graph, kind, endpoint, search);
+    let order = ByName {
+        store,
+        graph,
+        nodes: search.nodes.as_slice(),
+    };
+    worst_walk(alloc, &search.cone, &order)
+}
+
+/// That the path of a cone's worst walk is shown; the call does nothing.
+fn shown_law(
+    store: &Store,
+    graph: &Graph,
+    kind: Kind,
+    endpoint: &Name,
+    search: &PinCone,
+    worst: &Walk,
+    path: &Path,
+)
+    requires graph { graph.now.stored ≡ store.now }
+    requires search { IsPinCone graph.now kind endpoint.now search.now }
+    requires worst { IsWorst (place_rank store.now search.now.nodes) (places_before graph.now search.now.nodes) search.now.cone (Some worst.now) }
+    requires path { IsWalkPath graph.now kind endpoint.now search.now worst.now path.now }
+    ensures { IsShown store.now.design kind endpoint.now (Some path.now) }
+{
+    store.laws();
+    graph.laws();
+    let _ = kind;
+    let _ = endpoint;
+    let _ = search;
+    let _ = worst;
+    let _ = path;
+}
+
+/// That no path is shown where a cone has no walk; the call does nothing.
+fn none_law(store: &Store, graph: &Graph, kind: Kind, endpoint: &Name, search: &PinCone)
+    requires graph { graph.now.stored ≡ store.now }
+    requires search { IsPinCone graph.now kind endpoint.now search.now }
+    requires none { IsWorst (place_rank store.now search.now.nodes) (places_before graph.now search.now.nodes) search.now.cone None }
+    ensures { IsShown store.now.design kind endpoint.now None }
+{
+    store.laws();
+    graph.laws();
+    let _ = kind;
+    let _ = endpoint;
+    let _ = search;
+}
+
+/// The path that is shown of a cone's worst walk.
+fn shown_in<A: Rows + Wired>(
+    alloc: Global,
+    sources: &Sources<'_, A>,
+    endpoint: &Name,
+    search: &PinCone,
+) -> Result<Option<Path>, Memory>
+    requires sources { AreSources sources.now.store.now sources.now.graph.now (A.rows sources.now.arrivals.now) (A.wires sources.now.arrivals.now) (A.ports sources.now.arrivals.now) sources.now.tree.now }
+    requires search { IsPinCone sources.now.graph.now sources.now.kind endpoint.now search.now }
+    ensures { IfOk result (IsShown sources.now.store.now.design sources.now.kind endpoint.now) }
+{
+    match worst_in(
+        alloc,
+        sources.store,
+        sources.graph,
+        sources.kind,
+        endpoint,
+        search,
+    )? {
+        None => {
+            none_law(sources.store, sources.graph, sources.kind, endpoint, search);
+            Ok(None)
+        }
+        Some(walk) => {
+            let path = path_of(alloc, sources, endpoint, search, &walk)?;
+            shown_law(
+                sources.store,
+                sources.graph,
+                sources.kind,
+                endpoint,
+                search,
+                &walk,
+                &path,
+            );
+            Ok(Some(path))
+        }
+    }
+}
+
+/// The slack of an endpoint for a kind of tests, in fs: the least over all paths to it that are tested;
+/// none where there is no such path. Takes the time of the arcs of the endpoint's fan-in and of sorting
+/// its nodes, and of its launches times the tests of the endpoint. The one error is want of memory.
+pub fn worst_slack<A: Rows + Wired>(
+    alloc: Global,
+    store: &Store,
+    graph: &Graph,
+    arrivals: &A,
+    tree: &ClockTree,
+    endpoint: &Name,
+    kind: Kind,
+) -> Result<Option<Fs>, Memory>
+    requires graph { graph.now.stored ≡ store.now }
+    requires sound { IsSound store.now.design }
+    requires none { NoOrigin store.now.design }
+    requires rows { AreRows store.now (A.rows arrivals.now) }
+    requires wires { AreWires store.now (A.wires arrivals.now) }
+    requires ports { ArePorts store.now.design.constraints (A.ports arrivals.now) }
+    requires tree { IsClockTree graph.now tree.now }
+    requires endpoint { Contains (endpoints store.now.design) endpoint.now }
+    ensures { IfOk result (λ slack. IsSlack store.now.design kind endpoint.now (option_map (λ s. s.0) slack)) }
+{
+    let sources = Sources {
+        store,
+        graph,
+        arrivals,
+        tree,
+        kind,
+    };
+    let search = pin_cone(alloc, &sources, endpoint)?;
+    slack_in(alloc, store, graph, kind, endpoint, &search)
+}
+
+/// The worst path to an endpoint for a kind of tests: of least slack over all paths to it that are
+/// tested, and of those the first by its nodes; none where there is no such path. Times, slack and credit
+/// are in fs. Takes the time of `worst_slack`, and a list of the nodes of a path for each launch of least
+/// slack. The one error is want of memory.
+pub fn worst_path<A: Rows + Wired>(
+    alloc: Global,
+    store: &Store,
+    graph: &Graph,
+    arrivals: &A,
+    tree: &ClockTree,
+    endpoint: &Name,
+    kind: Kind,
+) -> Result<Option<Path>, Memory>
+    requires graph { graph.now.stored ≡ store.now }
+    requires sound { IsSound store.now.design }
+    requires none { NoOrigin store.now.design }
+    requires rows { AreRows store.now (A.rows arrivals.now) }
+    requires wires { AreWires store.now (A.wires arrivals.now) }
+    requires ports { ArePorts store.now.design.constraints (A.ports arrivals.now) }
+    requires tree { IsClockTree graph.now tree.now }
+    requires endpoint { Contains (endpoints store.now.design) endpoint.now }
+    ensures { IfOk result (IsShown store.now.design kind endpoint.now) }
+{
+    let sources = Sources {
+        store,
+        graph,
+        arrivals,
+        tree,
+        kind,
+    };
+    let search = pin_cone(alloc, &sources, endpoint)?;
+    shown_in(alloc, &sources, endpoint, &search)
+}
