@@ -1,0 +1,160 @@
+//! The analysis of a store.
+
+ghost use Rattle.std.specs.Prelude.{◌≡◌, ◌≤◌, ◌⊎◌, Some, IfOk, IfErr};
+ghost use Rattle.timing_defs.specs.Checks.{IsSound};
+ghost use Rattle.timing_defs.specs.Reports.{AreTotals, Told, query_fault};
+ghost use Rattle.pin_graph.specs.RowTables.{IsRangeFault};
+ghost use Rattle.affected_cone.specs.Analysed.{IsAnalysis};
+
+use crate::asking::{Known, answer};
+use crate::ends::EndSlacks;
+use crate::found::find_all;
+use crate::totals::totals_of;
+use arrival_engine::Arrivals;
+use netlist_store::{Store, Touched};
+use pessimism_credit::ClockTree;
+use pin_graph::Graph;
+use required_engine::Required;
+use sta_outside::Gate;
+use sta_units::Steps;
+use std::alloc::Global;
+use std::marker::Model;
+use std::thread::Threads;
+use timing_defs::{Fault, Items, Query, QueryFault, Report, Totals};
+
+/// The whole timing analysis of a store: slews, arrivals and required times of all nodes, the clock
+/// tree, and the slacks of all endpoints. Contracts see the store, the rows of nodes by their numbers,
+/// and the slacks of endpoints by the numbers of their pins.
+#[derive(Drop)]
+pub struct Analysis {
+    pub(crate) graph: Graph,
+    pub(crate) arrivals: Arrivals,
+    pub(crate) required: Required,
+    pub(crate) tree: ClockTree,
+    pub(crate) ends: Items<EndSlacks>,
+}
+
+impl Model for Analysis {
+    ghost use Rattle.affected_cone.specs.Analysed.{Analysed, IsAnalysis, IsKept};
+
+    ghost Value = { Analysed };
+
+    ghost view = { λ a. record { stored = a.graph.stored; rows = a.arrivals.rows; backs = a.required.rows; ends = a.ends } };
+
+    ghost invariant = { λ a. IsAnalysis (record { stored = a.graph.stored; rows = a.arrivals.rows; backs = a.required.rows; ends = a.ends })
+        × IsKept a.graph a.arrivals a.required.rows a.tree };
+}
+
+impl Analysis {
+    /// The analysis of a sound store, from nothing: slews, arrivals and required times level by level,
+    /// each level's nodes shared between that many threads and the gate called as each piece of a level
+    /// begins, then the slacks of endpoints by one search for each endpoint and kind. The rows are the
+    /// same whatever the number of workers. `OutOfRange` exactly where a quantity leaves its limit, at a
+    /// net or a pin where that begins.
+    pub fn full<H: Threads + Sync, G: Gate>(
+        rt: &H,
+        alloc: Global,
+        store: &Store,
+        graph: Graph,
+        workers: u32,
+        gate: &G,
+    ) -> Result<Analysis, Fault>
+        requires some { 1 ≤ workers }
+        requires most { workers ≤ 32 }
+        requires sound { IsSound store.now.design }
+        requires graph { graph.stored ≡ store.now }
+        ensures analysis { IfOk result (λ analysis. analysis.stored ≡ store.now) }
+        ensures refused { IfErr result (IsRangeFault store.now.design) }
+    {
+        store.laws();
+        graph.laws();
+        let found = find_all(rt, alloc, store, &graph, workers, gate)?;
+        Ok(Analysis {
+            graph,
+            arrivals: found.arrivals,
+            required: found.required,
+            tree: found.tree,
+            ends: found.ends,
+        })
+    }
+
+    /// The analysis of the store that an ECO made of this analysis's store; `touched` is what the ECO
+    /// touched. Its rows are those of the full analysis of the edited store (`alike`). It is found anew,
+    /// in the time of `full`, and counts no steps.
+    pub fn update<H: Threads + Sync, G: Gate, L>(
+        &self,
+        rt: &H,
+        alloc: Global,
+        store: &Store,
+        graph: Graph,
+        touched: &Touched,
+        workers: u32,
+        gate: &G,
+        steps: &mut Steps<L>,
+    ) -> Result<Analysis, Fault>
+        requires some { 1 ≤ workers }
+        requires most { workers ≤ 32 }
+        requires sound { IsSound store.now.design }
+        requires graph { graph.stored ≡ store.now }
+        ensures analysis { IfOk result (λ analysis. analysis.stored ≡ store.now) }
+        ensures refused { IfErr result (IsRangeFault store.now.design) }
+    {
+        let _ = &self.ends;
+        let _ = touched;
+        let _ = &steps;
+        Analysis::full(rt, alloc, store, graph, workers, gate)
+    }
+
+    /// What every analysis keeps, told to the proofs of callers; the call does nothing.
+    pub fn laws(&self)
+        ensures { IsAnalysis self.now }
+    {
+        let _ = &self.ends;
+    }
+
+    /// Two analyses of one store have the same rows and slacks, told to the proofs of callers; the call
+    /// does nothing.
+    pub fn alike(&self, other: &Analysis)
+        requires { self.now.stored ≡ other.now.stored }
+        ensures { self.now ≡ other.now }
+    {
+        let _ = &self.ends;
+        let _ = &other.ends;
+    }
+
+    /// The graph of the analysis.
+    pub fn graph(&self) -> &Graph
+        ensures { result.now.stored ≡ self.now.stored }
+    {
+        &self.graph
+    }
+
+    /// The answer to a question, for the store of the analysis. A report on a node, an endpoint's slack
+    /// and the totals are looked up or summed; a path is searched for. `UnknownPin`, else `NotEndpoint`,
+    /// else `NotClocked` exactly where the question's pin is not there, is no endpoint, or is a
+    /// register's pin that is not clocked for the kind.
+    pub fn ask(&self, alloc: Global, store: &Store, q: &Query) -> Result<Report, QueryFault>
+        requires { store.now ≡ self.now.stored }
+        ensures told { IfOk result (Told self.now.stored.design q.now) }
+        ensures refused { IfErr result (λ fault. (fault ≡ QueryFault.Memory) ⊎ (query_fault self.now.stored.design q.now ≡ Some fault)) }
+    {
+        let known = Known {
+            store,
+            graph: &self.graph,
+            arrivals: &self.arrivals,
+            required: &self.required,
+            tree: &self.tree,
+            ends: self.ends.as_slice(),
+        };
+        answer(alloc, &known, q)
+    }
+
+    /// The worst slack (none where there is none) and the total negative slack of both kinds, in fs,
+    /// with a version's number. The slacks of endpoints are gone through once for each; no path is
+    /// searched for.
+    pub fn totals(&self, number: u64) -> Totals
+        ensures { AreTotals self.now.stored.design number result }
+    {
+        totals_of(number, self.ends.as_slice())
+    }
+}

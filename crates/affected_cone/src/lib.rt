@@ -1,0 +1,19 @@
+//! The whole timing analysis of a sound design, and the answer to every question about it.
+//!
+//! An analysis holds the slews, arrivals and required times of all nodes, the clock tree, and the slacks
+//! of all endpoints (`analyses`). The slacks of endpoints are found once, by one search for each kind
+//! (`ends`); sums over them (`totals`), the worst of them (`ranking`) and the slack of one (`asking`) are
+//! looked up. A path alone is searched for when it is asked.
+#![tactic(auto)]
+
+mod analyses;
+mod asked;
+mod asking;
+mod ends;
+mod found;
+mod graph_slacks;
+mod ranking;
+mod totals;
+
+pub use analyses::Analysis;
+pub use ends::EndSlacks;
