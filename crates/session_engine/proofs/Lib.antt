@@ -1,1 +1,3 @@
-mod SoundLaws
+pub mod JournalLaws
+pub mod SoundLaws
+pub mod VersionLaws

@@ -1,6 +1,21 @@
-//! Versions of a design: a store that is sound, with its timing graph.
+//! Versions of a design: an origin, a journal of accepted ECOs, the store after them and its analysis.
+//!
+//! `Version::first` makes the version of a store, and `prepare` the next one of an ECO; a version never
+//! changes, so questions of a `Snapshot` are answered while others prepare. The checks of a whole design
+//! are in `soundness`, for a store and for one that an ECO made; each is followed by the analysis in
+//! `analysing`. `histories` keeps where a version comes from.
 #![tactic(auto)]
 
+mod analysing;
+mod histories;
+mod owners;
+mod preparing;
+mod sharing;
+mod snapshots;
 mod soundness;
+mod versions;
 
+pub use preparing::{exclusion, prepare};
+pub use snapshots::Snapshot;
 pub use soundness::sound_graph;
+pub use versions::Version;

@@ -1,0 +1,108 @@
+-- What is accepted is not refused, and versions that an accepted ECO makes.
+
+use Rattle.std.proofs.Common.{◌≡◌, ℕ, ◌+◌, ◌^◌, ◌<◌, ◌≤◌, List, [], ◌∷◌, ◌++◌, length, true, Result, Ok, Err, refl, sym, ap, subst, arith, ◌∙◌, inl, inr}
+use Rattle.std.specs.Prelude.{◌⊎◌}
+use Rattle.timing_defs.specs.declared.design.Design.{Design}
+use Rattle.timing_defs.specs.declared.edits.Eco.{Eco}
+use Rattle.timing_defs.specs.declared.edits.Entry.{Entry}
+use Rattle.timing_defs.specs.declared.faults.Fault.{Fault}
+use Rattle.timing_defs.specs.Documents.{is_eco}
+use Rattle.timing_defs.specs.Edits.{edited}
+use Rattle.timing_defs.specs.Checks.{Accepts, Refuses, Faulty, IsSound}
+use Rattle.timing_defs.specs.Sessions.{DesignAfter}
+use Rattle.netlist_store.specs.Numbering.{Stored}
+use Rattle.netlist_store.specs.Linked.{IsLinked, IsSized}
+use Rattle.design_link.specs.After.{IsMadeOf}
+use Rattle.affected_cone.specs.Analysed.{Analysed, IsAnalysis}
+use Rattle.session_engine.specs.Soundness.{IsFaultless, IsSoundEdit}
+use Rattle.session_engine.specs.Versions.{Versioned, IsVersion, version_of, entry_of, IsNext}
+use Rattle.session_engine.proofs.SoundLaws.{sound_faultless, sound_sized}
+use Rattle.session_engine.proofs.JournalLaws.{length_end, all_end, after_entry}
+
+ok_is : (r : Result Design Fault) (a b : Design) → r ≡ Ok a → r ≡ Ok b → a ≡ b
+ok_is r a b p q = cc
+
+ok_err : (r : Result Design Fault) (a : Design) (x : Fault) → r ≡ Ok a → r ≡ Err x → ⊥
+ok_err r a x p q = cc
+
+-- an ECO is accepted with one design
+pub accepted_once : (d : Design) (eco : Eco) (a b : Design) → Accepts d eco a → Accepts d eco b → a ≡ b
+accepted_once d eco a b p q = ok_is (edited d eco) a b p.0 q.0
+
+-- and what is accepted is not refused
+pub not_both : (d : Design) (eco : Eco) (a : Design) → Accepts d eco a → (x : Fault) → Refuses d eco x → ⊥
+not_both d eco a p x (inl e) = ok_err (edited d eco) a x p.0 e
+not_both d eco a p x (inr r) = p.1 x (subst (λ b. Faulty b x) (ok_is (edited d eco) r.0 a r.1 p.0) r.2)
+
+-- the design of a version is sound, and nothing stands in it
+module _ (v : Versioned) (is : IsVersion v) where
+  pub version_sound : IsSound v.stored.design
+  version_sound = subst (λ (s : Stored). IsSound s.design) is.analysed is.analysis.sound
+
+  pub version_sized : IsSized v.stored.design
+  version_sized = sound_sized v.stored.design version_sound
+
+  pub version_edit : (eco : Eco) (nets : List (List ℕ)) (d : Design) → IsMadeOf v.stored.design eco nets d → IsSoundEdit nets d
+  version_edit eco nets d made = record { base = v.stored.design; eco = eco; made = made; sound = version_sound }
+
+-- an ECO whose design is analysed is accepted
+pub analysed_accepted : (base : Design) (eco : Eco) (nets : List (List ℕ)) (stored : Stored) (a : Analysed)
+    → IsMadeOf base eco nets stored.design → a.stored ≡ stored → IsAnalysis a → Accepts base eco stored.design
+analysed_accepted base eco nets stored a made same analysis =
+    (made.made, subst (λ (s : Stored). IsFaultless s.design) same (sound_faultless a.stored.design analysis.sound analysis.fine))
+
+-- the version without entries
+pub first_version : (first : ℕ) (stored : Stored) (analysed : Analysed) → first ≤ 2 ^ 62 → analysed.stored ≡ stored → IsAnalysis analysed
+    → (number : ℕ) (origin : Stored) (journal : List Entry) → number ≡ first → origin ≡ stored → journal ≡ []
+    → IsVersion (version_of number origin.design journal stored analysed)
+first_version first stored analysed low same analysis number origin journal here there none =
+    record {
+      first = subst (λ n. n ≤ 2 ^ 62) (sym here) low;
+      number = refl;
+      many = rw none (omega arith);
+      origin = subst (λ (s : Stored). IsFaultless s.design) (same ∙ sym there) (sound_faultless analysed.stored.design analysis.sound analysis.fine);
+      accepted = subst (λ (es : List Entry). DesignAfter origin.design es (length es) stored.design) (sym none) (ap (λ (s : Stored). s.design) (sym there));
+      ecos = rw none refl;
+      analysed = same;
+      analysis = analysis;
+    }
+
+-- the version with one entry more
+module _ (v : Versioned) (is : IsVersion v) (who : ℕ) (eco : Eco) (is_kept : is_eco eco ≡ true) where
+  pub next_version : (stored : Stored) (analysed : Analysed) → Accepts v.stored.design eco stored.design → analysed.stored ≡ stored → IsAnalysis analysed
+      → length v.journal < 2 ^ 62 → (number : ℕ) (origin : Stored) (journal : List Entry)
+      → number ≡ v.first → origin.design ≡ v.origin → journal ≡ v.journal ++ entry_of who eco ∷ []
+      → IsVersion (version_of number origin.design journal stored analysed)
+  next_version stored analysed accepts same analysis few number origin journal here there grown =
+      record {
+        first = subst (λ n. n ≤ 2 ^ 62) (sym here) is.first;
+        number = refl;
+        many = subst (λ n. n ≤ 2 ^ 62) (sym (ap (λ (es : List Entry). length es) grown ∙ length_end v.journal (entry_of who eco))) (omega arith);
+        origin = subst IsFaultless (sym there) is.origin;
+        accepted =
+            subst (λ (d : Design). DesignAfter d journal (length journal) stored.design) (sym there)
+            (subst (λ (es : List Entry). DesignAfter v.origin es (length es) stored.design) (sym grown)
+            (after_entry v.origin v.journal (entry_of who eco) v.stored.design stored.design is.accepted accepts));
+        ecos = rw grown (all_end (λ (entry : Entry). is_eco entry.eco) v.journal (entry_of who eco) is.ecos is_kept);
+        analysed = same;
+        analysis = analysis;
+      }
+
+  next_number : (number : ℕ) (journal : List Entry) → number ≡ v.first → journal ≡ v.journal ++ entry_of who eco ∷ [] → number + length journal ≡ v.number + 1
+  next_number number journal here grown =
+      let e : length journal ≡ length v.journal + 1 = ap (λ (es : List Entry). length es) grown ∙ length_end v.journal (entry_of who eco) ∙ omega arith in
+      omega (arith, e, here, is.number)
+
+  pub is_next : (stored : Stored) (analysed : Analysed) → Accepts v.stored.design eco stored.design
+      → (number : ℕ) (origin : Stored) (journal : List Entry)
+      → number ≡ v.first → origin.design ≡ v.origin → journal ≡ v.journal ++ entry_of who eco ∷ []
+      → (next : Versioned) → next ≡ version_of number origin.design journal stored analysed → IsNext v who eco next
+  is_next stored analysed accepts number origin journal here there grown next same =
+      subst (IsNext v who eco) (sym same)
+      (record {
+        first = here;
+        number = next_number number journal here grown;
+        origin = there;
+        journal = grown;
+        accepts = accepts;
+      })

@@ -1,0 +1,61 @@
+//! Questions of a version.
+
+ghost use Rattle.std.specs.Prelude.{◌≡◌, ◌⊎◌, Some, IfOk, IfErr};
+ghost use Rattle.std.specs.Arc.{arc_value};
+ghost use Rattle.timing_defs.specs.declared.faults.QueryFault.TheVariants.{Memory as no_answer};
+ghost use Rattle.timing_defs.specs.Reports.{Told, query_fault};
+
+use crate::versions::Version;
+use std::alloc::Global;
+use std::marker::Model;
+use std::sync::Arc;
+use timing_defs::{Query, QueryFault, Report};
+
+/// A version that is asked. Contracts see the version.
+#[derive(Drop)]
+pub struct Snapshot {
+    version: Arc<Version>,
+}
+
+impl Model for Snapshot {
+    ghost use Rattle.std.specs.Arc.{arc_value};
+    ghost use Rattle.session_engine.specs.Versions.{Versioned};
+
+    ghost Value = { Versioned };
+
+    ghost view = { λ s. arc_value s.version };
+}
+
+impl Snapshot {
+    /// A snapshot of a version. Takes no memory.
+    pub fn of(version: Arc<Version>) -> Snapshot
+        ensures { result ≡ arc_value version }
+    {
+        Snapshot { version }
+    }
+
+    /// The version of the snapshot. Takes no memory.
+    pub fn version(&self) -> &Version
+        ensures { result.now ≡ self.now }
+    {
+        &self.version
+    }
+
+    /// The number of the version. Takes no memory.
+    pub fn number(&self) -> u64
+        ensures { result ≡ self.now.number }
+    {
+        self.version().number()
+    }
+
+    /// The answer to a question of the version's design. A question is refused where its pin is not there
+    /// (`Q1`), is no endpoint (`Q2`), or has no test of the kind with a network clock pin (`Q3`).
+    pub fn query(&self, alloc: Global, question: &Query) -> Result<Report, QueryFault>
+        ensures told { IfOk result (Told self.now.stored.design question.now) }
+        ensures refused { IfErr result (λ x. (x ≡ no_answer) ⊎ (query_fault self.now.stored.design question.now ≡ Some x)) }
+    {
+        let version = self.version();
+        version.laws();
+        version.analysis().ask(alloc, version.store(), question)
+    }
+}
