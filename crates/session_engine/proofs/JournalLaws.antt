@@ -1,14 +1,11 @@
 -- Designs after a journal that grows.
 
-use Rattle.std.proofs.Common.{◌≡◌, ℕ, zero, suc, ◌+◌, List, [], ◌∷◌, ◌++◌, length, true, Some, refl, sym, ap, subst, arith, ◌∙◌}
-use Rattle.std.specs.Prelude.{IsSomeAnd, Bool, ◌&&◌}
+use Rattle.std.proofs.Common.{◌≡◌, ℕ, zero, suc, List, [], ◌∷◌, ◌++◌, length, true, Some, refl, sym, ap, subst}
+use Rattle.std.specs.Prelude.{IsSomeAnd, Bool}
 use Rattle.std.specs.List.{slice_get, list_all}
-use Rattle.std.proofs.lemmas.List.{length-append}
 use Rattle.std.proofs.lemmas.Bool.{and_parts}
 use Rattle.timing_defs.specs.declared.design.Design.{Design}
-use Rattle.timing_defs.specs.declared.edits.Eco.{Eco}
 use Rattle.timing_defs.specs.declared.edits.Entry.{Entry}
-use Rattle.timing_defs.specs.Documents.{is_eco}
 use Rattle.timing_defs.specs.Checks.{Accepts}
 use Rattle.timing_defs.specs.Sessions.{DesignAfter}
 

@@ -1,6 +1,6 @@
 -- What the checks of a design answer together.
 
-use Rattle.std.proofs.Common.{◌≡◌, ℕ, ◌≤◌, List, Option, None, Some, Result, Ok, Err, IfErr, OnOk, length, refl, sym, ap, subst, ◌∙◌, arith, inl, inr, true, false}
+use Rattle.std.proofs.Common.{◌≡◌, ℕ, List, Option, None, Some, Result, Ok, Err, IfErr, OnOk, length, refl, sym, subst, ◌∙◌, inl, inr, true, false}
 use Rattle.std.specs.Prelude.{option_map, Bool, nat_lt, if◌then◌else◌}
 use Rattle.std.proofs.lemmas.Bool.{true≢false, ltb-false}
 use Rattle.netlist_store.specs.Applying.{IsChecked}
@@ -14,7 +14,7 @@ use Rattle.timing_defs.specs.declared.faults.Large.TheVariants.{Pins, Insts, Net
 use Rattle.timing_defs.specs.declared.faults.Fault.TheVariants.{ManyDrivers, ConstraintDangling, RcNotTree, RcPinsDiffer, Loop, OutOfRange, TooLarge, Memory}
 use Rattle.timing_defs.specs.Edits.{edited}
 use Rattle.timing_defs.specs.Range.{NoOrigin}
-use Rattle.timing_defs.specs.Checks.{most, least, nets_where, is_large_net, many_drivers, net_fault, data_fault, clock_not_tree, dangling, rc_not_tree, rc_pins_differ, first_of_two, Standing, IsGraphFault, HasNoLoop, IsSound, Faulty, Accepts, Refuses}
+use Rattle.timing_defs.specs.Checks.{most, least, nets_where, is_large_net, many_drivers, net_fault, data_fault, clock_not_tree, dangling, rc_not_tree, rc_pins_differ, first_of_two, Standing, IsGraphFault, HasNoLoop, IsSound, Faulty}
 use Rattle.pin_graph.specs.RowTables.{IsRangeFault}
 use Rattle.design_link.specs.After.{IsMadeOf, link_data_fault}
 use Rattle.session_engine.specs.Soundness.{IsUnsound, IsFaultless, IsSoundEdit}

@@ -1,7 +1,6 @@
 -- What is accepted is not refused, and versions that an accepted ECO makes.
 
 use Rattle.std.proofs.Common.{◌≡◌, ℕ, ◌+◌, ◌^◌, ◌<◌, ◌≤◌, List, [], ◌∷◌, ◌++◌, length, true, Result, Ok, Err, refl, sym, ap, subst, arith, ◌∙◌, inl, inr}
-use Rattle.std.specs.Prelude.{◌⊎◌}
 use Rattle.timing_defs.specs.declared.design.Design.{Design}
 use Rattle.timing_defs.specs.declared.edits.Eco.{Eco}
 use Rattle.timing_defs.specs.declared.edits.Entry.{Entry}
@@ -11,7 +10,7 @@ use Rattle.timing_defs.specs.Edits.{edited}
 use Rattle.timing_defs.specs.Checks.{Accepts, Refuses, Faulty, IsSound}
 use Rattle.timing_defs.specs.Sessions.{DesignAfter}
 use Rattle.netlist_store.specs.Numbering.{Stored}
-use Rattle.netlist_store.specs.Linked.{IsLinked, IsSized}
+use Rattle.netlist_store.specs.Linked.{IsSized}
 use Rattle.design_link.specs.After.{IsMadeOf}
 use Rattle.affected_cone.specs.Analysed.{Analysed, IsAnalysis}
 use Rattle.session_engine.specs.Soundness.{IsFaultless, IsSoundEdit}
