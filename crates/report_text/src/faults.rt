@@ -1,11 +1,12 @@
 //! The words of faults: a code and its names.
 
-ghost use Rattle.std.specs.Prelude.{◌≡◌, ◌++◌, OnOk, codes};
+ghost use Rattle.std.specs.Prelude.{◌≡◌, ◌++◌, IfOk, OnOk, codes};
 ghost use Rattle.std.specs.List.{flat_map};
 ghost use Rattle.timing_defs.specs.Output.{word, place_text, large_text, fault_text, query_fault_text};
 
 use crate::pieces::{push, push_names, push_word};
 use sta_units::Memory;
+use std::alloc::Global;
 use timing_defs::{Fault, Items, Large, Name, Place, QueryFault};
 
 /// Words and the name behind them.
@@ -83,6 +84,19 @@ pub(crate) fn push_fault(out: &mut Vec<u8>, fault: &Fault) -> Result<(), Memory>
         Fault::Memory => Ok(()),
         Fault::NotBuilt => push(out, b"N2"),
     }
+}
+
+/// The words of a fault: its code, and each of its names behind a blank.
+///
+/// # Errors
+///
+/// Want of memory alone.
+pub fn fault_bytes(alloc: Global, fault: &Fault) -> Result<Vec<u8>, Memory>
+    ensures { IfOk result (λ bytes. bytes.items ≡ fault_text fault.now) }
+{
+    let mut bytes = Vec::new(alloc);
+    push_fault(&mut bytes, fault)?;
+    Ok(bytes)
 }
 
 /// The code of a question's fault and its name.

@@ -16,5 +16,6 @@ mod pieces;
 mod reports;
 mod rows;
 
+pub use faults::fault_bytes;
 pub use outputs::{journal_bytes, output_bytes, output_saved_bytes};
 pub use rows::report_bytes;

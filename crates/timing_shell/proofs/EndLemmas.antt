@@ -1,22 +1,32 @@
 -- How a run ends, and what stands at the sink then.
-use Rattle.std.proofs.Common.{◌≡◌, ℕ, ◌≤◌, List, [], Option, Some, None, refl, sym, inl, inr, append-nil}
+use Rattle.std.proofs.Common.{◌≡◌, ◌⊎◌, ℕ, ◌≤◌, true, false, List, [], ◌∷◌, Option, Some, None, Ok, Err, refl, sym, ap, ◌∙◌, inl, inr, append-nil}
+use Rattle.std.proofs.lemmas.Bool.{false≢true}
 use Rattle.sta_outside.specs.Shelf.{Rose}
 use Rattle.sta_outside.specs.Sink.{Appends, AppendsPrefix}
-use Rattle.first_forms.specs.Words.{RunWords, run_of}
+use Rattle.timing_defs.specs.declared.design.Design.{Design}
+use Rattle.timing_defs.specs.declared.faults.Fault.{Fault}
+use Rattle.timing_defs.specs.declared.faults.Fault.TheVariants.{Memory as no_room}
+use Rattle.timing_defs.specs.declared.scripts.Script.{Script}
+use Rattle.timing_defs.specs.Checks.{Faulty}
+use Rattle.timing_defs.specs.declared.codes.Code.{Code}
+use Rattle.timing_shell.specs.Words.{RunWords, run_of}
 use Rattle.timing_shell.specs.declared.documents.Role.{Role}
 use Rattle.timing_shell.specs.declared.documents.How.{How}
+use Rattle.timing_shell.specs.declared.documents.Stop.TheVariants.{Refused, Missing}
 use Rattle.timing_shell.specs.declared.documents.Documents.{Documents}
-use Rattle.timing_shell.specs.Documents.{Docs, sources, name_of, FirstRefused, ShelfFails, AreDocuments, words_line, refusal_line, shelf_line}
-use Rattle.timing_shell.specs.Serving.{DesignEnds, RunEnds, Ends, Written}
+use Rattle.timing_shell.specs.Documents.{Docs, sources, name_of, Stops, AreDocuments, words_line, design_line, refusal_line, shelf_line}
+use Rattle.session_engine.specs.Soundness.{IsUnsound}
+use Rattle.timing_shell.specs.Serving.{is_wanting, linked_of, DesignEnds, DocumentsEnd, RunEnds, Ends, Written}
 
 module _ (holds : Docs) (old new : ℕ) (run : RunWords) (text : List ℕ) where
-  pub run_refused : (role : Role) → FirstRefused holds run (sources run) role → text ≡ refusal_line role → RunEnds holds old new run 3 text
-  run_refused role why written = inl (refl, (role, why, written))
+  pub run_refused : (role : Role) (code : Code) (place : ℕ) → Stops holds run old new (sources run) (Refused role code place)
+      → text ≡ refusal_line role (record { code = code; at = place }) → RunEnds holds old new run 3 text
+  run_refused role code place why written = inl (refl, (role, record { code = code; at = place }, why.0, written))
 
-  pub run_missing : (role : Role) (how : How) → ShelfFails holds run old new (sources run) role how → text ≡ shelf_line (name_of run role) how → RunEnds holds old new run 4 text
+  pub run_missing : (role : Role) (how : How) → Stops holds run old new (sources run) (Missing role how) → text ≡ shelf_line (name_of run role) how → RunEnds holds old new run 4 text
   run_missing role how why written = inr (inl (refl, (role, how, why, written)))
 
-  pub run_read : (docs : Documents) (status : ℕ) → AreDocuments holds run docs → DesignEnds docs status text → RunEnds holds old new run status text
+  pub run_read : (docs : Documents) (status : ℕ) → AreDocuments holds run docs → DocumentsEnd docs status text → RunEnds holds old new run status text
   run_read docs status read ended = inr (inr (docs, read, ended))
 
   pub ends_unasked : (words : List (List ℕ)) → run_of words ≡ None → text ≡ words_line → Ends holds old new words 2 text
@@ -40,3 +50,22 @@ module _ (before after : Option (List ℕ)) (faults faults' : ℕ) (holds : Docs
 
 pub written_nothing : (before : Option (List ℕ)) (faults : ℕ) (holds : Docs) (old new : ℕ) (words : List (List ℕ)) → Written before before faults faults holds old new words 6
 written_nothing before faults holds old new words = inr (inl (refl, appends_nothing before, refl))
+
+-- a fault that is not want of memory has its cause
+caused : (x : Fault) (Cause : Fault → Type 0) → (x ≡ no_room) ⊎ Cause x → is_wanting x ≡ false → Cause x
+caused x Cause (inl wanting) not = absurd (false≢true (sym not ∙ ap is_wanting wanting))
+caused x Cause (inr cause) not = cause
+
+-- how a run over a design ends that has a fault
+pub design_unsound : (d : Design) (scripts : List Script) (x : Fault) (status : ℕ) (text : List ℕ) → IsUnsound d x → is_wanting x ≡ false → status ≡ 3 → text ≡ design_line x
+    → DesignEnds d scripts status text
+design_unsound d scripts x status text unsound not is written = inl (is, (x, caused x (Faulty d) unsound not, written))
+
+module _ (docs : Documents) (status : ℕ) (text : List ℕ) where
+  -- how a run ends whose documents are not linked
+  pub documents_refused : (x : Fault) → (x ≡ no_room) ⊎ (linked_of docs ≡ Err x) → is_wanting x ≡ false → status ≡ 3 → text ≡ design_line x → DocumentsEnd docs status text
+  documents_refused x refused not is written = inl (is, (x, caused x (λ y. linked_of docs ≡ Err y) refused not, written))
+
+  -- and whose documents are
+  pub documents_linked : (d : Design) → linked_of docs ≡ Ok d → DesignEnds d (docs.script ∷ []) status text → DocumentsEnd docs status text
+  documents_linked d linked ended = inr (d, linked, ended)

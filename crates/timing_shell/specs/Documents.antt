@@ -1,15 +1,34 @@
--- The documents of a run: in which order they are fetched and read, and what stops that.
+-- The documents of a run: in which order they are fetched and read, what they say, and what stops that.
 
-use Rattle.std.specs.Prelude.{◌≡◌, ◌<◌, ◌⊎◌, ℕ, Bool, true, false, if◌then◌else◌, List, [], ◌∷◌, ◌++◌, codes, Option, Some, is_some, ⊤}
+use Rattle.std.specs.Prelude.{◌≡◌, ◌<◌, ◌≤◌, ◌⊎◌, ℕ, Bool, true, false, if◌then◌else◌, List, [], ◌∷◌, ◌++◌, codes, length, Option, Some, None, Ok, ⊤}
 use Rattle.std.specs.Str.{bytes_eq}
 use Rattle.sta_outside.specs.Shelf.{document_limit, Told, Lacks, Reaches, Rose}
+use Rattle.timing_defs.specs.declared.library.Library.{Library}
+use Rattle.timing_defs.specs.declared.library.Units.{Units}
+use Rattle.timing_defs.specs.declared.netlist.Module.{Module}
+use Rattle.timing_defs.specs.declared.constraints.Constraints.{Constraints}
+use Rattle.timing_defs.specs.declared.parasitics.Parasitics.{Parasitics}
 use Rattle.timing_defs.specs.declared.scripts.Script.{Script}
-use Rattle.timing_defs.specs.Output.{line, word}
-use Rattle.first_forms.specs.Words.{RunWords}
-use Rattle.first_forms.specs.Blanks.{first_constraints}
-use Rattle.first_forms.specs.Scripts.{first_script}
-use Rattle.first_forms.specs.Liberty.{first_library}
-use Rattle.first_forms.specs.Modules.{first_module}
+use Rattle.timing_defs.specs.declared.faults.Fault.{Fault}
+use Rattle.timing_defs.specs.Codes.{code_text}
+use Rattle.timing_defs.specs.Output.{line, word, number, fault_text}
+use Rattle.sta_text.specs.declared.faults.Wrong.{Wrong}
+use Rattle.sta_text.specs.Faults.{least_from}
+use Rattle.liberty_cells.specs.Faults.{library_of_text, units_of_text}
+use Rattle.liberty_cells.specs.Faults.{faults_of as library_faults}
+use Rattle.verilog_netlist.specs.Grammar.{events_of as netlist_events}
+use Rattle.verilog_netlist.specs.Faults.{faults_of as netlist_faults}
+use Rattle.verilog_netlist.specs.Modules.{module_of}
+use Rattle.sdc_reader.specs.Grammar.{events_of as sdc_events}
+use Rattle.sdc_reader.specs.Faults.{faults_of as sdc_faults}
+use Rattle.sdc_reader.specs.Meaning.{constraints_of}
+use Rattle.spef_reader.specs.Grammar.{events_of as spef_events}
+use Rattle.spef_reader.specs.Faults.{faults_of as spef_faults}
+use Rattle.spef_reader.specs.Parasitics.{parasitics_of}
+use Rattle.eco_journal.specs.Lines.{lines_of}
+use Rattle.script_reader.specs.Scripts.{outside, events, script_of}
+use Rattle.script_reader.specs.Scripts.{faults as line_faults}
+use Rattle.timing_shell.specs.Words.{RunWords}
 use Rattle.timing_shell.specs.declared.documents.Role.{Role}
 use Rattle.timing_shell.specs.declared.documents.Role.TheVariants.{Early, Late, Netlist, Sdc, Spef, Session}
 use Rattle.timing_shell.specs.declared.documents.Stop.{Stop}
@@ -32,6 +51,18 @@ how_text Failed = codes "failed"
 how_text Absent = codes "absent"
 how_text TooLong = codes "too_long"
 
+abbrev pub words_line : List ℕ
+words_line = line (codes "fault words")
+
+abbrev pub design_line : Fault → List ℕ
+design_line x = line (codes "fault design" ++ word (fault_text x))
+
+abbrev pub refusal_line : Role → Wrong → List ℕ
+refusal_line role wrong = line (codes "fault" ++ word (role_text role) ++ word (code_text wrong.code) ++ number wrong.at)
+
+abbrev pub shelf_line : List ℕ → How → List ℕ
+shelf_line name how = line (codes "fault shelf" ++ word name ++ word (how_text how))
+
 -- the name that a command line has for a document
 abbrev pub name_of : RunWords → Role → List ℕ
 name_of run Early = run.early
@@ -40,15 +71,6 @@ name_of run Netlist = run.netlist
 name_of run Sdc = run.sdc
 name_of run Spef = run.spef
 name_of run Session = run.script
-
--- whether a text is of the form of a document; no text is of a form of parasitics yet
-abbrev pub reads : Role → List ℕ → Bool
-reads Early text = is_some (first_library text)
-reads Late text = is_some (first_library text)
-reads Netlist text = is_some (first_module text)
-reads Sdc text = is_some (first_constraints text)
-reads Spef text = false
-reads Session text = is_some (first_script text)
 
 -- the documents in the order in which they are fetched and read; the word `none` stands for no parasitics
 abbrev pub has_no_spef : RunWords → Bool
@@ -60,40 +82,50 @@ last_sources run = (if has_no_spef run then Session ∷ [] else Spef ∷ Session
 abbrev pub sources : RunWords → List Role
 sources run = Early ∷ Late ∷ Netlist ∷ Sdc ∷ last_sources run
 
-abbrev pub words_line : List ℕ
-words_line = line (codes "fault words")
-
-abbrev pub design_line : List ℕ
-design_line = line (codes "fault design N2")
-
-abbrev pub refusal_line : Role → List ℕ
-refusal_line role = line (codes "fault" ++ word (role_text role) ++ codes " N1 0")
-
-abbrev pub shelf_line : List ℕ → How → List ℕ
-shelf_line name how = line (codes "fault shelf" ++ word name ++ word (how_text how))
-
 abbrev pub Docs : Type 0
 Docs = Option (List (List ℕ × List ℕ))
 
--- a document that is there, and of its form
+-- the shelf tells a document of this text, within the limit
+abbrev pub Gives : Docs → List ℕ → List ℕ → Type 0
+Gives docs name text = Told docs name text × (length text ≤ document_limit)
+
+-- the units of the late library
+abbrev pub AreUnits : Docs → RunWords → Units → Type 0
+AreUnits docs run units = (late : List ℕ) × Gives docs run.late late × (units ≡ units_of_text late)
+
+abbrev pub constraint_faults : Units → List ℕ → List Wrong
+constraint_faults units text = sdc_faults (length text) units (sdc_events text)
+
+-- the faults of a text as the document of a role; constraints are read in the units of the late library
+abbrev pub HasFaults : Docs → RunWords → Role → List ℕ → List Wrong → Type 0
+HasFaults docs run Early text faults = library_faults text ≡ faults
+HasFaults docs run Late text faults = library_faults text ≡ faults
+HasFaults docs run Netlist text faults = netlist_faults (netlist_events text) ≡ faults
+HasFaults docs run Sdc text faults = (units : Units) × AreUnits docs run units × (constraint_faults units text ≡ faults)
+HasFaults docs run Spef text faults = spef_faults (spef_events text) ≡ faults
+HasFaults docs run Session text faults = line_faults 0 outside (events 1 (lines_of text)) ≡ faults
+
+-- a document that is there, and without a fault
 abbrev pub IsRead : Docs → RunWords → Role → Type 0
-IsRead docs run role = (text : List ℕ) × Told docs (name_of run role) text × (reads role text ≡ true)
+IsRead docs run role = (text : List ℕ) × Gives docs (name_of run role) text × HasFaults docs run role text []
 
--- a document that is there, and not of its form
-abbrev pub IsRefused : Docs → RunWords → Role → Type 0
-IsRefused docs run role = (text : List ℕ) × Told docs (name_of run role) text × (reads role text ≡ false)
+-- a document that is there, and whose fault of least place this is
+abbrev pub IsRefused : Docs → RunWords → Role → Wrong → Type 0
+IsRefused docs run role wrong =
+    (text : List ℕ) × (faults : List Wrong) × Gives docs (name_of run role) text × HasFaults docs run role text faults
+    × (least_from None faults ≡ Some wrong)
 
--- the first document that is not of its form, all before it being read
-abbrev pub FirstRefused : Docs → RunWords → List Role → Role → Type 0
-FirstRefused docs run [] refused = ⊥
-FirstRefused docs run (role ∷ roles) refused =
-    ((refused ≡ role) × IsRefused docs run role) ⊎ (IsRead docs run role × FirstRefused docs run roles refused)
+-- the first document that has a fault, all before it being read
+abbrev pub FirstRefused : Docs → RunWords → List Role → Role → Wrong → Type 0
+FirstRefused docs run [] refused wrong = ⊥
+FirstRefused docs run (role ∷ roles) refused wrong =
+    ((refused ≡ role) × IsRefused docs run role wrong) ⊎ (IsRead docs run role × FirstRefused docs run roles refused wrong)
 
--- why the shelf did not give a document
+-- why the shelf did not give a document; its count of faults rose only where it failed
 abbrev pub FetchFails : Docs → ℕ → ℕ → List ℕ → How → Type 0
 FetchFails docs old new name Failed = Rose old new
-FetchFails docs old new name Absent = Lacks docs name
-FetchFails docs old new name TooLong = (seen : ℕ) × (document_limit < seen) × Reaches docs name seen
+FetchFails docs old new name Absent = Lacks docs name × (new ≡ old)
+FetchFails docs old new name TooLong = (seen : ℕ) × (document_limit < seen) × Reaches docs name seen × (new ≡ old)
 
 -- a document that the shelf did not give, all before it being read
 abbrev pub ShelfFails : Docs → RunWords → ℕ → ℕ → List Role → Role → How → Type 0
@@ -104,22 +136,52 @@ ShelfFails docs run old new (role ∷ roles) missing how =
 
 -- why the reading of these documents stops
 abbrev pub Stops : Docs → RunWords → ℕ → ℕ → List Role → Stop → Type 0
-Stops docs run old new roles (Refused role) = FirstRefused docs run roles role × (new ≡ old)
+Stops docs run old new roles (Refused role code place) =
+    FirstRefused docs run roles role (record { code = code; at = place }) × (new ≡ old)
 Stops docs run old new roles (Missing role how) = ShelfFails docs run old new roles role how
 Stops docs run old new roles Memory = ⊤
 
--- the text that the shelf tells under a name has this value
-abbrev pub Reads : {X : Type 0} → Docs → List ℕ → (List ℕ → Option X) → X → Type 0
-Reads docs name value_of value = (text : List ℕ) × Told docs name text × (value_of text ≡ Some value)
+-- what a text without faults says
+abbrev pub SaysLibrary : Library → List ℕ → Type 0
+SaysLibrary library text = (library_faults text ≡ []) × (library ≡ library_of_text text)
+
+abbrev pub SaysModule : Module → List ℕ → Type 0
+SaysModule m text = (netlist_faults (netlist_events text) ≡ []) × (module_of (netlist_events text) ≡ Some m)
+
+abbrev pub SaysConstraints : Units → Constraints → List ℕ → Type 0
+SaysConstraints units c text = (constraint_faults units text ≡ []) × (c ≡ constraints_of units (sdc_events text))
+
+abbrev pub SaysParasitics : Parasitics → List ℕ → Type 0
+SaysParasitics p text = (spef_faults (spef_events text) ≡ []) × (p ≡ parasitics_of (spef_events text))
+
+abbrev pub SaysScript : Script → List ℕ → Type 0
+SaysScript script text = script_of text ≡ Ok script
+
+-- the shelf tells a text under a name, which says something
+abbrev pub Says : Docs → List ℕ → (List ℕ → Type 0) → Type 0
+Says docs name Says_it = (text : List ℕ) × Gives docs name text × Says_it text
+
+abbrev pub no_parasitics : Parasitics
+no_parasitics = record { nets = [] }
+
+-- the constraints, in the units of the late library
+abbrev pub AreConstraints : Docs → RunWords → Constraints → Type 0
+AreConstraints docs run c = (units : Units) × AreUnits docs run units × Says docs run.sdc (SaysConstraints units c)
+
+-- the parasitics, or none
+abbrev pub AreParasitics : Docs → RunWords → Parasitics → Type 0
+AreParasitics docs run p =
+    ((has_no_spef run ≡ true) × (p ≡ no_parasitics))
+    ⊎ ((has_no_spef run ≡ false) × Says docs run.spef (SaysParasitics p))
 
 -- the values of the documents of a run
-abbrev pub AreLast : Docs → RunWords → Script → Type 0
-AreLast docs run script = (has_no_spef run ≡ true) × Reads docs run.script first_script script
+abbrev pub AreLast : Docs → RunWords → Parasitics → Script → Type 0
+AreLast docs run p script = AreParasitics docs run p × Says docs run.script (SaysScript script)
 
 abbrev pub AreDocuments : Docs → RunWords → Documents → Type 0
 AreDocuments docs run d =
-    Reads docs run.early first_library d.early
-    × Reads docs run.late first_library d.late
-    × Reads docs run.netlist first_module d.netlist
-    × Reads docs run.sdc first_constraints d.sdc
-    × AreLast docs run d.script
+    Says docs run.early (SaysLibrary d.early)
+    × Says docs run.late (SaysLibrary d.late)
+    × Says docs run.netlist (SaysModule d.netlist)
+    × AreConstraints docs run d.sdc
+    × AreLast docs run d.spef d.script

@@ -1,65 +1,84 @@
 -- What a run of the server ends with: its status, and the bytes that it writes or would have written.
 
-use Rattle.std.specs.Prelude.{◌≡◌, ◌⊎◌, ◌≤◌, ℕ, true, false, if◌then◌else◌, List, [], ◌∷◌, length, Option, Some, None, Ok, is_some, ⊤}
+use Rattle.std.specs.Prelude.{◌≡◌, ◌⊎◌, ◌≤◌, ℕ, Bool, true, false, if◌then◌else◌, List, [], ◌∷◌, length, Option, Some, None, Ok, Err, Result, ⊤}
 use Rattle.std.specs.List.{list_any}
 use Rattle.sta_outside.specs.Shelf.{held, document_limit, Rose}
 use Rattle.sta_outside.specs.Sink.{Appends, AppendsPrefix}
-use Rattle.timing_defs.specs.declared.parasitics.Parasitics.{Parasitics}
-use Rattle.timing_defs.specs.declared.faults.Place.{Place}
+use Rattle.timing_defs.specs.declared.edits.Entry.{Entry}
+use Rattle.timing_defs.specs.declared.faults.Fault.{Fault}
+use Rattle.timing_defs.specs.declared.faults.Fault.TheVariants.{Memory as no_room}
 use Rattle.timing_defs.specs.declared.design.Design.{Design}
+use Rattle.timing_defs.specs.declared.scripts.Answer.{Answer}
+use Rattle.timing_defs.specs.declared.scripts.Answer.TheVariants.{Taken, Reached, NotYet, Accepted, Refused, No, Told}
+use Rattle.timing_defs.specs.declared.scripts.Row.{Row}
+use Rattle.timing_defs.specs.declared.scripts.Script.{Script}
 use Rattle.timing_defs.specs.declared.scripts.Transcript.{Transcript}
-use Rattle.timing_defs.specs.Netlist.{pins, are_distinct}
-use Rattle.timing_defs.specs.Edits.{link_fault, joined, linked}
-use Rattle.timing_defs.specs.Checks.{large}
-use Rattle.timing_defs.specs.Range.{is_origin}
+use Rattle.timing_defs.specs.Edits.{linked}
+use Rattle.timing_defs.specs.Checks.{Faulty}
+use Rattle.timing_defs.specs.Output.{journal_text}
 use Rattle.timing_defs.specs.Sessions.{IsWhole, IsOutput}
-use Rattle.first_rows.specs.Plain.{nets_driven, is_ordered}
-use Rattle.first_forms.specs.Words.{RunWords, run_of}
+use Rattle.sta_text.specs.declared.faults.Wrong.{Wrong}
+use Rattle.eco_journal.specs.Journal.{entries_of}
+use Rattle.session_engine.specs.Soundness.{IsFaultless}
+use Rattle.timing_shell.specs.Words.{RunWords, run_of}
 use Rattle.timing_shell.specs.declared.documents.Role.{Role}
 use Rattle.timing_shell.specs.declared.documents.How.{How}
 use Rattle.timing_shell.specs.declared.documents.Documents.{Documents}
-use Rattle.timing_shell.specs.Documents.{Docs, sources, name_of, reads, FirstRefused, ShelfFails, AreDocuments, words_line, design_line, refusal_line, shelf_line}
-use Rattle.timing_shell.specs.Session.{has_refusal}
+use Rattle.timing_shell.specs.Documents.{Docs, sources, name_of, HasFaults, FirstRefused, ShelfFails, AreDocuments, words_line, design_line, refusal_line, shelf_line}
 
-abbrev pub no_parasitics : Parasitics
-no_parasitics = record { nets = [] }
+-- a row that is no answer: refused, no, or not yet
+abbrev pub is_refusal : Answer → Bool
+is_refusal Taken = false
+is_refusal Reached = false
+is_refusal (NotYet looks) = true
+is_refusal Accepted = false
+is_refusal (Refused fault) = true
+is_refusal (No fault) = true
+is_refusal (Told report) = false
 
-abbrev pub design_of : Documents → Design
-design_of docs = joined docs.early docs.late docs.netlist docs.sdc no_parasitics
-
--- what is not built yet: libraries that differ, unknown cells or pins, a net with several drivers,
--- an instance before one that drives it, a large design, an overflow
-abbrev pub IsUnbuilt : Documents → Type 0
-IsUnbuilt docs =
-    (docs.early ≡ docs.late → ⊥)
-    ⊎ (is_some (link_fault docs.early docs.late docs.netlist no_parasitics) ≡ true)
-    ⊎ (are_distinct (nets_driven (pins (design_of docs))) ≡ false)
-    ⊎ (is_ordered (design_of docs) ≡ false)
-    ⊎ (is_some (large (design_of docs)) ≡ true)
-    ⊎ ((place : Place) × (is_origin (design_of docs) place ≡ true))
+abbrev pub has_refusal : List Row → Bool
+has_refusal rows = list_any (λ row. is_refusal row.answer) rows
 
 -- the status is 1 where some row is no answer
 abbrev pub status_of : List Transcript → ℕ
 status_of ts = (if list_any (λ t. has_refusal t.rows) ts then 1 else 0)
 
--- the answer of a run: the whole output of an empty journal and a transcript that is legal for the script
-abbrev pub IsAnswer : Documents → ℕ → List ℕ → Type 0
-IsAnswer docs status text =
-    (d : Design) × (linked docs.early docs.late docs.netlist docs.sdc no_parasitics ≡ Ok d)
-    × ((t : Transcript) × IsWhole d 0 (docs.script ∷ []) [] (t ∷ []) × IsOutput d 0 [] (t ∷ []) text × (status ≡ status_of (t ∷ [])))
+-- the answer of a run of scripts over a design: the whole output of a journal and transcripts, whose
+-- bytes of the journal are read back as its entries
+abbrev pub IsAnswer : Design → List Script → ℕ → List ℕ → Type 0
+IsAnswer d scripts status text =
+    (journal : List Entry) × (ts : List Transcript)
+    × IsWhole d 0 scripts journal ts × IsOutput d 0 journal ts text × (status ≡ status_of ts)
+    × (entries_of (journal_text journal) ≡ Ok journal)
 
--- how a run ends whose documents were read: with an answer exactly where what they say is built
-abbrev pub DesignEnds : Documents → ℕ → List ℕ → Type 0
-DesignEnds docs status text =
-    ((status ≡ 3) × IsUnbuilt docs × (text ≡ design_line)) ⊎ ((IsUnbuilt docs → ⊥) × IsAnswer docs status text)
+-- a fault that no definition asks for
+abbrev pub is_wanting : Fault → Bool
+is_wanting no_room = true
+is_wanting x = false
+
+-- how a run over a design ends: with a fault of the design, or with an answer where it has none
+abbrev pub DesignEnds : Design → List Script → ℕ → List ℕ → Type 0
+DesignEnds d scripts status text =
+    ((status ≡ 3) × ((x : Fault) × Faulty d x × (text ≡ design_line x)))
+    ⊎ (IsFaultless d × IsAnswer d scripts status text)
+
+abbrev pub linked_of : Documents → Result Design Fault
+linked_of docs = linked docs.early docs.late docs.netlist docs.sdc docs.spef
+
+-- how a run ends whose documents were read: with the fault of linking them, or over their design
+abbrev pub DocumentsEnd : Documents → ℕ → List ℕ → Type 0
+DocumentsEnd docs status text =
+    ((status ≡ 3) × ((x : Fault) × (linked_of docs ≡ Err x) × (text ≡ design_line x)))
+    ⊎ ((d : Design) × (linked_of docs ≡ Ok d) × DesignEnds d (docs.script ∷ []) status text)
 
 -- how a run ends, with the line or the output that is written
 abbrev pub RunEnds : Docs → ℕ → ℕ → RunWords → ℕ → List ℕ → Type 0
 RunEnds holds old new run status text =
-    ((status ≡ 3) × ((role : Role) × FirstRefused holds run (sources run) role × (text ≡ refusal_line role)))
+    ((status ≡ 3)
+    × ((role : Role) × (wrong : Wrong) × FirstRefused holds run (sources run) role wrong × (text ≡ refusal_line role wrong)))
     ⊎ ((status ≡ 4)
     × ((role : Role) × (how : How) × ShelfFails holds run old new (sources run) role how × (text ≡ shelf_line (name_of run role) how)))
-    ⊎ ((docs : Documents) × AreDocuments holds run docs × DesignEnds docs status text)
+    ⊎ ((docs : Documents) × AreDocuments holds run docs × DocumentsEnd docs status text)
 
 abbrev pub Ends : Docs → ℕ → ℕ → List (List ℕ) → ℕ → List ℕ → Type 0
 Ends holds old new words status text =
@@ -75,22 +94,27 @@ Written old new faults faults' holds f f' words status =
     ⊎ ((status ≡ 6) × Appends old new [] × (faults' ≡ faults))
     ⊎ ((status ≤ 4) × (faults' ≡ faults) × ((text : List ℕ) × Ends holds f f' words status text × Appends old new text))
 
--- a told document within the limit, and of its form
+-- a told document within the limit, and without a fault
 abbrev pub HasText : List (List ℕ × List ℕ) → RunWords → Role → Type 0
 HasText map run role =
-    (text : List ℕ) × (held map (name_of run role) ≡ Some text) × (length text ≤ document_limit) × (reads role text ≡ true)
+    (text : List ℕ) × (held map (name_of run role) ≡ Some text) × (length text ≤ document_limit) × HasFaults (Some map) run role text []
 
 abbrev pub HasTexts : List (List ℕ × List ℕ) → RunWords → List Role → Type 0
 HasTexts map run [] = ⊤
 HasTexts map run (role ∷ roles) = HasText map run role × HasTexts map run roles
 
+-- documents that are linked to a design without a fault
+abbrev pub AreSound : Documents → Type 0
+AreSound docs = (d : Design) × (linked_of docs ≡ Ok d) × IsFaultless d
+
 -- where a run has nothing that refuses it: its words ask for it, the shelf tells each document, what
--- they say is built, and neither the shelf nor the sink failed
+-- they say is sound, and neither the shelf nor the sink failed
 abbrev pub NothingRefuses : Docs → ℕ → ℕ → ℕ → ℕ → List (List ℕ) → Type 0
 NothingRefuses holds f f' faults faults' words =
-    (map : List (List ℕ × List ℕ)) × (run : RunWords) × (docs : Documents)
-    × (holds ≡ Some map) × (run_of words ≡ Some run) × HasTexts map run (sources run) × AreDocuments (Some map) run docs
-    × (IsUnbuilt docs → ⊥) × (Rose f f' → ⊥) × (Rose faults faults' → ⊥)
+    (map : List (List ℕ × List ℕ)) × (run : RunWords)
+    × (holds ≡ Some map) × (run_of words ≡ Some run) × HasTexts map run (sources run)
+    × ((docs : Documents) → AreDocuments (Some map) run docs → AreSound docs)
+    × (Rose f f' → ⊥) × (Rose faults faults' → ⊥)
 
 -- it is answered, or memory is wanting
 abbrev pub IsAnswered : ℕ → Type 0

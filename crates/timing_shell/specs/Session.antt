@@ -1,118 +1,91 @@
--- What a session of questions for slews is answered, by the rows of all pins.
+-- What one session does: how each command is answered over the version that it holds, and its rows.
 
-use Rattle.std.specs.Prelude.{ℕ, ◌≡◌, ◌+◌, Bool, true, false, ◌==◌, cond, List, [], ◌∷◌, ◌++◌, find, codes, Option, Some, None, option_map, pos}
-use Rattle.std.specs.List.{flat_map, list_any}
-use Rattle.std.specs.Str.{bytes_eq}
-use Rattle.std.specs.Cmp.Lexicographic.{pointwise}
-use Rattle.indexmap.specs.IndexMap.{IndexMap, get}
-use Rattle.sta_units.specs.declared.units.Fs.{Fs}
-use Rattle.timing_defs.specs.declared.kinds.Split.{Split}
-use Rattle.timing_defs.specs.declared.kinds.Split.TheVariants.{Early, Late}
-use Rattle.timing_defs.specs.declared.kinds.Tran.{Tran}
-use Rattle.timing_defs.specs.declared.kinds.Tran.TheVariants.{Rise, Fall}
-use Rattle.timing_defs.specs.declared.rows.NodeRow.{NodeRow}
+use Rattle.std.specs.Prelude.{ℕ, ◌≡◌, ◌+◌, ◌<◌, ◌≤◌, nat_le, Bool, true, false, List, [], ◌∷◌, map, replicate, length, Some, ⊤}
+use Rattle.std.specs.List.{All, list_all}
+use Rattle.timing_defs.specs.declared.design.Design.{Design}
+use Rattle.timing_defs.specs.declared.edits.Eco.{Eco}
 use Rattle.timing_defs.specs.declared.reports.Query.{Query}
-use Rattle.timing_defs.specs.declared.reports.Query.TheVariants.{Slew, At, Rat, Slack, Endpoint, WorstPath, Wns, Tns, Worst}
-use Rattle.timing_defs.specs.declared.reports.Report.TheVariants.{Value}
-use Rattle.timing_defs.specs.declared.faults.QueryFault.TheVariants.{UnknownPin}
 use Rattle.timing_defs.specs.declared.scripts.Command.{Command}
 use Rattle.timing_defs.specs.declared.scripts.Command.TheVariants.{Take, Await, Ask, Change}
+use Rattle.timing_defs.specs.declared.scripts.Script.{Script}
 use Rattle.timing_defs.specs.declared.scripts.Answer.{Answer}
-use Rattle.timing_defs.specs.declared.scripts.Answer.TheVariants.{Taken, Reached, NotYet, Accepted, Refused, No, Told}
+use Rattle.timing_defs.specs.declared.scripts.Answer.TheVariants.{Taken, Reached, NotYet, Accepted, Refused, No, Told as told_answer}
 use Rattle.timing_defs.specs.declared.scripts.Row.{Row}
+use Rattle.timing_defs.specs.Checks.{Refuses}
 use Rattle.timing_defs.specs.declared.scripts.Totals.{Totals}
-use Rattle.timing_defs.specs.Output.{line, word, time_text, row_text}
-use Rattle.first_rows.specs.declared.plain.PinRow.{PinRow}
+use Rattle.timing_defs.specs.Output.{output_text}
+use Rattle.timing_defs.specs.Reports.{Told, query_fault, AreTotals}
+use Rattle.timing_defs.specs.Sessions.{OrderedFrom, AreTrue, mark_of, query_of, ecos_of, accepted_ecos}
+use Rattle.session_engine.specs.Versions.{Versioned, IsNext}
+use Rattle.eco_journal.specs.Written.{IsEco}
+use Rattle.script_reader.specs.Ecos.{has_ecos}
 
-abbrev pub slew_of : NodeRow → Split → Option Fs
-slew_of row Early = row.early_slew
-slew_of row Late = row.late_slew
+-- a command that waits has a look at least
+abbrev pub has_looks : Command → Bool
+has_looks (Await number looks) = nat_le 1 looks
+has_looks command = true
 
-abbrev pub tran_row : PinRow → Tran → NodeRow
-tran_row row Rise = row.rise
-tran_row row Fall = row.fall
+-- a command that changes has an ECO that a journal can hold
+abbrev pub CanStand : Command → Type 0
+CanStand Take = ⊤
+CanStand (Await number looks) = ⊤
+CanStand (Ask q) = ⊤
+CanStand (Change eco) = IsEco eco
 
--- the first row of a pin's name, and its place
-abbrev pub row_named : List PinRow → List ℕ → Option PinRow
-row_named rows name = find (λ row. bytes_eq row.pin name) rows
+-- a script as it is read: at most 10,000 commands
+pub record IsScript (script : Script) : Type 0 where
+  pub looks : list_all has_looks script.commands ≡ true
+  pub written : All CanStand script.commands
+  pub ecos : has_ecos script ≡ true
+  pub few : length script.commands ≤ 10000
 
-unfoldable pub place_from : ℕ → List PinRow → List ℕ → Option ℕ
-place_from n [] name = None
-place_from n (row ∷ rows) name = cond (bytes_eq row.pin name) (Some n) (place_from (n + 1) rows name)
+-- an awaited number is reached, or it is not yet there at as many looks, which all see the version that is held
+abbrev pub Waits : ℕ → ℕ → ℕ → Answer → Type 0
+Waits held number looks Reached = number ≤ held
+Waits held number looks (NotYet seen) = (held < number) × (seen ≡ replicate looks held)
+Waits held number looks answer = ⊥
 
--- the one value, else the other
-abbrev pub or_else : Option ℕ → Option ℕ → Option ℕ
-or_else None other = other
-or_else (Some at) other = Some at
+-- what a design answers a question
+abbrev pub Tells : Design → Query → Answer → Type 0
+Tells d q (told_answer r) = Told d q r
+Tells d q (No x) = query_fault d q ≡ Some x
+Tells d q answer = ⊥
 
--- a map has the first place of each name
-abbrev pub IsIndex : {S : Type 0} → IndexMap (List ℕ) ℕ S → List PinRow → Type 0
-IsIndex index rows = (name : List ℕ) → get (pointwise ◌==◌) index name ≡ place_from 0 rows name
+-- an ECO is accepted, and the session then holds the version after it, or refused
+abbrev pub Changes : Versioned → Eco → Versioned → Answer → Type 0
+Changes v eco w Accepted = IsNext v 1 eco w
+Changes v eco w (Refused x) = (w ≡ v) × Refuses v.stored.design eco x
+Changes v eco w answer = ⊥
 
--- a slew, or none where nothing reaches the node; no answer where there is no such pin
-abbrev pub told : List PinRow → List ℕ → Split → Tran → Option (Option Fs)
-told rows pin split tran = option_map (λ row. slew_of (tran_row row tran) split) (row_named rows pin)
+-- a command is answered at the version `v`, and the session then holds `w`
+abbrev pub Answers : Versioned → Command → Versioned → Answer → Type 0
+Answers v Take w answer = (w ≡ v) × (answer ≡ Taken)
+Answers v (Await number looks) w answer = (w ≡ v) × Waits v.number number looks answer
+Answers v (Ask q) w answer = (w ≡ v) × Tells v.stored.design q answer
+Answers v (Change eco) w answer = Changes v eco w answer
 
-abbrev pub answer_of : List ℕ → Option (Option Fs) → Answer
-answer_of pin None = No (UnknownPin pin)
-answer_of pin (Some slew) = Told (Value slew)
+-- the row of a command at its place
+abbrev pub row_at : ℕ → Command → Versioned → Answer → Row
+row_at place command w answer =
+    record { command = place; query = query_of command; number = w.number; answer = answer }
 
-abbrev pub slew_row : ℕ → List ℕ → Split → Tran → Option (Option Fs) → Row
-slew_row place pin split tran answer =
-    record { command = place; query = Some (Slew pin split tran); number = 0; answer = answer_of pin answer }
+-- the number of the last row, or the first of the run
+abbrev pub last_number : ℕ → List Row → ℕ
+last_number first [] = first
+last_number first (row ∷ rows) = last_number row.number rows
 
--- the row of a question for a slew; another command has none
-abbrev pub query_rows : List PinRow → ℕ → Query → List Row
-query_rows rows place (Slew pin split tran) = slew_row place pin split tran (told rows pin split tran) ∷ []
-query_rows rows place (At pin split tran) = []
-query_rows rows place (Rat pin split tran) = []
-query_rows rows place (Slack pin split tran) = []
-query_rows rows place (Endpoint pin kind) = []
-query_rows rows place (WorstPath pin kind) = []
-query_rows rows place (Wns kind) = []
-query_rows rows place (Tns kind) = []
-query_rows rows place (Worst kind count) = []
+-- the rows of the first commands, and the version that the session holds behind them
+pub record IsRun (origin : Design) (first : ℕ) (commands : List Command) (v : Versioned) (rows : List Row) : Type 0 where
+  pub from : v.first ≡ first
+  pub origin_kept : v.origin ≡ origin
+  pub ordered : OrderedFrom v.journal first 1 false 1 first commands (map mark_of rows)
+  pub told : AreTrue origin v.journal first commands rows
+  pub changes : ecos_of 1 v.journal ≡ accepted_ecos commands rows
+  pub own : All (λ entry. entry.session ≡ 1) v.journal
+  pub last : last_number first rows ≡ first + length v.journal
 
-abbrev pub command_rows : List PinRow → ℕ → Command → List Row
-command_rows rows place (Ask q) = query_rows rows place q
-command_rows rows place Take = []
-command_rows rows place (Await number looks) = []
-command_rows rows place (Change eco) = []
-
--- the rows of commands from a place on
-unfoldable pub rows_from : List PinRow → ℕ → List Command → List Row
-rows_from rows place [] = []
-rows_from rows place (command ∷ commands) = command_rows rows place command ++ rows_from rows (place + 1) commands
-
--- a row that is no answer makes the status 1
-abbrev pub is_refusal : Answer → Bool
-is_refusal Taken = false
-is_refusal Reached = false
-is_refusal (NotYet looks) = true
-is_refusal Accepted = false
-is_refusal (Refused fault) = true
-is_refusal (No fault) = true
-is_refusal (Told report) = false
-
-abbrev pub has_refusal : List Row → Bool
-has_refusal rows = list_any (λ row. is_refusal row.answer) rows
-
--- the text of rows where there is no clock
-abbrev pub rows_text : List Row → List ℕ
-rows_text rows = flat_map (row_text []) rows
-
--- the answer to a question for a slew, as it is written
-abbrev pub slew_text : List ℕ → Option (Option Fs) → List ℕ
-slew_text pin None = line (codes "no" ++ word (codes "Q1" ++ word pin))
-slew_text pin (Some slew) = line (codes "slew" ++ word (time_text slew))
-
--- nothing is tested
-abbrev pub no_totals : Totals
-no_totals =
-    record {
-      number = 0;
-      setup_wns = None;
-      setup_tns = record { 0 = pos 0 };
-      hold_wns = None;
-      hold_tns = record { 0 = pos 0 };
-    }
+-- the output of a session that holds this version
+abbrev pub IsWritten : Versioned → List Row → List ℕ → Type 0
+IsWritten v rows text =
+    (totals : Totals) × AreTotals v.stored.design v.number totals
+    × (text ≡ output_text v.journal (record { rows = rows } ∷ []) v.stored.design.constraints.clocks totals)

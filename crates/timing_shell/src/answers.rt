@@ -1,22 +1,28 @@
-//! The answer of a run whose documents were read.
+//! The end of a run whose documents were read.
 
-ghost use Rattle.std.specs.Prelude.{◌≡◌, ◌⊎◌, ◌≤◌, [], IfOk, MatchOption, length, if◌then◌else◌};
-ghost use Rattle.first_rows.specs.Plain.{IsPlain, pin_rows};
-ghost use Rattle.timing_defs.specs.Range.{NoOrigin};
-ghost use Rattle.timing_shell.specs.Checked.{IsReady, IsChecked, FailsCheck, Overflows};
-ghost use Rattle.timing_shell.specs.FirstForm.{IsFirstForm, EndsOver, session_output};
+ghost use Rattle.std.specs.Prelude.{◌≡◌, ◌≤◌, ◌∷◌, [], false, IfOk};
+ghost use Rattle.std.specs.Arc.{arc_value};
 ghost use Rattle.timing_shell.specs.Documents.{design_line};
-ghost use Rattle.timing_shell.specs.Serving.{design_of, DesignEnds};
-ghost use Rattle.timing_shell.specs.Session.{rows_from, has_refusal};
+ghost use Rattle.timing_shell.specs.Kept.{AreKept};
+ghost use Rattle.timing_shell.specs.Session.{IsScript, IsWritten};
+ghost use Rattle.timing_shell.specs.Serving.{is_wanting, is_refusal, has_refusal, status_of, DesignEnds, DocumentsEnd};
 
-use crate::checks::is_checked;
 use crate::documents::Documents;
-use crate::session::{answer_all, index};
-use crate::texts::{design_line, push_final, push_journal, push_session};
-use first_rows::{PinRow, plain_rows};
+use crate::session::{Session, run};
+use crate::texts::design_line;
+use design_link::link;
+use netlist_store::Store;
+use report_text::output_bytes;
+use session_engine::Version;
+use sta_outside::Gate;
 use sta_units::Memory;
 use std::alloc::Global;
-use timing_defs::{Command, Design, Fault, Items, Script};
+use std::sync::Arc;
+use std::thread::Threads;
+use timing_defs::{Answer, Fault, Items, Row, Script, Transcript};
+
+/// The number of the first version.
+const FIRST: u64 = 0;
 
 /// What a run ends with: its status, and what it writes.
 #[derive(Debug, Drop)]
@@ -25,124 +31,156 @@ pub(crate) struct End {
     pub(crate) text: Vec<u8>,
 }
 
-/// The linked design of a run, and its script.
-fn joined(alloc: Global, docs: Documents) -> (Design, Script)
-    ensures design { result.0 ≡ design_of docs }
-    ensures script { result.1 ≡ docs.script }
+/// Whether an answer is none: refused, no, or not yet.
+fn is_refusal(answer: &Answer) -> bool
+    ensures { result ≡ is_refusal answer.now }
+{
+    match answer {
+        Answer::NotYet(_) | Answer::Refused(_) | Answer::No(_) => true,
+        Answer::Taken | Answer::Reached | Answer::Accepted | Answer::Told(_) => false,
+    }
+}
+
+fn has_refusal(rows: &[Row]) -> bool
+    ensures { result ≡ has_refusal rows.now }
+{
+    rows.iter().any(|row| is_refusal(&row.answer))
+}
+
+/// The status of a run that is answered.
+fn status(rows: &[Row]) -> u8
+    ensures status { result ≡ status_of (record { rows = rows.now } ∷ []) }
+    ensures low { result ≤ 3 }
+{
+    if has_refusal(rows) { 1 } else { 0 }
+}
+
+/// The output of a session that has answered its script.
+fn written(alloc: Global, held: &Version, rows: Items<Row>) -> Result<Vec<u8>, Memory>
+    ensures { IfOk result (λ text. IsWritten held.now rows text.items) }
+{
+    let entries = held.entries(alloc)?;
+    let totals = held.totals();
+    let mut transcripts = Items::new(alloc);
+    transcripts.push(Transcript { rows })?;
+    output_bytes(
+        alloc,
+        &entries,
+        &transcripts,
+        &held.store().constraints().clocks,
+        &totals,
+    )
+}
+
+/// The end of a run of a script, from a first version on.
+fn script_end<H: Threads + Sync, G: Gate>(
+    rt: &H,
+    alloc: Global,
+    version: Arc<Version>,
+    script: &Script,
+    workers: u32,
+    gate: &G,
+) -> Result<End, Memory>
+    requires some { 1 ≤ workers }
+    requires most { workers ≤ 32 }
+    requires script { IsScript script.now }
+    requires first { (arc_value version).first ≡ 0 }
+    requires begins { (arc_value version).journal ≡ [] }
+    ensures answer { IfOk result (λ end. DesignEnds (arc_value version).origin (script.now ∷ []) end.status end.text.items) }
+    ensures low { IfOk result (λ end. end.status ≤ 3) }
+{
+    let session = run(
+        rt,
+        alloc,
+        version,
+        script.commands.as_slice(),
+        workers,
+        gate,
+    )?;
+    session.held.laws();
+    let status = status(session.rows.as_slice());
+    let Session { held, rows } = session;
+    let text = written(alloc, &held, rows)?;
+    Ok(End { status, text })
+}
+
+/// Whether a fault is want of memory.
+fn is_wanting(fault: &Fault) -> bool
+    ensures { result ≡ is_wanting fault.now }
+{
+    matches!(fault, Fault::Memory)
+}
+
+/// The end of a run that a fault of its design stops.
+fn fault_end(alloc: Global, fault: &Fault) -> Result<End, Memory>
+    ensures { IfOk result (λ end. (is_wanting fault.now ≡ false) × (end.status ≡ 3) × (end.text.items ≡ design_line fault.now)) }
+{
+    if is_wanting(fault) {
+        return Err(Memory);
+    }
+    let text = design_line(alloc, fault)?;
+    Ok(End { status: 3, text })
+}
+
+/// The end of a run over the store of its design.
+fn store_end<H: Threads + Sync, G: Gate>(
+    rt: &H,
+    alloc: Global,
+    store: Store,
+    script: &Script,
+    workers: u32,
+    gate: &G,
+) -> Result<End, Memory>
+    requires some { 1 ≤ workers }
+    requires most { workers ≤ 32 }
+    requires script { IsScript script.now }
+    ensures ends { IfOk result (λ end. DesignEnds store.design (script.now ∷ []) end.status end.text.items) }
+    ensures low { IfOk result (λ end. end.status ≤ 3) }
+{
+    match Version::first(rt, alloc, FIRST, store, workers, gate) {
+        Ok(version) => {
+            let end = script_end(rt, alloc, version, script, workers, gate)?;
+            Ok(end)
+        }
+        Err(fault) => {
+            let end = fault_end(alloc, &fault)?;
+            Ok(end)
+        }
+    }
+}
+
+/// The end of a run whose documents were read: they are linked, and the script is answered over their
+/// design.
+#[tactic(auto, using(crate::proofs::EndLemmas::documents_refused, crate::proofs::EndLemmas::documents_linked))]
+pub(crate) fn end_of<H: Threads + Sync, G: Gate>(
+    rt: &H,
+    alloc: Global,
+    docs: Documents,
+    workers: u32,
+    gate: &G,
+) -> Result<End, Memory>
+    requires some { 1 ≤ workers }
+    requires most { workers ≤ 32 }
+    requires kept { AreKept docs }
+    ensures ends { IfOk result (λ end. DocumentsEnd docs end.status end.text.items) }
+    ensures low { IfOk result (λ end. end.status ≤ 3) }
 {
     let Documents {
         early,
         late,
         netlist,
         sdc,
+        spef,
         script,
     } = docs;
-    let design = Design {
-        early,
-        late,
-        ports: netlist.ports,
-        nets: netlist.nets,
-        insts: netlist.insts,
-        constraints: sdc,
-        rcs: Items::new(alloc),
-    };
-    (design, script)
-}
-
-/// The rows of all pins; none where a quantity leaves its range.
-#[tactic(auto, using(crate::proofs::UnbuiltLemmas::overflows))]
-fn all_rows(alloc: Global, design: &Design) -> Result<Option<Items<PinRow>>, Memory>
-    requires { IsPlain design.now }
-    ensures { IfOk result (λ found. MatchOption found (Overflows design.now) (λ rows. (rows ≡ pin_rows design.now) × NoOrigin design.now)) }
-{
-    match plain_rows(alloc, design) {
-        Ok(rows) => Ok(Some(rows)),
-        Err(Fault::Memory) => Err(Memory),
-        Err(_) => Ok(None),
-    }
-}
-
-/// The rows of all pins of a design that is built; none where it is not.
-#[tactic(auto, using(crate::proofs::UnbuiltLemmas::checked_plain))]
-fn checked_rows(alloc: Global, design: &Design) -> Result<Option<Items<PinRow>>, Memory>
-    requires { IsReady design.now }
-    ensures { IfOk result (λ found. MatchOption found (FailsCheck design.now ⊎ Overflows design.now) (λ rows. (rows ≡ pin_rows design.now) × IsChecked design.now × NoOrigin design.now)) }
-{
-    if !is_checked(alloc, design)? {
-        return Ok(None);
-    }
-    match all_rows(alloc, design)? {
-        None => Ok(None),
-        Some(rows) => Ok(Some(rows)),
-    }
-}
-
-/// The output of a session without entries, and whether a row is a refusal.
-fn output(
-    alloc: Global,
-    rows: &Items<PinRow>,
-    commands: &[Command],
-) -> Result<(Vec<u8>, bool), Memory>
-    requires { length commands.now ≤ 10000 }
-    ensures text { IfOk result (λ made. made.0.items ≡ session_output rows.now commands.now) }
-    ensures refused { IfOk result (λ made. made.1 ≡ has_refusal (rows_from rows.now 1 commands.now)) }
-{
-    let places = index(alloc, rows.as_slice())?;
-    let mut text = Vec::new(alloc);
-    push_journal(alloc, &mut text)?;
-    push_session(alloc, &mut text, commands.len())?;
-    let refused = answer_all(alloc, &mut text, rows, &places, commands)?;
-    push_final(alloc, &mut text)?;
-    Ok((text, refused))
-}
-
-/// The answer to a script.
-fn answered(alloc: Global, rows: &Items<PinRow>, commands: &[Command]) -> Result<End, Memory>
-    requires { length commands.now ≤ 10000 }
-    ensures text { IfOk result (λ end. end.text.items ≡ session_output rows.now commands.now) }
-    ensures status { IfOk result (λ end. end.status ≡ (if has_refusal (rows_from rows.now 1 commands.now) then 1 else 0)) }
-    ensures low { IfOk result (λ end. end.status ≤ 3) }
-{
-    let (text, refused) = output(alloc, rows, commands)?;
-    let status = if refused { 1 } else { 0 };
-    Ok(End { status, text })
-}
-
-/// The end of a run whose design has a form that is not built.
-fn unbuilt(alloc: Global) -> Result<End, Memory>
-    ensures { IfOk result (λ end. (end.status ≡ 3) × (end.text.items ≡ design_line)) }
-{
-    let text = design_line(alloc)?;
-    Ok(End { status: 3, text })
-}
-
-/// How a run ends over a design.
-fn end_over(alloc: Global, design: &Design, commands: &[Command]) -> Result<End, Memory>
-    requires ready { IsReady design.now }
-    requires few { length commands.now ≤ 10000 }
-    ensures ends { IfOk result (λ end. EndsOver design.now commands.now end.status end.text.items) }
-    ensures low { IfOk result (λ end. end.status ≤ 3) }
-{
-    match checked_rows(alloc, design)? {
-        None => {
-            let end = unbuilt(alloc)?;
+    match link(alloc, early, late, netlist, sdc, spef) {
+        Ok(store) => {
+            let end = store_end(rt, alloc, store, &script, workers, gate)?;
             Ok(end)
         }
-        Some(rows) => {
-            let end = answered(alloc, &rows, commands)?;
+        Err(fault) => {
+            let end = fault_end(alloc, &fault)?;
             Ok(end)
         }
     }
-}
-
-/// How a run ends whose documents were read.
-#[tactic(auto, using(crate::proofs::AnswerLemmas::is_ready))]
-pub(crate) fn end_of(alloc: Global, docs: Documents) -> Result<End, Memory>
-    requires { IsFirstForm docs }
-    ensures ends { IfOk result (λ end. DesignEnds docs end.status end.text.items) }
-    ensures low { IfOk result (λ end. end.status ≤ 3) }
-{
-    let (design, script) = joined(alloc, docs);
-    let end = end_over(alloc, &design, script.commands.as_slice())?;
-    Ok(end)
 }

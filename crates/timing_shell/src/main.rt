@@ -2,14 +2,13 @@
 #![tactic(auto)]
 
 mod answers;
-mod checks;
 mod documents;
-mod name_sets;
-mod nets;
-mod same;
+#[cfg(test)]
+mod examples;
 mod serving;
 mod session;
 mod texts;
+mod words;
 
 use serving::{Status, serve};
 use sta_outside::{FileShelf, NoGate, StdSink};
@@ -22,7 +21,7 @@ use std::process::ExitCode;
 const WANTING: Status = 6;
 
 /// The words after the program's name; none of them where one is not text.
-fn words(rt: &HostRuntime) -> Result<Vec<String>, Memory> {
+fn arguments(rt: &HostRuntime) -> Result<Vec<String>, Memory> {
     let mut words = Vec::new(rt.alloc());
     match env::args(rt) {
         Err(error) if error.kind() == ErrorKind::OutOfMemory => return Err(Memory),
@@ -39,7 +38,7 @@ fn words(rt: &HostRuntime) -> Result<Vec<String>, Memory> {
 }
 
 fn main(rt: HostRuntime) -> ExitCode {
-    let status = match words(&rt) {
+    let status = match arguments(&rt) {
         Err(Memory) => WANTING,
         Ok(words) => {
             let mut shelf = FileShelf::new(&rt);

@@ -2,38 +2,48 @@
 
 ghost use Rattle.std.specs.Prelude.{◌≡◌, ◌≤◌, map, IfOk};
 ghost use Rattle.std.specs.String.{string_bytes};
-ghost use Rattle.first_forms.specs.Words.{run_words};
+ghost use Rattle.timing_shell.specs.Words.{run_words};
 ghost use Rattle.timing_shell.specs.Serving.{RunEnds, Ends, Written, NothingRefuses, IsAnswered};
 
 use crate::answers::{End, end_of};
 use crate::documents::{Stop, name_of, read_all};
 use crate::texts::{refusal_line, shelf_line, words_line};
-use first_forms::{Run, first_words};
+use crate::words::{Run, read_words};
 use sta_outside::{Gate, Shelf, Sink};
 use sta_units::Memory;
 use std::alloc::Global;
 use std::thread::Threads;
 
-/// How a run ended: 0 where all rows are answers, 1 where some row is none, 2 where the words ask
-/// for no run, 3 where a document or the design is refused, 4 where the shelf did not give a
-/// document, 5 where the sink failed, 6 for want of memory.
+/// How a run ended: 0 where all rows are answers, 1 where some row is refused, no or not yet, 2 where
+/// the words ask for no run, 3 where a document or the design has a fault, 4 where the shelf did not
+/// give a document, 5 where the sink failed, 6 for want of memory.
 pub type Status = u8;
 
 /// How a run ends, by its words.
 #[tactic(auto, using(crate::proofs::EndLemmas::run_read, crate::proofs::EndLemmas::run_refused, crate::proofs::EndLemmas::run_missing))]
-fn run_end<S: Shelf>(alloc: Global, shelf: &mut S, run: &Run<'_>) -> Result<End, Memory>
+fn run_end<H: Threads + Sync, S: Shelf, G: Gate>(
+    rt: &H,
+    alloc: Global,
+    shelf: &mut S,
+    run: &Run<'_>,
+    gate: &G,
+) -> Result<End, Memory>
+    requires some { 1 ≤ run.now.workers }
+    requires most { run.now.workers ≤ 32 }
     ensures ends { IfOk result (λ end. RunEnds (S.holds shelf.old) (S.faults shelf.old) (S.faults shelf.new) (run_words run.now) end.status end.text.items) }
+    ensures kept { S.holds shelf.new ≡ S.holds shelf.old }
+    ensures rising { S.faults shelf.old ≤ S.faults shelf.new }
     ensures count { IfOk result (λ end. end.status ≤ 3 → S.faults shelf.new ≡ S.faults shelf.old) }
     ensures status { IfOk result (λ end. end.status ≤ 4) }
 {
     match read_all(alloc, shelf, run) {
         Ok(docs) => {
-            let end = end_of(alloc, docs)?;
+            let end = end_of(rt, alloc, docs, run.workers, gate)?;
             Ok(end)
         }
         Err(Stop::Memory) => Err(Memory),
-        Err(Stop::Refused(role)) => {
-            let text = refusal_line(alloc, role)?;
+        Err(Stop::Refused(role, code, place)) => {
+            let text = refusal_line(alloc, role, code, place)?;
             Ok(End { status: 3, text })
         }
         Err(Stop::Missing(role, how)) => {
@@ -45,18 +55,26 @@ fn run_end<S: Shelf>(alloc: Global, shelf: &mut S, run: &Run<'_>) -> Result<End,
 
 /// How a run ends, and what it is to write.
 #[tactic(auto, using(crate::proofs::EndLemmas::ends_asked, crate::proofs::EndLemmas::ends_unasked))]
-fn ending<S: Shelf>(alloc: Global, words: &[String], shelf: &mut S) -> Result<End, Memory>
+fn ending<H: Threads + Sync, S: Shelf, G: Gate>(
+    rt: &H,
+    alloc: Global,
+    words: &[String],
+    shelf: &mut S,
+    gate: &G,
+) -> Result<End, Memory>
     ensures ends { IfOk result (λ end. Ends (S.holds shelf.old) (S.faults shelf.old) (S.faults shelf.new) (map string_bytes words.now) end.status end.text.items) }
+    ensures kept { S.holds shelf.new ≡ S.holds shelf.old }
+    ensures rising { S.faults shelf.old ≤ S.faults shelf.new }
     ensures count { IfOk result (λ end. end.status ≤ 3 → S.faults shelf.new ≡ S.faults shelf.old) }
     ensures status { IfOk result (λ end. end.status ≤ 4) }
 {
-    match first_words(words) {
+    match read_words(words) {
         None => {
             let text = words_line(alloc)?;
             Ok(End { status: 2, text })
         }
         Some(run) => {
-            let end = run_end(alloc, shelf, &run)?;
+            let end = run_end(rt, alloc, shelf, &run, gate)?;
             Ok(end)
         }
     }
@@ -64,11 +82,20 @@ fn ending<S: Shelf>(alloc: Global, words: &[String], shelf: &mut S) -> Result<En
 
 /// Runs the server once, by its words.
 #[tactic(auto, using(crate::proofs::EndLemmas::written_whole, crate::proofs::EndLemmas::written_partly, crate::proofs::EndLemmas::written_nothing))]
-fn written<S: Shelf, K: Sink>(alloc: Global, words: &[String], shelf: &mut S, out: &mut K) -> Status
+fn written<H: Threads + Sync, S: Shelf, K: Sink, G: Gate>(
+    rt: &H,
+    alloc: Global,
+    words: &[String],
+    shelf: &mut S,
+    out: &mut K,
+    gate: &G,
+) -> Status
     ensures ends { Written (K.written out.old) (K.written out.new) (K.faults out.old) (K.faults out.new) (S.holds shelf.old) (S.faults shelf.old) (S.faults shelf.new) (map string_bytes words.now) result }
+    ensures kept { S.holds shelf.new ≡ S.holds shelf.old }
+    ensures rising { S.faults shelf.old ≤ S.faults shelf.new }
     ensures shelf_count { result ≤ 3 → S.faults shelf.new ≡ S.faults shelf.old }
 {
-    match ending(alloc, words, shelf) {
+    match ending(rt, alloc, words, shelf, gate) {
         Err(Memory) => 6,
         Ok(end) => match out.put(end.text.as_slice()) {
             Ok(()) => end.status,
@@ -77,22 +104,26 @@ fn written<S: Shelf, K: Sink>(alloc: Global, words: &[String], shelf: &mut S, ou
     }
 }
 
-/// Runs the server once: the words after the program's name ask for a run of documents, which are
-/// fetched from the shelf, and what the run writes is put into the sink in one piece. The answer
-/// of each question is that of the whole design of the documents. The gate is not called yet.
+/// Runs the server once: the words after the program's name ask for a run of documents and a script,
+/// which are fetched from the shelf and read. The script is answered over the design of the documents,
+/// each question by the full analysis of the design after the ECOs before it, and what the run writes
+/// is put into the sink in one piece. Takes the work of its readers, of one full analysis for the first
+/// version and for each ECO, and of its questions.
 pub fn serve<H: Threads + Sync, S: Shelf, K: Sink, G: Gate>(
-    _rt: &H,
+    rt: &H,
     alloc: Global,
     words: &[String],
     shelf: &mut S,
     out: &mut K,
-    _gate: &G,
+    gate: &G,
 ) -> Status
     ensures ends { Written (K.written out.old) (K.written out.new) (K.faults out.old) (K.faults out.new) (S.holds shelf.old) (S.faults shelf.old) (S.faults shelf.new) (map string_bytes words.now) result }
+    ensures kept { S.holds shelf.new ≡ S.holds shelf.old }
+    ensures rising { S.faults shelf.old ≤ S.faults shelf.new }
     ensures shelf_count { result ≤ 3 → S.faults shelf.new ≡ S.faults shelf.old }
     ensures completeness { NothingRefuses (S.holds shelf.old) (S.faults shelf.old) (S.faults shelf.new) (K.faults out.old) (K.faults out.new) (map string_bytes words.now) → IsAnswered result }
 {
-    written(alloc, words, shelf, out)
+    written(rt, alloc, words, shelf, out, gate)
 }
 
 #[cfg(test)]
@@ -125,6 +156,23 @@ mod tests {
 
     const SLEW: &str = "report_slew u2:Z late rise\n";
 
+    const EDITS: &str =
+        "repower_gate u9 INV\ntake\nawait 1 2\nbegin_eco\ninsert_net n9\nremove_net n9\ncommit_eco\nawait 1 2\nreport_at in late rise\n";
+
+    const ANSWERS: &str = "journal 1 1
+entry 1 session 1 edits 2
+insert_net n9
+remove_net n9
+session 1 rows 6
+1 0 refused E1 u9
+2 0 taken
+3 0 not_yet 2
+4 1 accepted
+5 1 reached
+6 1 at 0
+final 1 setup none 0.000 hold none 0.000
+";
+
     fn texts(alloc: Global, all: &[&str]) -> Result<Vec<Vec<u8>>, Fail> {
         let mut texts = Vec::new(alloc);
         for text in all {
@@ -151,24 +199,18 @@ mod tests {
         let silence = "journal 1 0\nsession 1 rows 0\nfinal 0 setup none 0.000 hold none 0.000\n";
         let absent = "run a.lib x.lib a.v empty none 1 s1";
         let parasitics = "run a.lib a.lib a.v empty a.v 1 s1";
+        let zz = "report_slew zz early fall";
         let rows = [
             (RUN, NETLIST, SLEW, 0, 1000, 0, answer),
-            (
-                RUN,
-                NETLIST,
-                "report_slew zz early fall",
-                0,
-                1000,
-                1,
-                refusal,
-            ),
+            (RUN, NETLIST, zz, 0, 1000, 1, refusal),
             (RUN, NETLIST, "", 0, 1000, 0, silence),
-            (RUN, NETLIST, "tack", 0, 1000, 3, "fault script1 N1 0\n"),
-            (RUN, "", SLEW, 0, 1000, 3, "fault netlist N1 0\n"),
-            (parasitics, NETLIST, SLEW, 0, 1000, 3, "fault spef N1 0\n"),
-            (RUN, UNKNOWN, SLEW, 0, 1000, 3, "fault design N2\n"),
-            (RUN, TWICE, SLEW, 0, 1000, 3, "fault design N2\n"),
-            (RUN, BEHIND, SLEW, 0, 1000, 3, "fault design N2\n"),
+            (RUN, BEHIND, SLEW, 0, 1000, 0, answer),
+            (RUN, NETLIST, EDITS, 0, 1000, 1, ANSWERS),
+            (RUN, NETLIST, "tack", 0, 1000, 3, "fault script1 C1 1\n"),
+            (RUN, "", SLEW, 0, 1000, 3, "fault netlist V5 0\n"),
+            (parasitics, NETLIST, SLEW, 0, 1000, 3, "fault spef P1 0\n"),
+            (RUN, UNKNOWN, SLEW, 0, 1000, 3, "fault design E3 NOCELL\n"),
+            (RUN, TWICE, SLEW, 0, 1000, 3, "fault design E10 out\n"),
             ("", NETLIST, SLEW, 0, 1000, 2, "fault words\n"),
             ("run", NETLIST, SLEW, 0, 1000, 2, "fault words\n"),
             (

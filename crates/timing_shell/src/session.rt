@@ -1,162 +1,196 @@
-//! The answers of a session of questions for slews.
+//! One session: the commands of a script, answered in order over the version that the session holds.
 
-ghost use Rattle.std.specs.Prelude.{◌≡◌, ◌≤◌, ◌++◌, ◌||◌, ◌==◌, ℕ, List, OnOk, IfOk, Some, None, cond, length};
-ghost use Rattle.std.specs.Cmp.Lexicographic.{pointwise};
-ghost use Rattle.std.specs.Str.{bytes_eq};
-ghost use Rattle.indexmap.specs.IndexMap.{get};
-ghost use Rattle.timing_shell.specs.Session.{slew_of, tran_row, or_else, IsIndex, told, query_rows, command_rows, rows_from, has_refusal, rows_text};
+ghost use Rattle.std.specs.Prelude.{ℕ, ◌≡◌, ◌+◌, ◌≤◌, [], ◌∷◌, ◌++◌, List, true, length, replicate, IfOk};
+ghost use Rattle.std.specs.Arc.{arc_value};
+ghost use Rattle.std.specs.List.{list_all};
+ghost use Rattle.timing_defs.specs.declared.design.Design.{Design};
+ghost use Rattle.timing_defs.specs.declared.scripts.Command.{Command};
+ghost use Rattle.timing_defs.specs.Sessions.{query_of};
+ghost use Rattle.timing_defs.specs.Documents.{is_eco};
+ghost use Rattle.script_reader.specs.Ecos.{has_eco};
+ghost use Rattle.timing_shell.specs.Session.{has_looks, Waits, Tells, Changes, Answers, IsRun};
 
-use crate::texts::push_row;
-use first_rows::PinRow;
-use indexmap::IndexMap;
-use sta_units::{Fs, Memory};
+use session_engine::{Snapshot, Version, prepare};
+use sta_outside::Gate;
+use sta_units::{Memory, Steps};
 use std::alloc::Global;
-use timing_defs::{Command, Items, Name, NodeRow, Query, Split, Tran};
+use std::sync::Arc;
+use std::thread::Threads;
+use timing_defs::{Answer, Command, Eco, Fault, Items, Query, QueryFault, Row};
 
-/// Gives a name its place, unless it has one.
-#[tactic(auto, using(crate::proofs::IndexLemmas::stays, crate::proofs::IndexLemmas::joins))]
-fn add(
+/// The number of the one session.
+const SESSION: u32 = 1;
+
+/// The count of nodes that are evaluated for an ECO.
+struct Evaluated;
+
+/// A session: the version that it holds, and the rows of the commands that it has answered.
+#[derive(Drop)]
+pub(crate) struct Session {
+    pub(crate) held: Arc<Version>,
+    pub(crate) rows: Items<Row>,
+}
+
+/// What so many looks see where no other session publishes.
+fn seen(alloc: Global, looks: u32, number: u64) -> Result<Items<u64>, Memory>
+    ensures { IfOk result (λ seen. seen ≡ replicate looks number) }
+{
+    let mut seen = Items::new(alloc);
+    for at in 0..looks {
+        let _ = at;
+        seen.push(number)?;
+    }
+    Ok(seen)
+}
+
+/// Waits for a number at the version that is held, with so many looks.
+fn wait(alloc: Global, held: u64, number: u64, looks: u32) -> Result<Answer, Memory>
+    ensures { IfOk result (Waits held number looks) }
+{
+    if number <= held {
+        return Ok(Answer::Reached);
+    }
+    let seen = seen(alloc, looks, held)?;
+    Ok(Answer::NotYet(seen))
+}
+
+/// The answer of a version to a question.
+fn ask(alloc: Global, held: &Arc<Version>, query: &Query) -> Result<Answer, Memory>
+    ensures { IfOk result (Tells (arc_value held.now).stored.design query.now) }
+{
+    let snapshot = Snapshot::of(held.clone()?);
+    match snapshot.query(alloc, query) {
+        Ok(report) => Ok(Answer::Told(report)),
+        Err(QueryFault::Memory) => Err(Memory),
+        Err(fault) => Ok(Answer::No(fault)),
+    }
+}
+
+/// Makes the version after an ECO, which the session holds then, or refuses it.
+fn change<H: Threads + Sync, G: Gate>(
+    rt: &H,
     alloc: Global,
-    places: &mut IndexMap<Name, usize>,
-    name: &Name,
-    at: usize,
-) -> Result<(), Memory>
-    ensures { OnOk result ((q : List ℕ) → get (pointwise ◌==◌) places.new q ≡ or_else (get (pointwise ◌==◌) places.old q) (cond (bytes_eq name.now q) (Some at) None)) }
+    held: Arc<Version>,
+    eco: &Eco,
+    workers: u32,
+    gate: &G,
+) -> Result<(Arc<Version>, Answer), Memory>
+    requires some { 1 ≤ workers }
+    requires most { workers ≤ 32 }
+    requires eco { is_eco eco.now ≡ true }
+    ensures { IfOk result (λ got. Changes (arc_value held) eco.now (arc_value got.0) got.1) }
 {
-    if places.contains_key(name) {
-        return Ok(());
-    }
-    let name = name.copied(alloc)?;
-    match places.insert(name, at) {
-        Ok(_) => Ok(()),
-        Err(_) => Err(Memory),
-    }
-}
-
-/// The first place of each name.
-#[tactic(auto, using(std::proofs::lemmas::List::drop_more, crate::proofs::IndexLemmas::or_else_chain), unfolding(crate::specs::Session::place_from))]
-pub(crate) fn index(alloc: Global, rows: &[PinRow]) -> Result<IndexMap<Name, usize>, Memory>
-    ensures { IfOk result (λ places. IsIndex places rows.now) }
-{
-    let mut places = IndexMap::new(alloc);
-    let mut at = 0usize;
-    for row in rows {
-        add(alloc, &mut places, &row.pin, at)?;
-        at += 1;
-    }
-    Ok(places)
-}
-
-fn slew_of(row: &NodeRow, split: Split) -> Option<Fs>
-    ensures { result ≡ slew_of row.now split }
-{
-    match split {
-        Split::Early => row.early_slew,
-        Split::Late => row.late_slew,
+    let mut steps: Steps<Evaluated> = Steps::none();
+    match prepare(rt, alloc, &held, SESSION, eco, workers, gate, &mut steps) {
+        Ok(next) => Ok((next, Answer::Accepted)),
+        Err(Fault::Memory) => Err(Memory),
+        Err(fault) => Ok((held, Answer::Refused(fault))),
     }
 }
 
-fn tran_row(row: &PinRow, tran: Tran) -> &NodeRow
-    ensures { result.now ≡ tran_row row.now tran }
-{
-    match tran {
-        Tran::Rise => &row.rise,
-        Tran::Fall => &row.fall,
-    }
-}
-
-/// The slew of a node, or that there is no such pin.
-#[tactic(auto, using(crate::proofs::IndexLemmas::named_at, crate::proofs::IndexLemmas::named_none))]
-fn told(
-    rows: &Items<PinRow>,
-    places: &IndexMap<Name, usize>,
-    pin: &Name,
-    split: Split,
-    tran: Tran,
-) -> Option<Option<Fs>>
-    requires { IsIndex places.now rows.now }
-    ensures { result ≡ told rows.now pin.now split tran }
-{
-    let at = places.get(pin).copied()?;
-    let row = rows.get(at)?;
-    Some(slew_of(tran_row(row, tran), split))
-}
-
-/// Puts the row of a question, and tells whether it is a refusal.
-#[tactic(auto, using(crate::proofs::IndexLemmas::written_row, crate::proofs::IndexLemmas::refused_row))]
-fn answer_query(
+/// The answer to a command, and the version that the session holds then.
+fn answer<H: Threads + Sync, G: Gate>(
+    rt: &H,
     alloc: Global,
-    out: &mut Vec<u8>,
-    rows: &Items<PinRow>,
-    places: &IndexMap<Name, usize>,
-    place: u32,
-    query: &Query,
-) -> Result<bool, Memory>
-    requires { IsIndex places.now rows.now }
-    ensures text { OnOk result (out.new.items ≡ out.old.items ++ rows_text (query_rows rows.now place query.now)) }
-    ensures refused { IfOk result (λ refused. refused ≡ has_refusal (query_rows rows.now place query.now)) }
-{
-    match query {
-        Query::Slew { pin, split, tran } => {
-            let answer = told(rows, places, pin, *split, *tran);
-            push_row(alloc, out, place, pin.as_bytes(), answer)?;
-            Ok(answer.is_none())
-        }
-        Query::At { .. }
-        | Query::Rat { .. }
-        | Query::Slack { .. }
-        | Query::Endpoint { .. }
-        | Query::WorstPath { .. }
-        | Query::Wns { .. }
-        | Query::Tns { .. }
-        | Query::Worst { .. } => Ok(false),
-    }
-}
-
-fn answer_command(
-    alloc: Global,
-    out: &mut Vec<u8>,
-    rows: &Items<PinRow>,
-    places: &IndexMap<Name, usize>,
-    place: u32,
+    held: Arc<Version>,
     command: &Command,
-) -> Result<bool, Memory>
-    requires { IsIndex places.now rows.now }
-    ensures text { OnOk result (out.new.items ≡ out.old.items ++ rows_text (command_rows rows.now place command.now)) }
-    ensures refused { IfOk result (λ refused. refused ≡ has_refusal (command_rows rows.now place command.now)) }
+    workers: u32,
+    gate: &G,
+) -> Result<(Arc<Version>, Answer), Memory>
+    requires some { 1 ≤ workers }
+    requires most { workers ≤ 32 }
+    requires eco { has_eco command.now ≡ true }
+    ensures { IfOk result (λ got. Answers (arc_value held) command.now (arc_value got.0) got.1) }
 {
     match command {
-        Command::Ask(query) => answer_query(alloc, out, rows, places, place, query),
-        Command::Take | Command::Await { .. } | Command::Change(_) => Ok(false),
+        Command::Take => Ok((held, Answer::Taken)),
+        Command::Await { number, looks } => {
+            let answer = wait(alloc, held.number(), *number, *looks)?;
+            Ok((held, answer))
+        }
+        Command::Ask(query) => {
+            let answer = ask(alloc, &held, query)?;
+            Ok((held, answer))
+        }
+        Command::Change(eco) => change(rt, alloc, held, eco, workers, gate),
     }
 }
 
-fn either(a: bool, b: bool) -> bool
-    ensures { result ≡ (a || b) }
+/// The question of a command that asks.
+fn query_of(command: &Command) -> Result<Option<Query>, Memory>
+    ensures { IfOk result (λ query. query ≡ query_of command.now) }
 {
-    a || b
+    match command {
+        Command::Ask(query) => {
+            let query = query.clone()?;
+            Ok(Some(query))
+        }
+        Command::Take | Command::Await { .. } | Command::Change(_) => Ok(None),
+    }
 }
 
-/// Puts the rows of all commands, and tells whether one is a refusal.
-#[tactic(auto, using(std::proofs::lemmas::List::drop_more, crate::proofs::AnswerSteps::answer_steps), unfolding(crate::specs::Session::rows_from))]
-pub(crate) fn answer_all(
+/// Answers the command at a place: its row stands behind the others.
+fn step<H: Threads + Sync, G: Gate>(
+    rt: &H,
     alloc: Global,
-    out: &mut Vec<u8>,
-    rows: &Items<PinRow>,
-    places: &IndexMap<Name, usize>,
-    commands: &[Command],
-) -> Result<bool, Memory>
-    requires index { IsIndex places.now rows.now }
-    requires few { length commands.now ≤ 10000 }
-    ensures text { OnOk result (out.new.items ≡ out.old.items ++ rows_text (rows_from rows.now 1 commands.now)) }
-    ensures refused { IfOk result (λ refused. refused ≡ has_refusal (rows_from rows.now 1 commands.now)) }
+    session: Session,
+    place: u32,
+    command: &Command,
+    workers: u32,
+    gate: &G,
+) -> Result<Session, Memory>
+    requires some { 1 ≤ workers }
+    requires most { workers ≤ 32 }
+    requires looks { has_looks command.now ≡ true }
+    requires eco { has_eco command.now ≡ true }
+    ensures { IfOk result (λ next. (origin : Design) (first : ℕ) (commands : List Command) → place ≡ length commands + 1 → IsRun origin first commands (arc_value session.held) session.rows → IsRun origin first (commands ++ command.now ∷ []) (arc_value next.held) next.rows) }
 {
-    let mut refused = false;
+    let Session { held, mut rows } = session;
+    held.laws();
+    let query = query_of(command)?;
+    let (held, answer) = answer(rt, alloc, held, command, workers, gate)?;
+    held.laws();
+    let number = held.number();
+    rows.push(Row {
+        command: place,
+        query,
+        number,
+        answer,
+    })?;
+    Ok(Session { held, rows })
+}
+
+/// Answers the commands of a script, from a first version on. The session holds the newest version at
+/// each command, since no other session publishes. Room for the rows is there before the first
+/// command. Takes the work of its questions and ECOs.
+///
+/// # Errors
+///
+/// Want of memory alone.
+pub(crate) fn run<H: Threads + Sync, G: Gate>(
+    rt: &H,
+    alloc: Global,
+    first: Arc<Version>,
+    commands: &[Command],
+    workers: u32,
+    gate: &G,
+) -> Result<Session, Memory>
+    requires some { 1 ≤ workers }
+    requires most { workers ≤ 32 }
+    requires looks { list_all has_looks commands.now ≡ true }
+    requires ecos { list_all has_eco commands.now ≡ true }
+    requires few { length commands.now ≤ 10000 }
+    requires begins { (arc_value first).journal ≡ [] }
+    ensures { IfOk result (λ session. IsRun (arc_value first).origin (arc_value first).first commands.now (arc_value session.held) session.rows) }
+{
+    let mut session = Session {
+        held: first,
+        rows: Items::with_room(alloc, commands.len())?,
+    };
     let mut place = 1u32;
     for command in commands {
-        let is_refusal = answer_command(alloc, out, rows, places, place, command)?;
-        refused = either(refused, is_refusal);
+        session = step(rt, alloc, session, place, command, workers, gate)?;
         place += 1;
     }
-    Ok(refused)
+    Ok(session)
 }

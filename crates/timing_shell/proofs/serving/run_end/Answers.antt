@@ -1,7 +1,16 @@
-use Rattle.first_forms.specs.Words.{run_words}
-use Rattle.timing_shell.proofs.ReadLemmas.{read_documents}
+use Rattle.std.proofs.Common.{subst}
+use Rattle.timing_shell.specs.Words.{run_words}
+use Rattle.timing_shell.specs.Documents.{Stops, sources}
+use Rattle.timing_shell.proofs.EndLemmas.{run_refused}
 use Rattle.timing_shell.proofs.serving.run_end.Goals as goal
 
-pub end_of-requires : goal.end_of-requires
-end_of-requires g c =
-    read_documents (g.S.Shelf.holds c.args.shelf.now) (run_words c.args.run.now) c.in-Ok.docs c.in-Ok.ensures.value.0
+pub returns-in_ok-text-in-Err-Refused-clause-ends : goal.returns-in_ok-text-in-Err-Refused-clause-ends
+returns-in_ok-text-in-Err-Refused-clause-ends g c =
+    let holds = g.S.Shelf.holds c.args.shelf.now in
+    let old = g.S.Shelf.faults c.args.shelf.now in
+    let new = g.S.Shelf.faults c.read_all.new.shelf in
+    let run = run_words c.args.run.now in
+    let refused = c.in-Err-Refused in
+    run_refused holds old new run c.in_ok-text-in-Err-Refused.text.items refused.role refused.code refused.place
+    (subst (λ stop. Stops holds run old new (sources run) stop) refused.field-0-is refused.ensures.stop)
+    c.in_ok-text-in-Err-Refused.ensures

@@ -1,0 +1,31 @@
+#!/usr/bin/env bash
+# Times the whole program on a generated design: bench/shell.sh [CELLS [PROGRAM]], 50,000 cells where none are given, and at most
+# some 65,000. PROGRAM is a built program; without it ./lizdrog is run, which builds one where there is none. For 1, 2 and 4 workers
+# it prints the seconds and the peak memory of a run that only loads the design, of one that also asks for the worst slack, of one
+# with more reports, and of those with one ECO and with ten behind them; then the seconds of one analysis, as a ninth of
+# what the ten ECOs take beyond the one. It checks that all rows are answers, and the same for each number of workers.
+set -eu
+top=$(cd "$(dirname "$(readlink -f "$0")")/.." && pwd)
+cells=${1:-50000}
+program=$(readlink -f "${2:-$top/lizdrog}")
+folder=$(mktemp -d)
+trap 'rm -rf "$folder"' EXIT
+python3 "$top/bench/design.py" "$folder" "$cells"
+cd "$folder"
+python3 "$top/bench/spef.py" bench.lib bench.v >bench.spef
+"$program" run bench.lib bench.lib bench.v bench.sdc bench.spef 1 load.eco >/dev/null
+
+run() {
+  /usr/bin/time -o spent -f '%e %M' "$program" run bench.lib bench.lib bench.v bench.sdc bench.spef "$1" "$2.eco" >"$2.$1"
+  read -r seconds kilobytes <spent
+  printf '%s workers, %-7s %7.2f s, %5d MB\n' "$1" "$2" "$seconds" "$((kilobytes / 1000))"
+  cmp "$2.1" "$2.$1"
+}
+
+for workers in 1 2 4; do
+  for script in load first reports eco1; do run "$workers" "$script"; done
+  one=$seconds
+  run "$workers" eco10
+  awk -v w="$workers" -v one="$one" -v ten="$seconds" 'BEGIN { printf "%s workers, one analysis and one report of the worst slack: %.2f s\n", w, (ten - one) / 9 }'
+done
+grep '^final' eco10.1

@@ -1,5 +1,0 @@
-use Rattle.design_link_tests.proofs.Ready.{is_of_no_cell}
-use Rattle.design_link_tests.proofs.designs.of_no_cell.Goals as goal
-
-pub returns : goal.returns
-returns c = is_of_no_cell c.in_ok-netlist.netlist c.in_ok-netlist.ensures

@@ -1,9 +1,0 @@
-pub mod Blanks
-pub mod Liberty
-pub mod Modules
-pub mod NameSets
-pub mod Netlist
-pub mod Scripts
-pub mod Stops
-pub mod Tokens
-pub mod Words

@@ -1,4 +1,0 @@
-pub mod Constant
-pub mod Example
-pub mod Plain
-pub mod Shares

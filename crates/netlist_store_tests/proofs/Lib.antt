@@ -1,2 +1,0 @@
-mod EcoForms
-mod LinkedRegisters
