@@ -25,6 +25,7 @@ cat > "$crate/src/main.rt" <<'PROGRAM'
 #![tactic(auto)]
 
 ghost use Rattle.std.specs.Prelude.{◌≡◌, true, None, Ok, IfOk, OnOk};
+ghost use Rattle.std.specs.Arc.{arc_value};
 ghost use Rattle.timing_defs.specs.Checks.{net_fault};
 ghost use Rattle.timing_defs.specs.Edits.{edited};
 ghost use Rattle.timing_defs.specs.Cones.{touched_list};
@@ -38,6 +39,7 @@ use sdc_reader::read_constraints;
 use sta_units::Memory;
 use std::alloc::{AllocError, Global};
 use std::io;
+use std::sync::Arc;
 use std::time::Instant;
 use timing_defs::{Constraints, Eco, Fault, Items, Library, Module, Parasitics};
 use verilog_netlist::read_module;
@@ -95,7 +97,9 @@ fn netlist_text(alloc: Global) -> Result<String, AllocError> {
     }
     for gate in 0..GATES {
         let (half, third, next) = (gate / 2, gate / 3, gate + 1);
-        let line = format!(in alloc; "  NAND3 g{gate} ( .A(n{gate}), .B(n{half}), .C(n{third}), .Z(n{next}) );\n")?;
+        let line = format!(in alloc;
+            "  NAND3 g{gate} ( .A(n{gate}), .B(n{half}), .C(n{third}), .Z(n{next}) );\n"
+        )?;
         text.push_str(line.as_str())?;
     }
     text.push_str("endmodule\n")?;
@@ -117,7 +121,11 @@ fn constraints(alloc: Global) -> Result<Constraints, Trouble>
     let Ok(units) = units(alloc, cells().as_bytes()) else {
         return Err(Trouble::Text("the library has no units"));
     };
-    match read_constraints(alloc, b"create_clock -name clk -period 1000 [get_ports n0]\n", &units) {
+    match read_constraints(
+        alloc,
+        b"create_clock -name clk -period 1000 [get_ports n0]\n",
+        &units,
+    ) {
         Ok(constraints) => Ok(constraints),
         Err(_) => Err(Trouble::Text("the constraints are refused")),
     }
@@ -132,18 +140,62 @@ fn netlist(alloc: Global, text: &str) -> Result<Module, Trouble>
     }
 }
 
-fn store_of(alloc: Global, module: Module) -> Result<Store, Trouble>
-    requires { IsNetlist module }
+/// A value that is to be shared, with one owner.
+fn shared<T: Drop>(alloc: Global, value: T) -> Result<Arc<T>, Memory>
+    ensures { IfOk result (λ owner. arc_value owner ≡ value) }
 {
-    let constraints = constraints(alloc)?;
-    let early = library(alloc)?;
-    let late = library(alloc)?;
+    Arc::new(alloc, value).map_err(|_| Memory)
+}
+
+fn linked(
+    alloc: Global,
+    early: Library,
+    late: Library,
+    netlist: Module,
+    constraints: Constraints,
+) -> Result<Arc<Store>, Trouble>
+    requires early { is_library early ≡ true }
+    requires late { is_library late ≡ true }
+    requires netlist { IsNetlist netlist }
+    requires constraints { are_constraints constraints ≡ true }
+{
     let parasitics = Parasitics {
         nets: Items::new(alloc),
     };
-    match link(alloc, early, late, module, constraints, parasitics) {
-        Ok(store) => Ok(store),
+    match link(alloc, early, late, netlist, constraints, parasitics) {
+        Ok(store) => Ok(shared(alloc, store)?),
         Err(fault) => Err(Trouble::Design(fault)),
+    }
+}
+
+fn libraries(alloc: Global) -> Result<(Library, Library), Trouble>
+    ensures { IfOk result (λ got. (is_library got.0 ≡ true) × (is_library got.1 ≡ true)) }
+{
+    let early = library(alloc)?;
+    let late = library(alloc)?;
+    Ok((early, late))
+}
+
+fn constrained(
+    alloc: Global,
+    netlist: Module,
+    constraints: Constraints,
+) -> Result<Arc<Store>, Trouble>
+    requires netlist { IsNetlist netlist }
+    requires constraints { are_constraints constraints ≡ true }
+{
+    match libraries(alloc) {
+        Ok((early, late)) => linked(alloc, early, late, netlist, constraints),
+        Err(trouble) => Err(trouble),
+    }
+}
+
+fn store_of(alloc: Global, netlist: Module) -> Result<Arc<Store>, Trouble>
+    requires { IsNetlist netlist }
+{
+    match constraints(alloc) {
+        Ok(constraints) => constrained(alloc, netlist, constraints),
+        Err(trouble) => Err(trouble),
     }
 }
 
@@ -158,7 +210,13 @@ fn eco_of(alloc: Global, lines: &str) -> Result<Eco, Trouble>
 
 /// The checks of the nets that an ECO touched, after an ECO on a design whose nets are sound.
 #[tactic(auto, using(crate::proofs::SoundNets::sound_after))]
-fn check_edited(alloc: Global, last: &Store, eco: &Eco, after: &Store, touched: &Touched) -> Result<(), Fault>
+fn check_edited(
+    alloc: Global,
+    last: &Store,
+    eco: &Eco,
+    after: &Store,
+    touched: &Touched,
+) -> Result<(), Fault>
     requires eco { is_eco eco.now ≡ true }
     requires made { edited last.now.design eco.now ≡ Ok after.now.design }
     requires touched { touched.now.nets ≡ (touched_list last.now.design eco.now.edits).nets }
@@ -172,19 +230,20 @@ fn check_edited(alloc: Global, last: &Store, eco: &Eco, after: &Store, touched: 
 
 /// The store after an ECO, with the checks of the nets that it touched.
 #[tactic(auto, using(crate::proofs::SoundNets::sized))]
-fn edited(alloc: Global, last: &Store, eco: &Eco) -> Result<Store, Fault>
+fn edited(alloc: Global, last: &Store, eco: &Eco) -> Result<Arc<Store>, Fault>
     requires eco { is_eco eco.now ≡ true }
     requires sound { net_fault last.now.design ≡ None }
-    ensures { IfOk result (λ after. net_fault after.design ≡ None) }
+    ensures { IfOk result (λ after. net_fault (arc_value after).design ≡ None) }
 {
     let (after, touched) = last.apply(alloc, eco)?;
+    let after = shared(alloc, after)?;
     check_edited(alloc, last, eco, &after, &touched)?;
     Ok(after)
 }
 
-fn resized(alloc: Global, last: &Store, number: u32) -> Result<Store, Trouble>
+fn resized(alloc: Global, last: &Store, number: u32) -> Result<Arc<Store>, Trouble>
     requires { net_fault last.now.design ≡ None }
-    ensures { IfOk result (λ after. net_fault after.design ≡ None) }
+    ensures { IfOk result (λ after. net_fault (arc_value after).design ≡ None) }
 {
     let gate = number.wrapping_mul(4);
     let line = format!(in alloc; "repower_gate g{gate} NOR3\n")?;
@@ -192,9 +251,9 @@ fn resized(alloc: Global, last: &Store, number: u32) -> Result<Store, Trouble>
     Ok(edited(alloc, last, &eco)?)
 }
 
-fn buffered(alloc: Global, last: &Store, number: u32) -> Result<Store, Trouble>
+fn buffered(alloc: Global, last: &Store, number: u32) -> Result<Arc<Store>, Trouble>
     requires { net_fault last.now.design ≡ None }
-    ensures { IfOk result (λ after. net_fault after.design ≡ None) }
+    ensures { IfOk result (λ after. net_fault (arc_value after).design ≡ None) }
 {
     let gate = number.wrapping_mul(40);
     let line = format!(in alloc; "insert_buffer n{gate} b{gate} m{gate} BUF g{gate}:A\n")?;
@@ -203,9 +262,9 @@ fn buffered(alloc: Global, last: &Store, number: u32) -> Result<Store, Trouble>
 }
 
 /// 10,000 resizes, each on the store that the last one gave.
-fn all_resized(alloc: Global, store: Store) -> Result<Store, Trouble>
-    requires { net_fault store.design ≡ None }
-    ensures { IfOk result (λ after. net_fault after.design ≡ None) }
+fn all_resized(alloc: Global, store: Arc<Store>) -> Result<Arc<Store>, Trouble>
+    requires { net_fault (arc_value store).design ≡ None }
+    ensures { IfOk result (λ after. net_fault (arc_value after).design ≡ None) }
 {
     let mut last = store;
     for number in 0..10_000u32 {
@@ -215,9 +274,9 @@ fn all_resized(alloc: Global, store: Store) -> Result<Store, Trouble>
 }
 
 /// 1,000 buffers, each on the store that the last one gave.
-fn all_buffered(alloc: Global, store: Store) -> Result<Store, Trouble>
-    requires { net_fault store.design ≡ None }
-    ensures { IfOk result (λ after. net_fault after.design ≡ None) }
+fn all_buffered(alloc: Global, store: Arc<Store>) -> Result<Arc<Store>, Trouble>
+    requires { net_fault (arc_value store).design ≡ None }
+    ensures { IfOk result (λ after. net_fault (arc_value after).design ≡ None) }
 {
     let mut last = store;
     for number in 0..1_000u32 {
@@ -226,9 +285,9 @@ fn all_buffered(alloc: Global, store: Store) -> Result<Store, Trouble>
     Ok(last)
 }
 
-fn timed_resizes(rt: &HostRuntime, store: Store) -> Result<Store, Trouble>
-    requires { net_fault store.design ≡ None }
-    ensures { IfOk result (λ after. net_fault after.design ≡ None) }
+fn timed_resizes(rt: &HostRuntime, store: Arc<Store>) -> Result<Arc<Store>, Trouble>
+    requires { net_fault (arc_value store).design ≡ None }
+    ensures { IfOk result (λ after. net_fault (arc_value after).design ≡ None) }
 {
     let start = Instant::now(rt)?;
     let after = all_resized(rt.alloc(), store)?;
@@ -237,8 +296,8 @@ fn timed_resizes(rt: &HostRuntime, store: Store) -> Result<Store, Trouble>
     Ok(after)
 }
 
-fn timed_buffers(rt: &HostRuntime, store: Store) -> Result<u32, Trouble>
-    requires { net_fault store.design ≡ None }
+fn timed_buffers(rt: &HostRuntime, store: Arc<Store>) -> Result<u32, Trouble>
+    requires { net_fault (arc_value store).design ≡ None }
 {
     let start = Instant::now(rt)?;
     let after = all_buffered(rt.alloc(), store)?;
@@ -247,7 +306,7 @@ fn timed_buffers(rt: &HostRuntime, store: Store) -> Result<u32, Trouble>
     Ok(after.pin_bound())
 }
 
-fn timed_edits(rt: &HostRuntime, store: Store) -> Result<(), Trouble> {
+fn timed_edits(rt: &HostRuntime, store: Arc<Store>) -> Result<(), Trouble> {
     check_nets(rt.alloc(), &store)?;
     let after = timed_resizes(rt, store)?;
     let pins = timed_buffers(rt, after)?;
@@ -255,7 +314,7 @@ fn timed_edits(rt: &HostRuntime, store: Store) -> Result<(), Trouble> {
     Ok(())
 }
 
-fn timed_store(rt: &HostRuntime, text: &str) -> Result<Store, Trouble> {
+fn timed_store(rt: &HostRuntime, text: &str) -> Result<Arc<Store>, Trouble> {
     let start = Instant::now(rt)?;
     let module = netlist(rt.alloc(), text)?;
     let read = start.elapsed(rt)?.as_millis();
@@ -288,7 +347,7 @@ PROOFS
 cat > "$crate/proofs/SoundNets.antt" <<'PROOFS'
 -- Designs whose nets are sound: their size, and what an ECO makes of them.
 
-use Rattle.std.proofs.Common.{◌≡◌, ◌×◌, ℕ, true, false, Bool, List, Option, Some, None, Result, Ok, Err, OnOk, length, refl, sym}
+use Rattle.std.proofs.Common.{◌≡◌, ℕ, true, false, Bool, List, Option, Some, None, Result, Ok, Err, OnOk, length, refl, sym}
 use Rattle.std.specs.Prelude.{nat_lt, option_map, if◌then◌else◌}
 use Rattle.std.proofs.lemmas.Bool.{ltb-false}
 use Rattle.timing_defs.specs.declared.design.Design.{Design}
@@ -317,8 +376,8 @@ counted false false false rest more e = (refl, refl)
 pub sized : (d : Design) → net_fault d ≡ None → IsSized d
 sized d sound =
     let few =
-        counted (nat_lt most (length (pins d))) (nat_lt most (length d.insts)) (nat_lt most (length d.nets))
-        (option_map large_net (least (nets_where (is_large_net d) d))) (option_map ManyDrivers (many_drivers d)) sound in
+    counted (nat_lt most (length (pins d))) (nat_lt most (length d.insts)) (nat_lt most (length d.nets))
+    (option_map large_net (least (nets_where (is_large_net d) d))) (option_map ManyDrivers (many_drivers d)) sound in
     record { insts = ltb-false most (length d.insts) few.0; nets = ltb-false most (length d.nets) few.1 }
 
 pub sound_after : (base d : Design) (eco : Eco) (nets : List (List ℕ)) → IsLinked base → is_eco eco ≡ true → edited base eco ≡ Ok d
@@ -332,11 +391,12 @@ PROOFS
 for name in resized buffered; do
   cat > "$crate/proofs/all_$name/Invariants.antt" <<PROOFS
 use Rattle.std.proofs.Common.{◌≡◌, None}
+use Rattle.std.specs.Arc.{arc_value}
 use Rattle.timing_defs.specs.Checks.{net_fault}
 use Rattle.store_bench.proofs.all_$name.Given as goal
 
 abbrev pub invariant-loop-number : goal.invariant-loop-number
-invariant-loop-number l = net_fault l.last.design ≡ None
+invariant-loop-number l = net_fault (arc_value l.last).design ≡ None
 PROOFS
 done
 

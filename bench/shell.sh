@@ -1,9 +1,9 @@
 #!/usr/bin/env bash
 # Times the whole program on a generated design: bench/shell.sh [CELLS [PROGRAM]], 50,000 cells where none are given, and at most
 # some 65,000. PROGRAM is a built program; without it ./lizdrog is run, which builds one where there is none. For 1, 2 and 4 workers
-# it prints the seconds and the peak memory of a run that only loads the design, of one that also asks for the worst slack, of one
-# with more reports, and of those with one ECO and with ten behind them; then the seconds of one analysis, as a ninth of
-# what the ten ECOs take beyond the one. It checks that all rows are answers, and the same for each number of workers.
+# it prints the seconds, the seconds of all processors together, and the peak memory of a run that only loads the design, of one that
+# also asks for the worst slack, of one with more reports, and of those with one ECO and with ten behind them; then the seconds that
+# an ECO takes, a ninth of what ten take beyond one. It checks that all rows are answers, and the same for each number of workers.
 set -eu
 top=$(cd "$(dirname "$(readlink -f "$0")")/.." && pwd)
 cells=${1:-50000}
@@ -16,16 +16,15 @@ python3 "$top/bench/spef.py" bench.lib bench.v >bench.spef
 "$program" run bench.lib bench.lib bench.v bench.sdc bench.spef 1 load.eco >/dev/null
 
 run() {
-  /usr/bin/time -o spent -f '%e %M' "$program" run bench.lib bench.lib bench.v bench.sdc bench.spef "$1" "$2.eco" >"$2.$1"
-  read -r seconds kilobytes <spent
-  printf '%s workers, %-7s %7.2f s, %5d MB\n' "$1" "$2" "$seconds" "$((kilobytes / 1000))"
+  /usr/bin/time -o spent -f '%e %U %S %M' "$program" run bench.lib bench.lib bench.v bench.sdc bench.spef "$1" "$2.eco" >"$2.$1"
+  awk -v w="$1" -v script="$2" '{ printf "%s workers, %-7s %7.2f s, %7.2f s of processors, %4d MB\n", w, script, $1, $2 + $3, $4 / 1000 }' spent
   cmp "$2.1" "$2.$1"
 }
 
 for workers in 1 2 4; do
   for script in load first reports eco1; do run "$workers" "$script"; done
-  one=$seconds
+  cp spent one
   run "$workers" eco10
-  awk -v w="$workers" -v one="$one" -v ten="$seconds" 'BEGIN { printf "%s workers, one analysis and one report of the worst slack: %.2f s\n", w, (ten - one) / 9 }'
+  paste one spent | awk -v w="$workers" '{ printf "%s workers, an ECO %.2f s, %.2f s of processors\n", w, ($5 - $1) / 9, ($6 + $7 - $2 - $3) / 9 }'
 done
 grep '^final' eco10.1

@@ -1,5 +1,5 @@
 #!/usr/bin/env bash
-# Times the slews and arrivals, and the required times, of all nodes with 1 worker and with 4: bench/workers.sh [LEVELS], 30 where
+# Times the slews and arrivals, and the required times, of all nodes with 1, 2 and 4 workers: bench/workers.sh [LEVELS], 30 where
 # none is given. The design has two ranks of 1,000 registers with LEVELS levels of 1,000 NAND gates between, about 100,000 pins at
 # 30 levels; its texts go through the readers. The program is made in a folder of its own outside the repository, proved, built and
 # run there by `rt run`, and the folder is removed. TRY=1 runs it before any proof, by `rt try`.
@@ -55,56 +55,261 @@ set_input_delay 5 -clock clk [get_ports in]
 SDC
 
 cat > "$work/crates/workers_bench/src/main.rt" <<'PROGRAM'
-//! Times the analysis of a generated design with one worker and with four.
+//! Times the analysis of a generated design with one worker and with more.
 #![tactic(auto)]
+
+ghost use Rattle.std.specs.Prelude.{◌≡◌, ◌≤◌, true, IfOk};
+ghost use Rattle.std.specs.Arc.{arc_value};
+ghost use Rattle.timing_defs.specs.Checks.{IsSound};
+ghost use Rattle.timing_defs.specs.Documents.{is_library, are_constraints, IsNetlist};
 
 use arrival_engine::Arrivals;
 use design_link::link;
 use liberty_cells::{read_library, units};
 use netlist_store::Store;
+use pin_graph::Graph;
 use required_engine::Required;
 use sdc_reader::read_constraints;
 use session_engine::sound_graph;
 use sta_outside::NoGate;
-use std::alloc::AllocError;
-use std::fs;
-use std::io;
+use sta_units::Memory;
+use std::alloc::{AllocError, Global};
+use std::sync::Arc;
+use std::thread::Threads;
 use std::time::Instant;
-use timing_defs::{Items, Parasitics};
+use std::{fs, io};
+use timing_defs::{Constraints, Fault, Items, Library, Module, Parasitics};
 use verilog_netlist::read_module;
 
+/// Why a run ends early.
+#[derive(Debug, Drop)]
+enum Trouble {
+    Text(&'static str),
+    Design(Fault),
+    Memory,
+    Outside,
+}
+
+impl From<AllocError> for Trouble {
+    fn from(_: AllocError) -> Trouble {
+        Trouble::Memory
+    }
+}
+
+impl From<Memory> for Trouble {
+    fn from(_: Memory) -> Trouble {
+        Trouble::Memory
+    }
+}
+
+impl From<io::Error> for Trouble {
+    fn from(_: io::Error) -> Trouble {
+        Trouble::Outside
+    }
+}
+
+fn library(alloc: Global, text: &[u8]) -> Result<Library, Trouble>
+    ensures { IfOk result (λ library. is_library library ≡ true) }
+{
+    match read_library(alloc, text) {
+        Ok(library) => Ok(library),
+        Err(_) => Err(Trouble::Text("the library is refused")),
+    }
+}
+
+fn libraries(alloc: Global, text: &[u8]) -> Result<(Library, Library), Trouble>
+    ensures { IfOk result (λ got. (is_library got.0 ≡ true) × (is_library got.1 ≡ true)) }
+{
+    let early = library(alloc, text)?;
+    let late = library(alloc, text)?;
+    Ok((early, late))
+}
+
+fn constraints(alloc: Global, cells: &[u8], text: &[u8]) -> Result<Constraints, Trouble>
+    ensures { IfOk result (λ constraints. are_constraints constraints ≡ true) }
+{
+    let Ok(units) = units(alloc, cells) else {
+        return Err(Trouble::Text("the library has no units"));
+    };
+    match read_constraints(alloc, text, &units) {
+        Ok(constraints) => Ok(constraints),
+        Err(_) => Err(Trouble::Text("the constraints are refused")),
+    }
+}
+
+fn netlist(alloc: Global, text: &[u8]) -> Result<Module, Trouble>
+    ensures { IfOk result IsNetlist }
+{
+    match read_module(alloc, text) {
+        Ok(module) => Ok(module),
+        Err(_) => Err(Trouble::Text("the netlist is refused")),
+    }
+}
+
+/// A value that is to be shared, with one owner.
+fn shared<T: Drop>(alloc: Global, value: T) -> Result<Arc<T>, Memory>
+    ensures { IfOk result (λ owner. arc_value owner ≡ value) }
+{
+    Arc::new(alloc, value).map_err(|_| Memory)
+}
+
+fn linked(
+    alloc: Global,
+    early: Library,
+    late: Library,
+    netlist: Module,
+    constraints: Constraints,
+) -> Result<Arc<Store>, Trouble>
+    requires early { is_library early ≡ true }
+    requires late { is_library late ≡ true }
+    requires netlist { IsNetlist netlist }
+    requires constraints { are_constraints constraints ≡ true }
+{
+    let parasitics = Parasitics {
+        nets: Items::new(alloc),
+    };
+    match link(alloc, early, late, netlist, constraints, parasitics) {
+        Ok(store) => Ok(shared(alloc, store)?),
+        Err(fault) => Err(Trouble::Design(fault)),
+    }
+}
+
+fn constrained(
+    alloc: Global,
+    cells: &[u8],
+    netlist: Module,
+    constraints: Constraints,
+) -> Result<Arc<Store>, Trouble>
+    requires netlist { IsNetlist netlist }
+    requires constraints { are_constraints constraints ≡ true }
+{
+    match libraries(alloc, cells) {
+        Ok((early, late)) => linked(alloc, early, late, netlist, constraints),
+        Err(trouble) => Err(trouble),
+    }
+}
+
+fn store_of(
+    alloc: Global,
+    cells: &[u8],
+    netlist: Module,
+    words: &[u8],
+) -> Result<Arc<Store>, Trouble>
+    requires { IsNetlist netlist }
+{
+    match constraints(alloc, cells, words) {
+        Ok(constraints) => constrained(alloc, cells, netlist, constraints),
+        Err(trouble) => Err(trouble),
+    }
+}
+
 /// The store of the design whose texts stand in the folder.
-fn design(rt: &HostRuntime) -> io::Result<Store> {
+fn design(rt: &HostRuntime) -> Result<Arc<Store>, Trouble> {
     let alloc = rt.alloc();
-    let text = fs::read(rt, "bench.lib")?;
-    let early = read_library(alloc, text.as_slice()).map_err(|_| AllocError)?;
-    let late = read_library(alloc, text.as_slice()).map_err(|_| AllocError)?;
-    let units = units(alloc, text.as_slice()).map_err(|_| AllocError)?;
-    let netlist = fs::read(rt, "bench.v")?;
-    let netlist = read_module(alloc, netlist.as_slice()).map_err(|_| AllocError)?;
+    let cells = fs::read(rt, "bench.lib")?;
+    let gates = fs::read(rt, "bench.v")?;
     let words = fs::read(rt, "bench.sdc")?;
-    let constraints = read_constraints(alloc, words.as_slice(), &units).map_err(|_| AllocError)?;
-    let parasitics = Parasitics { nets: Items::new(alloc) };
-    let store = link(alloc, early, late, netlist, constraints, parasitics).map_err(|_| AllocError)?;
-    Ok(store)
+    let netlist = netlist(alloc, gates.as_slice())?;
+    store_of(alloc, cells.as_slice(), netlist, words.as_slice())
+}
+
+/// The milliseconds since a start, or 0 where the clock is not told.
+fn since(rt: &HostRuntime, start: &Instant) -> u128 {
+    match start.elapsed(rt) {
+        Ok(taken) => taken.as_millis(),
+        Err(_) => 0,
+    }
+}
+
+/// The milliseconds of the slews and arrivals of all nodes, and of these with the required times.
+fn timed<H: Threads + Sync>(
+    rt: &HostRuntime,
+    threads: &H,
+    store: &Store,
+    graph: &Graph,
+    workers: u32,
+) -> Result<(u128, u128), Trouble>
+    requires some { 1 ≤ workers }
+    requires most { workers ≤ 32 }
+    requires sound { IsSound store.now.design }
+    requires graph { graph.now.stored ≡ store.now }
+{
+    let start = Instant::now(rt)?;
+    match Arrivals::full(threads, rt.alloc(), store, graph, workers, &NoGate) {
+        Ok(arrivals) => {
+            let forward = since(rt, &start);
+            let required = Required::full(
+                threads,
+                rt.alloc(),
+                store,
+                graph,
+                &arrivals,
+                workers,
+                &NoGate,
+            );
+            let both = since(rt, &start);
+            match required {
+                Ok(_) => Ok((forward, both)),
+                Err(fault) => Err(Trouble::Design(fault)),
+            }
+        }
+        Err(fault) => Err(Trouble::Design(fault)),
+    }
+}
+
+fn told<H: Threads + Sync>(
+    rt: &HostRuntime,
+    threads: &H,
+    store: &Store,
+    graph: &Graph,
+    workers: u32,
+) -> Result<(), Trouble>
+    requires some { 1 ≤ workers }
+    requires most { workers ≤ 32 }
+    requires sound { IsSound store.now.design }
+    requires graph { graph.now.stored ≡ store.now }
+{
+    let (forward, both) = timed(rt, threads, store, graph, workers)?;
+    let back = both.saturating_sub(forward);
+    println!(rt; "{workers} workers: arrivals {forward} ms, required times {back} ms")?;
+    Ok(())
+}
+
+fn all_told<H: Threads + Sync>(
+    rt: &HostRuntime,
+    threads: &H,
+    store: &Store,
+    graph: &Graph,
+) -> Result<(), Trouble>
+    requires sound { IsSound store.now.design }
+    requires graph { graph.now.stored ≡ store.now }
+{
+    println!(rt; "{} nodes", graph.count())?;
+    told(rt, threads, store, graph, 1)?;
+    told(rt, threads, store, graph, 2)?;
+    told(rt, threads, store, graph, 4)?;
+    told(rt, threads, store, graph, 1)?;
+    told(rt, threads, store, graph, 2)?;
+    told(rt, threads, store, graph, 4)
+}
+
+fn graphed<H: Threads + Sync>(rt: &HostRuntime, threads: &H, store: &Store) -> Result<(), Trouble> {
+    match sound_graph(rt.alloc(), store) {
+        Ok(graph) => all_told(rt, threads, store, &graph),
+        Err(fault) => Err(Trouble::Design(fault)),
+    }
+}
+
+fn run<H: Threads + Sync>(rt: &HostRuntime, threads: &H) -> Result<(), Trouble> {
+    let store = design(rt)?;
+    graphed(rt, threads, &store)
 }
 
 fn main(rt: HostRuntime) -> io::Result<()> {
-    let alloc = rt.alloc();
-    let store = design(&rt)?;
-    let graph = sound_graph(alloc, &store).map_err(|_| AllocError)?;
-    println!(rt; "{} nodes", graph.count())?;
-    for workers in [1, 2, 4, 1, 2, 4, 1, 2, 4] {
-        let start = Instant::now(&rt)?;
-        let arrivals = Arrivals::full(&rt, alloc, &store, &graph, workers, &NoGate).map_err(|_| AllocError)?;
-        let forward = start.elapsed(&rt)?.as_millis();
-        let start = Instant::now(&rt)?;
-        let required = Required::full(&rt, alloc, &store, &graph, &arrivals, workers, &NoGate).map_err(|_| AllocError)?;
-        let back = start.elapsed(&rt)?.as_millis();
-        println!(rt; "{workers} workers: arrivals {forward} ms, required times {back} ms")?;
-        drop(required);
+    match run(&rt, &rt) {
+        Ok(()) => Ok(()),
+        Err(trouble) => println!(rt; "{trouble:?}"),
     }
-    Ok(())
 }
 PROGRAM
 : > "$work/crates/workers_bench/proofs/Lib.antt"

@@ -103,7 +103,7 @@ pub fn exclusion(eco: &Eco)
 /// (`E1` to `E9`), or else by the first that stands in the design after them, in the order too large
 /// (`E17`), two drivers (`E10`), a loop (`E11`), a clock network that is no tree (`E12`), a constraint on
 /// nothing (`E13`), parasitics that are no tree (`E14`) or of other pins (`E15`), a quantity out of its
-/// range (`E16`). Checks and analysis look at what the ECO touched; the graph is found anew.
+/// range (`E16`). The checks of nets and data look at what the ECO touched; graph and analysis are found anew.
 pub fn prepare<H: Threads + Sync, G: Gate, L>(
     rt: &H,
     alloc: Global,
