@@ -1,11 +1,11 @@
 -- Stores into which a buffer comes, step by step, and their designs.
 
-use Rattle.std.proofs.Common.{◌≡◌, ℕ, zero, suc, ◌+◌, ◌<◌, ◌≤◌, Bool, true, false, List, [], ◌∷◌, ◌++◌, map, drop, filter, length, get_or, Option, None, Some, refl, sym, ap, subst, ◌∙◌, inl, inr, not, arith}
-use Rattle.std.specs.Prelude.{nat_eq, find, option_and_then, option_map, is_some, is_none}
+use Rattle.std.proofs.Common.{◌≡◌, ℕ, zero, suc, ◌+◌, ◌<◌, ◌≤◌, Bool, true, false, List, [], ◌∷◌, ◌++◌, map, take, drop, filter, length, get_or, Option, None, Some, Result, Ok, Err, refl, sym, ap, subst, ◌∙◌, inl, inr, not, arith}
+use Rattle.std.specs.Prelude.{IfOk, nat_eq, find, option_and_then, option_map, is_some, is_none}
 use Rattle.std.specs.List.{list_all}
 use Rattle.std.specs.Option.{option_map_or}
 use Rattle.std.specs.Str.{bytes_eq}
-use Rattle.std.proofs.lemmas.List.{drop_more}
+use Rattle.std.proofs.lemmas.List.{drop_more, take-append-drop}
 use Rattle.std.proofs.lemmas.Bool.{cases_Bool, false≢true, and_parts, and_from, not-true}
 use Rattle.timing_defs.specs.declared.kinds.Dir.{Dir}
 use Rattle.timing_defs.specs.declared.kinds.Dir.TheVariants.{Input, Output}
@@ -93,29 +93,28 @@ drop_end [] (suc i) low = refl
 drop_end (x ∷ xs) zero low = absurd (omega arith)
 drop_end (x ∷ xs) (suc i) low = drop_end xs i (omega arith)
 
-module _ (net : List ℕ) (sinks : List (List ℕ)) (i : ℕ) (now old : Stored)
-    (moved : moved_sinks net (drop i sinks) now.design.insts ≡ moved_sinks net sinks old.design.insts) (numbers : now ≡ with_insts old now.design.insts) where
-  pub sink_ready : (w : List ℕ) → list_all (is_pin_word old.pins) sinks ≡ true → i < length sinks → w ≡ get_or sinks i w → is_pin_word now.pins w ≡ true
-  sink_ready w all low is = ap (λ (s : Stored). is_pin_word s.pins w) numbers ∙ all_at (is_pin_word old.pins) sinks i w all low is
+-- one sink is moved by its own step
+pub one_sink : (net : List ℕ) (sinks : List (List ℕ)) (w : List ℕ) (insts : List Inst) → 1 ≤ length sinks → length sinks < 2 → w ≡ get_or sinks 0 w
+    → on_inst (before_last w) (with_conns (connected (after_last w) net)) insts ≡ moved_sinks net sinks insts
+one_sink net [] w insts some few is = let no : ⊥ = omega (arith, some) in absurd no
+one_sink net (s ∷ []) w insts some few is = ap (λ v. on_inst (before_last v) (with_conns (connected (after_last v) net)) insts) is
+one_sink net (s ∷ t ∷ ts) w insts some few is = let no : ⊥ = omega (arith, few) in absurd no
 
-  pub net_ready : is_listed old.design.nets net ≡ true → is_listed now.design.nets net ≡ true
-  net_ready there = ap (λ (s : Stored). is_listed s.design.nets net) numbers ∙ there
+-- sinks in two parts are moved part by part
+two_parts : (net : List ℕ) (front back : List (List ℕ)) (insts : List Inst) → moved_sinks net (front ++ back) insts ≡ moved_sinks net back (moved_sinks net front insts)
+two_parts net [] back insts = refl
+two_parts net (s ∷ ss) back insts = two_parts net ss back (on_inst (before_last s) (with_conns (connected (after_last s) net)) insts)
 
-  module _ (w : List ℕ) (low : i < length sinks) (is : w ≡ get_or sinks i w) (after : Stored)
-      (step : after ≡ with_insts now (on_inst (before_last w) (with_conns (connected (after_last w) net)) now.design.insts)) where
-    pub sinks_more : moved_sinks net (drop (i + 1) sinks) after.design.insts ≡ moved_sinks net sinks old.design.insts
-    sinks_more =
-        ap (λ (s : Stored). moved_sinks net (drop (i + 1) sinks) s.design.insts) step
-        ∙ sym (ap (λ zs. moved_sinks net zs now.design.insts) (drop_more sinks i w low ∙ ap (λ z. z ∷ drop (i + 1) sinks) (sym is))) ∙ moved
+pub cut_parts : (net : List ℕ) (sinks front back : List (List ℕ)) (mid : ℕ) (insts : List Inst) → front ≡ take mid sinks → back ≡ drop mid sinks
+    → moved_sinks net back (moved_sinks net front insts) ≡ moved_sinks net sinks insts
+cut_parts net sinks front back mid insts e d =
+    sym (two_parts net front back insts)
+    ∙ ap (λ zs. moved_sinks net zs insts) ((ap (λ ys. ys ++ back) e ∙ ap (λ ys. take mid sinks ++ ys) d) ∙ take-append-drop mid sinks)
 
-    pub numbers_more : after ≡ with_insts old after.design.insts
-    numbers_more =
-        step ∙ ap (λ s. with_insts s (on_inst (before_last w) (with_conns (connected (after_last w) net)) now.design.insts)) numbers
-        ∙ ap (with_insts old) (sym (ap (λ (s : Stored). s.design.insts) step))
-
-  pub sinks_end : length sinks ≤ i → now ≡ with_insts old (moved_sinks net sinks old.design.insts)
-  sinks_end high =
-      numbers ∙ ap (with_insts old) (sym (ap (λ zs. moved_sinks net zs now.design.insts) (drop_end sinks i high)) ∙ moved)
+-- a value that is one is each value that is the same
+pub ok_as : {X E : Type 0} (r : Result X E) (a b : X) → a ≡ b → IfOk r (λ x. x ≡ a) → IfOk r (λ x. x ≡ b)
+ok_as (Ok x) a b e h = h ∙ e
+ok_as (Err y) a b e h = tt
 
 -- the last instance alone has its name
 pub on_last : (x : List ℕ) (change : Inst → Inst) (insts : List Inst) (g : Inst) → inst_named insts x ≡ None → bytes_eq g.name x ≡ true

@@ -49,6 +49,7 @@ mod SetLaws
 mod ShardLaws
 mod Sound
 mod StoreLaws
+mod TableCopies
 mod TableLaws
 mod TouchLaws
 pub mod Untouched

@@ -62,17 +62,23 @@ impl Store {
         self.with_join(alloc, word, pin, net, to)
     }
 
-    /// The store with pins of instances on a net; the parasitics of nets stay.
+    /// The store with pins of instances on a net; the parasitics of nets stay. The sinks are halved at each
+    /// step, so the stack grows as the logarithm of their number.
+    #[cycle(sinks_on)]
     fn with_sinks_on(self, alloc: Global, sinks: &[Name], net: &Name) -> Result<Store, Memory>
         requires words { list_all (is_pin_word self.pins) sinks.now ≡ true }
         requires net { is_listed self.design.nets net.now ≡ true }
         ensures { IfOk result (λ after. after ≡ with_insts self (moved_sinks net.now sinks.now self.design.insts)) }
     {
-        let mut after = self;
-        for sink in sinks {
-            after = after.with_pin_on(alloc, sink, net)?;
+        match sinks {
+            [] => Ok(self),
+            [sink] => self.with_pin_on(alloc, sink, net),
+            _ => {
+                let (front, back) = sinks.split_at(sinks.len() / 2);
+                let half = self.with_sinks_on(alloc, front, net)?;
+                half.with_sinks_on(alloc, back, net)
+            }
         }
-        Ok(after)
     }
 
     /// The name of the pin of a direction of an instance of a buffer's cell.

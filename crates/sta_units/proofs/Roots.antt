@@ -1,7 +1,8 @@
 -- The whole square root is the one number that its two bounds allow.
-use Rattle.std.proofs.Common.{◌≡◌, ℕ, zero, suc, ◌+◌, ◌*◌, ◌<◌, ◌≤◌, inl, inr, arith, le-leb}
+use Rattle.std.proofs.Common.{◌≡◌, ℕ, zero, suc, ◌+◌, ◌*◌, ◌/◌, ◌%◌, ◌^◌, ◌<◌, ◌≤◌, inl, inr, arith, le-leb, ap, ◌∙◌}
 use Rattle.std.proofs.lemmas.Bool.{lt-leb, cases_lt}
-use Rattle.std.proofs.lemmas.Nat.{mul-le}
+use Rattle.std.proofs.Math.Nat.{pow-le-pow_right, one-le-pow, mod-eq_of_lt, mul_assoc, mul_comm}
+use Rattle.std.proofs.lemmas.Nat.{mul-le, pow-add}
 use Rattle.sta_units.specs.Numbers.{root_up_to, root_of}
 
 -- a number whose square is at most n is below one whose square is above n
@@ -29,3 +30,50 @@ unfolding root_of
 root_of_is n zero low high = up_to_is n zero n (omega arith) low (omega arith)
 root_of_is n (suc r) low high =
     up_to_is n (suc r) n (omega (arith, mul-le (suc r) 1 (suc r) (suc r))) low (omega arith)
+
+-- where the binary logarithm of n is k, the search begins between two powers of two of half of it
+module _ (n k : ℕ) (low : 2 ^ k ≤ n) (high : n < 2 * 2 ^ k) (small : k < 128) where
+  abbrev h : ℕ
+  h = k / 2
+
+  power_within : 2 ^ h * 2 ^ h ≤ n
+  power_within =
+      let twice : h + h ≤ k = omega arith in
+      let power : 2 ^ (h + h) ≤ 2 ^ k = pow-le-pow_right (omega arith) twice in
+      let square : 2 ^ (h + h) ≡ 2 ^ h * 2 ^ h = pow-add 2 h h in
+      omega (arith, power, square, low)
+
+  four : (a : ℕ) → (2 * a) * (2 * a) ≡ 4 * (a * a)
+  four a =
+      let first : (2 * a) * (2 * a) ≡ 2 * (a * (2 * a)) = mul_assoc 2 a (2 * a) in
+      let turned : a * (2 * a) ≡ (2 * a) * a = mul_comm a (2 * a) in
+      let second : (2 * a) * a ≡ 2 * (a * a) = mul_assoc 2 a a in
+      omega (arith, first, turned, second)
+
+  power_above : n < (2 * 2 ^ h) * (2 * 2 ^ h)
+  power_above =
+      let twice : k ≤ h + h + 1 = omega arith in
+      let power : 2 ^ k ≤ 2 ^ (h + h + 1) = pow-le-pow_right (omega arith) twice in
+      let square : 2 ^ (h + h) ≡ 2 ^ h * 2 ^ h = pow-add 2 h h in
+      let one : 2 ^ (h + h + 1) ≡ 2 ^ (h + h) * 2 ^ 1 = pow-add 2 (h + h) 1 in
+      omega (arith, power, square, one, four (2 ^ h), high)
+
+  power_small : 2 ^ h ≤ 2 ^ 63
+  power_small =
+      let few : h ≤ 63 = omega (arith, small) in
+      pow-le-pow_right (omega arith) few
+
+  abbrev most : ℕ
+  most = 340282366920938463463374607431768211456
+
+  low_is : 1 * 2 ^ h % most ≡ 2 ^ h
+  low_is = ap (λ a. a % most) (omega arith) ∙ mod-eq_of_lt (omega (arith, power_small))
+
+  high_is : 2 * 2 ^ h % most ≡ 2 * 2 ^ h
+  high_is = mod-eq_of_lt (omega (arith, power_small))
+
+  one_at_least : 1 ≤ 2 ^ h
+  one_at_least = one-le-pow h 2 (omega arith)
+
+  pub starts : (1 * 2 ^ h % most * (1 * 2 ^ h % most) ≤ n) × (n < 2 * 2 ^ h % most * (2 * 2 ^ h % most)) × (1 * 2 ^ h % most < 2 * 2 ^ h % most) × (2 * 2 ^ h % most ≤ 2 ^ 64)
+  starts = rw (low_is, high_is) (power_within, power_above, omega (arith, one_at_least), omega (arith, power_small))

@@ -18,14 +18,18 @@ pub fn rnd(n: i128, d: i128) -> i128
     (2 * n + d).div_euclid(2 * d)
 }
 
-/// The greatest `r` with `r * r <= n`. Takes no memory.
+/// The greatest `r` with `r * r <= n`, in a step for each binary digit of `r`. Takes no memory.
 pub fn root(n: u128) -> u64
     ensures value { result ≡ root_of n }
     ensures below { result * result ≤ n }
     ensures greatest { n < (result + 1) * (result + 1) }
 {
-    let mut low: u128 = 0;
-    let mut high: u128 = 1 << 64;
+    if n == 0 {
+        return 0;
+    }
+    let half = n.ilog2() / 2;
+    let mut low: u128 = 1 << half;
+    let mut high: u128 = 2 << half;
     while high - low > 1 {
         let middle = (low + high) / 2;
         if middle * middle <= n {
