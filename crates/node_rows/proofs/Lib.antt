@@ -4,6 +4,7 @@ pub mod ArcLaws
 pub mod ConstraintLaws
 pub mod CountLaws
 pub mod FineLaws
+pub mod FoundLaws
 pub mod InstForms
 pub mod LoadForms
 pub mod LoadLaws

@@ -1,12 +1,12 @@
 -- The pins of a net with resistors: their capacitances, and what its trees tell of each.
 
 use Rattle.std.proofs.Common.{◌≡◌, ℕ, zero, suc, ◌+◌, ◌<◌, ℤ, pos, Bool, true, false, ◌||◌, List, [], ◌∷◌, ◌++◌, length, get_or, set, take, Option, None, Some, refl, sym, ap, subst, ◌∙◌, inl, inr, arith}
-use Rattle.std.specs.Prelude.{nat_eq, option_map, option_and_then, Contains, slice_get, slice_set}
+use Rattle.std.specs.Prelude.{nat_eq, option_map, option_and_then, slice_get, slice_set}
 use Rattle.std.specs.List.{list_any}
 use Rattle.std.specs.Option.{option_map_or, unwrap_or}
 use Rattle.std.proofs.lemmas.Bool.{cases_Bool, false≢true, eqb-true, eq-eqb}
-use Rattle.std.proofs.lemmas.List.{get_or-map, length-map, take_more}
-use Rattle.std.proofs.lemmas.List.Elements.{Contains-append_cases}
+use Rattle.std.proofs.lemmas.List.{get_or-map, length-map, length-set, take_more}
+use Rattle.std.proofs.lemmas.List.Elements.{All-nil, All-push, Contains-append_cases}
 use Rattle.timing_defs.specs.declared.kinds.Split.{Split}
 use Rattle.timing_defs.specs.declared.kinds.Split.TheVariants.{Early, Late}
 use Rattle.timing_defs.specs.declared.parasitics.RcNode.TheVariants.{Pin as rc_pin, Inner as rc_inner}
@@ -14,15 +14,18 @@ use Rattle.timing_defs.specs.declared.parasitics.NetRc.{NetRc}
 use Rattle.timing_defs.specs.declared.rows.PinCap.{PinCap}
 use Rattle.timing_defs.specs.Netlist.{Pin, is_driver}
 use Rattle.timing_defs.specs.Wires.{pin_cap}
-use Rattle.netlist_store.specs.Numbering.{Stored, name_at, pin_numbered}
+use Rattle.netlist_store.specs.Numbering.{Stored, name_at, is_number, pin_numbered}
 use Rattle.rc_tree.specs.Trees.{Told, IsTreeOf, delay_of, impulse_of}
 use Rattle.rc_tree.specs.Numbering.{node_at}
 use Rattle.node_rows.specs.declared.pin_wires.SinkWire.{SinkWire}
 use Rattle.node_rows.specs.declared.pin_wires.PinWire.{PinWire}
 use Rattle.node_rows.specs.declared.net_trees.NetTrees.{NetTrees}
+use Rattle.node_rows.specs.declared.found_nets.WireTo.{WireTo}
 use Rattle.node_rows.specs.WireTables.{wire_at, split_wire}
 use Rattle.node_rows.specs.NetPins.{counted, pin_cap_at, drives_at}
 use Rattle.node_rows.specs.NetTrees.{IsSink, HasWire, pin_word}
+use Rattle.node_rows.specs.FoundNets.{with_wires, ArePut, AreWiresTo}
+use Rattle.node_rows.proofs.LoadLaws.{number_low}
 use Rattle.node_rows.proofs.Members.{some_is, in_cases, none_in}
 
 -- a pin with its capacitance
@@ -77,21 +80,21 @@ get_other (y ∷ ys) zero (suc k) x apart = refl
 get_other (y ∷ ys) (suc i) zero x apart = refl
 get_other (y ∷ ys) (suc i) (suc k) x apart = get_other ys i k x (λ e. apart (ap suc e))
 
-pub wire_kept : (wires : List (Option PinWire)) (pin other : ℕ) (wire : Option PinWire) → nat_eq other pin ≡ false → wire_at (slice_set wires pin wire) other ≡ wire_at wires other
+wire_kept : (wires : List (Option PinWire)) (pin other : ℕ) (wire : Option PinWire) → nat_eq other pin ≡ false → wire_at (slice_set wires pin wire) other ≡ wire_at wires other
 wire_kept wires pin other wire apart =
     ap (option_and_then (λ (w : Option PinWire). w)) (get_other wires pin other wire (λ e. absurd (false≢true (sym apart ∙ eq-eqb other pin e))))
 
-pub wire_put : (s : Stored) (net : NetRc) (root : List ℕ) (caps : Split → List PinCap) (wires new : List (Option PinWire)) (pin : ℕ) (name : List ℕ) (wire : PinWire)
-    → name_at s.pins pin ≡ Some name → new ≡ slice_set wires pin (Some wire) → pin < length wires → IsSink net root (caps Early) name wire.early → IsSink net root (caps Late) name wire.late
-    → HasWire s net root caps new pin
-wire_put s net root caps wires new pin name wire named put low early late =
+wire_put : (s : Stored) (net : NetRc) (root : List ℕ) (caps : Split → List PinCap) (wires : List (Option PinWire)) (pin : ℕ) (wire : PinWire)
+    → pin < length wires → IsSink net root (caps Early) (pin_word s pin) wire.early → IsSink net root (caps Late) (pin_word s pin) wire.late
+    → HasWire s net root caps (slice_set wires pin (Some wire)) pin
+wire_put s net root caps wires pin wire low early late =
     record {
       wire = wire;
-      there = ap (λ xs. wire_at xs pin) put ∙ ap (option_and_then (λ (w : Option PinWire). w)) (get_same wires pin (Some wire) low);
-      sinks = λ split. subst (λ (w : List ℕ). IsSink net root (caps split) w (split_wire split wire)) (sym (ap (λ o. unwrap_or o []) named)) (by split);
+      there = ap (option_and_then (λ (w : Option PinWire). w)) (get_same wires pin (Some wire) low);
+      sinks = by;
     }
   where
-    by : (split : Split) → IsSink net root (caps split) name (split_wire split wire)
+    by : (split : Split) → IsSink net root (caps split) (unwrap_or (name_at s.pins pin) []) (split_wire split wire)
     by Early = early
     by Late = late
 
@@ -100,14 +103,7 @@ moved : (s : Stored) (net : NetRc) (root : List ℕ) (caps : Split → List PinC
     → HasWire s net root caps wires pin → HasWire s net root caps new pin
 moved s net root caps wires new pin e h = record { wire = h.wire; there = e ∙ h.there; sinks = h.sinks }
 
--- the wires to the first pins of a list are put, and no others
-pub record ArePut (s : Stored) (trees : NetTrees) (old wires : List (Option PinWire)) (pins : List ℕ) : Type 0 where
-  pub len : length wires ≡ length old
-  pub there : (net : NetRc) (root : List ℕ) (caps : Split → List PinCap) → IsTreeOf net root (caps Early) trees.early → IsTreeOf net root (caps Late) trees.late
-      → (pin : ℕ) → Contains pins pin → HasWire s net root caps wires pin
-  pub kept : (other : ℕ) → list_any (nat_eq other) pins ≡ false → wire_at wires other ≡ wire_at old other
-
-pub none_put : (s : Stored) (trees : NetTrees) (old : List (Option PinWire)) → ArePut s trees old old []
+none_put : (s : Stored) (trees : NetTrees) (old : List (Option PinWire)) → ArePut s trees old old []
 none_put s trees old = record { len = refl; there = λ net root caps early late pin c. absurd (none_in pin c); kept = λ other apart. refl }
 
 last_of : (pins : List ℕ) (pin other : ℕ) → list_any (nat_eq other) (pins ++ pin ∷ []) ≡ false → (list_any (nat_eq other) pins ≡ false) × (nat_eq other pin ≡ false)
@@ -126,7 +122,7 @@ last_of (p ∷ ps) pin other h = elim (cases_Bool (nat_eq other p)) [
       (rw e r.0, r.1)
 ]
 
-pub put_more : (s : Stored) (trees : NetTrees) (old wires new : List (Option PinWire)) (pins : List ℕ) (i pin : ℕ) → i < length pins → pin ≡ get_or pins i pin
+put_more : (s : Stored) (trees : NetTrees) (old wires new : List (Option PinWire)) (pins : List ℕ) (i pin : ℕ) → i < length pins → pin ≡ get_or pins i pin
     → length new ≡ length wires
     → ((net : NetRc) (root : List ℕ) (caps : Split → List PinCap) → IsTreeOf net root (caps Early) trees.early → IsTreeOf net root (caps Late) trees.late → HasWire s net root caps new pin)
     → ((other : ℕ) → nat_eq other pin ≡ false → wire_at new other ≡ wire_at wires other)
@@ -147,3 +143,36 @@ put_more s trees old wires new pins i pin low here len there kept had =
       ];
       kept = λ other apart. let parts = last_of (take i pins) pin other apart in kept other parts.1 ∙ had.kept other parts.0;
     })
+
+-- one more wire
+with_more : (table : List (Option PinWire)) (found : List WireTo) (to : WireTo) → with_wires table (found ++ to ∷ []) ≡ slice_set (with_wires table found) to.pin (Some to.wire)
+with_more table [] to = refl
+with_more table (first ∷ rest) to = with_more (slice_set table first.pin (Some first.wire)) rest to
+
+pub none_to : (s : Stored) (trees : NetTrees) → AreWiresTo s trees [] []
+none_to s trees = record { within = All-nil (λ (to : WireTo). to.pin < length s.pins); put = λ old len. none_put s trees old }
+
+pub wires_more : (s : Stored) (trees : NetTrees) (pins : List ℕ) (i pin : ℕ) (found new : List WireTo) (to : WireTo) → i < length pins → pin ≡ get_or pins i pin
+    → is_number s.pins pin ≡ true → new ≡ found ++ to ∷ [] → to.pin ≡ pin
+    → ((net : NetRc) (root : List ℕ) (caps : List PinCap) → IsTreeOf net root caps trees.early → IsSink net root caps (pin_word s pin) to.wire.early)
+    → ((net : NetRc) (root : List ℕ) (caps : List PinCap) → IsTreeOf net root caps trees.late → IsSink net root caps (pin_word s pin) to.wire.late)
+    → AreWiresTo s trees (take i pins) found → AreWiresTo s trees (take (i + 1) pins) new
+wires_more s trees pins i pin found new to low here number pushed its early late had =
+    subst (λ (xs : List WireTo). AreWiresTo s trees (take (i + 1) pins) xs) (sym pushed)
+    (record {
+      within = All-push (λ (t : WireTo). t.pin < length s.pins) found to had.within below;
+      put = λ old len.
+          (let before = had.put old len in
+          let one : with_wires old (found ++ to ∷ []) ≡ slice_set (with_wires old found) pin (Some to.wire) =
+          with_more old found to ∙ ap (λ n. slice_set (with_wires old found) n (Some to.wire)) its in
+          let inside : pin < length (with_wires old found) = (let a = number_low s.pins pin number in let b = before.len in omega (arith, a, b, len)) in
+          subst (λ (xs : List (Option PinWire)). ArePut s trees old xs (take (i + 1) pins)) (sym one)
+          (put_more s trees old (with_wires old found) (slice_set (with_wires old found) pin (Some to.wire)) pins i pin low here
+          (length-set (with_wires old found) pin (Some to.wire))
+          (λ net root caps e l. wire_put s net root caps (with_wires old found) pin to.wire inside (early net root (caps Early) e) (late net root (caps Late) l))
+          (λ other apart. wire_kept (with_wires old found) pin other (Some to.wire) apart)
+          before));
+    })
+  where
+    below : to.pin < length s.pins
+    below = let a = number_low s.pins pin number in omega (arith, a, its)

@@ -1,5 +1,6 @@
 pub mod Between
 pub mod Evaluation
+pub mod FoundNets
 pub mod NetPins
 pub mod NetTrees
 pub mod PortTables

@@ -3,6 +3,7 @@
 #![tactic(auto)]
 
 mod arcs;
+mod found_nets;
 mod loads;
 mod merges;
 mod net_trees;

@@ -1,23 +1,21 @@
 //! The wires of a net with resistors: one tree a split, from its driver.
 
-ghost use Rattle.std.specs.Prelude.{◌≡◌, ℕ, List, [], nat_eq, true, false, None, Some, All, Contains, map, length, find, IfOk, OnOk};
-ghost use Rattle.std.specs.List.{list_any};
+ghost use Rattle.std.specs.Prelude.{◌≡◌, ℕ, List, [], true, All, map, find, IfOk};
 ghost use Rattle.std.specs.Option.{unwrap_or};
 ghost use Rattle.timing_defs.specs.declared.parasitics.RcNode.TheVariants.{Pin as rc_pin};
-ghost use Rattle.timing_defs.specs.declared.kinds.Split.{Split};
 ghost use Rattle.timing_defs.specs.declared.parasitics.NetRc.{NetRc};
 ghost use Rattle.timing_defs.specs.declared.rows.PinCap.{PinCap};
 ghost use Rattle.netlist_store.specs.Numbering.{is_number, name_at};
 ghost use Rattle.rc_tree.specs.Trees.{IsTreeOf, is_node};
 ghost use Rattle.node_rows.specs.PortTables.{ArePorts};
-ghost use Rattle.node_rows.specs.WireTables.{wire_at};
 ghost use Rattle.node_rows.specs.NetPins.{pin_cap_at, drives_at};
-ghost use Rattle.node_rows.specs.NetTrees.{IsSink, HasWire};
+ghost use Rattle.node_rows.specs.NetTrees.{IsSink};
+ghost use Rattle.node_rows.specs.FoundNets.{AreWiresTo};
 
+use crate::found_nets::WireTo;
 use crate::pin_wires::{PinWire, SinkWire};
 use crate::pins::{drives, pin_cap};
 use crate::ports::Ports;
-use cow_table::CowTable;
 use netlist_store::Store;
 use rc_tree::Tree;
 use sta_units::{Af, Fs, Memory};
@@ -122,43 +120,34 @@ fn pin_wire(trees: &NetTrees, pin: &Name) -> PinWire
     }
 }
 
-/// Puts the wire to a pin into the table.
-fn put_wire(
-    wires: &mut CowTable<Option<PinWire>>,
-    store: &Store,
-    trees: &NetTrees,
-    pin: u32,
-) -> Result<(), Memory>
+/// The wire to a pin that is a node of both trees, by its number.
+fn wire_to(store: &Store, trees: &NetTrees, pin: u32) -> WireTo
     requires pin { is_number store.now.pins pin ≡ true }
-    requires len { length wires.old ≡ length store.now.pins }
     requires early { is_node trees.now.early.nodes (rc_pin (unwrap_or (name_at store.now.pins pin) [])) ≡ true }
     requires late { is_node trees.now.late.nodes (rc_pin (unwrap_or (name_at store.now.pins pin) [])) ≡ true }
-    ensures len { OnOk result (length wires.new ≡ length wires.old) }
-    ensures there { OnOk result ((net : NetRc) (root : List ℕ) (caps : Split → List PinCap) → IsTreeOf net root (caps Split.Early) trees.now.early → IsTreeOf net root (caps Split.Late) trees.now.late → HasWire store.now net root caps wires.new pin) }
-    ensures kept { OnOk result ((other : ℕ) → nat_eq other pin ≡ false → wire_at wires.new other ≡ wire_at wires.old other) }
+    ensures pin { result.pin ≡ pin }
+    ensures early { (net : NetRc) (root : List ℕ) (caps : List PinCap) → IsTreeOf net root caps trees.now.early → IsSink net root caps (unwrap_or (name_at store.now.pins pin) []) result.wire.early }
+    ensures late { (net : NetRc) (root : List ℕ) (caps : List PinCap) → IsTreeOf net root caps trees.now.late → IsSink net root caps (unwrap_or (name_at store.now.pins pin) []) result.wire.late }
 {
-    store.laws();
     let wire = pin_wire(trees, store.pin_name(pin));
-    wires.set(pin as usize, Some(wire))
+    WireTo { pin, wire }
 }
 
-/// Puts the wires to pins into the table.
-pub(crate) fn put_wires(
-    wires: &mut CowTable<Option<PinWire>>,
+/// The wires to pins.
+pub(crate) fn wires_to(
+    alloc: Global,
     store: &Store,
     trees: &NetTrees,
     pins: &[u32],
-) -> Result<(), Memory>
+) -> Result<Items<WireTo>, Memory>
     requires pins { All (λ pin. is_number store.now.pins pin ≡ true) pins.now }
-    requires len { length wires.old ≡ length store.now.pins }
     requires early { All (λ pin. is_node trees.now.early.nodes (rc_pin (unwrap_or (name_at store.now.pins pin) [])) ≡ true) pins.now }
     requires late { All (λ pin. is_node trees.now.late.nodes (rc_pin (unwrap_or (name_at store.now.pins pin) [])) ≡ true) pins.now }
-    ensures len { OnOk result (length wires.new ≡ length wires.old) }
-    ensures there { OnOk result ((net : NetRc) (root : List ℕ) (caps : Split → List PinCap) → IsTreeOf net root (caps Split.Early) trees.now.early → IsTreeOf net root (caps Split.Late) trees.now.late → (pin : ℕ) → Contains pins.now pin → HasWire store.now net root caps wires.new pin) }
-    ensures kept { OnOk result ((other : ℕ) → list_any (nat_eq other) pins.now ≡ false → wire_at wires.new other ≡ wire_at wires.old other) }
+    ensures { IfOk result (AreWiresTo store.now trees.now pins.now) }
 {
+    let mut wires = Items::with_room(alloc, pins.len())?;
     for pin in pins {
-        put_wire(wires, store, trees, *pin)?;
+        wires.push(wire_to(store, trees, *pin))?;
     }
-    Ok(())
+    Ok(wires)
 }

@@ -1,7 +1,8 @@
 //! The tables of the loads of all nets and of the wires to their sinks.
 
 ghost use Rattle.rc_tree.specs.declared.faults.RcFault.TheVariants as rc_fault;
-ghost use Rattle.std.specs.Prelude.{◌≡◌, ◌⊎◌, ◌+◌, Bool, ℕ, replicate, true, false, None, Some, All, option_map, option_and_then, IfOk, IfErr, OnOk};
+ghost use Rattle.std.specs.Prelude.{◌≡◌, ◌⊎◌, ◌+◌, ◌≤◌, Bool, ℕ, length, replicate, true, false, None, Some, All, option_map, option_and_then, IfOk, IfErr, OnOk};
+ghost use Rattle.std.specs.List.{range_with_len};
 ghost use Rattle.std.specs.Option.{option_copied, option_map_or};
 ghost use Rattle.sta_units.specs.Numbers.{is_within};
 ghost use Rattle.timing_defs.specs.declared.kinds.Split.TheVariants.{Early, Late};
@@ -10,22 +11,28 @@ ghost use Rattle.timing_defs.specs.Range.{is_net_origin};
 ghost use Rattle.timing_defs.specs.Checks.{has_cycle};
 ghost use Rattle.netlist_store.specs.Numbering.{is_number, name_at};
 ghost use Rattle.rc_tree.specs.Trees.{IsMeasured, IsTreeOf, is_unreached, is_too_large, is_out_of_range};
+ghost use Rattle.level_workers.specs.Mapped.{IsMap};
 ghost use Rattle.node_rows.specs.PortTables.{ArePorts};
 ghost use Rattle.node_rows.specs.NetPins.{IsOnNet};
 ghost use Rattle.node_rows.specs.WireTables.{AreWires};
 ghost use Rattle.node_rows.specs.NetTrees.{IsSoundNets, IsTreeNet, AreTrees, AreUpTo, IsLarge, is_wide_net};
+ghost use Rattle.node_rows.specs.FoundNets.{IsFoundNet, IsNetAnswer};
 ghost use Rattle.node_rows.specs.Evaluation.{IsUnfit};
 
+use crate::found_nets::{FoundNet, put_found};
 use crate::loads::{bare_load, lumped_load, pins_on};
-use crate::net_trees::{NetTrees, driver_of, pin_caps, put_wires};
+use crate::net_trees::{NetTrees, driver_of, pin_caps, wires_to};
 use crate::pin_wires::{NetLoad, PinWire, Wires};
 use crate::ports::Ports;
 use crate::unfit::Unfit;
 use cow_table::CowTable;
+use level_workers::map_level;
 use netlist_store::Store;
 use rc_tree::{RcFault, Tree};
+use sta_outside::NoGate;
 use sta_units::{Af, Memory};
 use std::alloc::Global;
+use std::thread::Threads;
 use timing_defs::{Fault, Items, Name, NetRc, PinCap, Place, Split};
 
 /// Why a tree is not made: memory is wanting, or a quantity of it leaves its limit.
@@ -111,32 +118,31 @@ fn tree_load(trees: &NetTrees) -> NetLoad
     }
 }
 
-/// Adds a net with resistors.
-fn add_tree(
+/// What is found of a net with resistors.
+fn found_tree(
     alloc: Global,
     store: &Store,
     ports: &Ports,
-    wires: &mut Wires,
     net: u32,
     rc: &NetRc,
-) -> Result<(), Unfit>
+) -> Result<FoundNet, Unfit>
     requires sound { IsSoundNets store.now }
     requires net { is_number store.now.nets net ≡ true }
     requires rc { option_and_then (rc_of store.now.design) (name_at store.now.nets net) ≡ Some rc.now }
     requires ress { is_lumped rc.now ≡ false }
     requires ports { ArePorts store.now.design.constraints ports.now }
-    requires before { AreUpTo store.now wires.old net }
-    ensures after { OnOk result (AreUpTo store.now wires.new (net + 1)) }
-    ensures fine { OnOk result (is_wide_net store.now net ≡ false) }
+    ensures found { IfOk result (IsFoundNet store.now net) }
     ensures err { IfErr result (IsUnfit (is_wide_net store.now net)) }
 {
     store.laws();
     let pins = pins_on(store, net);
     let root = tree_root(store, net, rc, pins);
     let trees = net_trees(alloc, store, ports, rc, root, pins)?;
-    wires.loads.push(tree_load(&trees))?;
-    put_wires(&mut wires.pins, store, &trees, pins)?;
-    Ok(())
+    let wires = wires_to(alloc, store, &trees, pins)?;
+    Ok(FoundNet {
+        load: tree_load(&trees),
+        wires,
+    })
 }
 
 /// The loads of a net without parasitics. `Range` exactly where one leaves its limit.
@@ -194,73 +200,117 @@ fn plain_loads(store: &Store, ports: &Ports, net: u32, rc: Option<&NetRc>) -> Re
     }
 }
 
-/// Adds a net without resistors.
-fn add_plain(
+/// What is found of a net without resistors.
+fn found_plain(
+    alloc: Global,
     store: &Store,
     ports: &Ports,
-    wires: &mut Wires,
     net: u32,
     rc: Option<&NetRc>,
-) -> Result<(), Unfit>
+) -> Result<FoundNet, Unfit>
     requires sound { IsSoundNets store.now }
     requires net { is_number store.now.nets net ≡ true }
     requires rc { option_copied rc ≡ option_and_then (rc_of store.now.design) (name_at store.now.nets net) }
     requires lumped { option_map_or is_lumped (option_copied rc) true ≡ true }
     requires ports { ArePorts store.now.design.constraints ports.now }
-    requires before { AreUpTo store.now wires.old net }
-    ensures after { OnOk result (AreUpTo store.now wires.new (net + 1)) }
-    ensures fine { OnOk result (is_wide_net store.now net ≡ false) }
+    ensures found { IfOk result (IsFoundNet store.now net) }
     ensures err { IfErr result (IsUnfit (is_wide_net store.now net)) }
 {
-    store.laws();
     let load = plain_loads(store, ports, net, rc)?;
-    wires.loads.push(load)?;
-    Ok(())
-}
-
-/// Adds a number that is no net's.
-fn add_gap(store: &Store, wires: &mut Wires, net: u32) -> Result<(), Memory>
-    requires net { is_number store.now.nets net ≡ false }
-    requires before { AreUpTo store.now wires.old net }
-    ensures after { OnOk result (AreUpTo store.now wires.new (net + 1)) }
-{
-    let _ = store;
-    wires.loads.push(NetLoad {
-        early: Af(0),
-        late: Af(0),
+    Ok(FoundNet {
+        load,
+        wires: Items::new(alloc),
     })
 }
 
-/// Adds the net of a number, where there is one. `Range` exactly where a quantity of it leaves its
-/// limit.
-fn add_net(
-    alloc: Global,
-    store: &Store,
-    ports: &Ports,
-    wires: &mut Wires,
-    net: u32,
-) -> Result<(), Unfit>
+/// What is found of a number that is no net's.
+fn found_gap(alloc: Global, store: &Store, net: u32) -> FoundNet
+    requires { is_number store.now.nets net ≡ false }
+    ensures { IsFoundNet store.now net result }
+{
+    // The store and the number are asked for by the contract alone.
+    let _ = store;
+    let _ = net;
+    FoundNet {
+        load: NetLoad {
+            early: Af(0),
+            late: Af(0),
+        },
+        wires: Items::new(alloc),
+    }
+}
+
+/// What is found of a number. `Range` exactly where a quantity of its net leaves its limit.
+fn found_net(alloc: Global, store: &Store, ports: &Ports, net: u32) -> Result<FoundNet, Unfit>
     requires sound { IsSoundNets store.now }
     requires ports { ArePorts store.now.design.constraints ports.now }
-    requires before { AreUpTo store.now wires.old net }
-    ensures after { OnOk result (AreUpTo store.now wires.new (net + 1)) }
-    ensures fine { OnOk result (is_wide_net store.now net ≡ false) }
+    ensures found { IfOk result (IsFoundNet store.now net) }
     ensures err { IfErr result (IsUnfit (is_wide_net store.now net)) }
 {
     if !store.has_net(net) {
-        add_gap(store, wires, net)?;
-        return Ok(());
+        return Ok(found_gap(alloc, store, net));
     }
     match store.net_rc(net) {
         Some(rc) => {
             if rc.ress.is_empty() {
-                add_plain(store, ports, wires, net, Some(rc))
+                found_plain(alloc, store, ports, net, Some(rc))
             } else {
-                add_tree(alloc, store, ports, wires, net, rc)
+                found_tree(alloc, store, ports, net, rc)
             }
         }
-        None => add_plain(store, ports, wires, net, None),
+        None => found_plain(alloc, store, ports, net, None),
     }
+}
+
+/// The numbers below a bound.
+fn numbers_below(alloc: Global, bound: u32) -> Result<Items<u32>, Memory>
+    ensures { IfOk result (λ numbers. numbers ≡ range_with_len 0 bound) }
+{
+    let mut numbers = Items::with_room(alloc, bound as usize)?;
+    for number in 0..bound {
+        numbers.push(number)?;
+    }
+    Ok(numbers)
+}
+
+/// What is found of some numbers, by several threads.
+fn answers_of<H: Threads + Sync>(
+    rt: &H,
+    alloc: Global,
+    store: &Store,
+    ports: &Ports,
+    workers: u32,
+    nets: &[u32],
+) -> Result<Items<Result<FoundNet, Unfit>>, Memory>
+    requires some { 1 ≤ workers }
+    requires most { workers ≤ 32 }
+    requires sound { IsSoundNets store.now }
+    requires ports { ArePorts store.now.design.constraints ports.now }
+    ensures { IfOk result (IsMap (IsNetAnswer store.now) nets.now) }
+{
+    let find = |net: &u32| -> Result<Result<FoundNet, Unfit>, Memory>
+        requires { IsSoundNets store.now × ArePorts store.now.design.constraints ports.now }
+        ensures { IfOk result (IsNetAnswer store.entry.now net.now) }
+    { Ok(found_net(alloc, store, ports, *net)) };
+    map_level(rt, alloc, workers, 0, nets, &find, &NoGate)
+}
+
+/// What is found of all nets, by several threads.
+fn net_answers<H: Threads + Sync>(
+    rt: &H,
+    alloc: Global,
+    store: &Store,
+    ports: &Ports,
+    workers: u32,
+) -> Result<Items<Result<FoundNet, Unfit>>, Memory>
+    requires some { 1 ≤ workers }
+    requires most { workers ≤ 32 }
+    requires sound { IsSoundNets store.now }
+    requires ports { ArePorts store.now.design.constraints ports.now }
+    ensures { IfOk result (IsMap (IsNetAnswer store.now) (range_with_len 0 (length store.now.nets))) }
+{
+    let nets = numbers_below(alloc, store.net_bound())?;
+    answers_of(rt, alloc, store, ports, workers, nets.as_slice())
 }
 
 /// A table without wires, of that many pins.
@@ -290,11 +340,40 @@ fn fault_of(alloc: Global, store: &Store, net: u32, unfit: Unfit) -> Fault
     }
 }
 
+/// Puts what is found of a number into the tables.
+fn put_answer(
+    alloc: Global,
+    store: &Store,
+    wires: &mut Wires,
+    net: u32,
+    answer: &Result<FoundNet, Unfit>,
+) -> Result<(), Fault>
+    requires answer { IsNetAnswer store.now net answer.now }
+    requires before { AreUpTo store.now wires.old net }
+    ensures after { OnOk result (AreUpTo store.now wires.new (net + 1)) }
+    ensures fine { OnOk result (is_wide_net store.now net ≡ false) }
+    ensures err { IfErr result (IsLarge store.now.design) }
+{
+    match answer {
+        Ok(found) => Ok(put_found(store, wires, net, found)?),
+        Err(unfit) => Err(fault_of(alloc, store, net, *unfit)),
+    }
+}
+
 impl Wires {
-    /// The loads of all nets and the wires to their sinks, each net in time of its pins and parasitics.
+    /// The loads of all nets and the wires to their sinks, each net in time of its pins and parasitics,
+    /// the nets shared between that many threads. The tables are the same whatever the number of workers.
     /// `OutOfRange` at a net where its total resistance, its total capacitance or a wire delay leaves its
     /// limit, and only there.
-    pub fn of(alloc: Global, store: &Store, ports: &Ports) -> Result<Wires, Fault>
+    pub fn of<H: Threads + Sync>(
+        rt: &H,
+        alloc: Global,
+        store: &Store,
+        ports: &Ports,
+        workers: u32,
+    ) -> Result<Wires, Fault>
+        requires some { 1 ≤ workers }
+        requires most { workers ≤ 32 }
         requires sound { IsSoundNets store.now }
         requires ports { ArePorts store.now.design.constraints ports.now }
         ensures wires { IfOk result (AreWires store.now) }
@@ -302,15 +381,14 @@ impl Wires {
         ensures err { IfErr result (IsLarge store.now.design) }
     {
         store.laws();
+        let found = net_answers(rt, alloc, store, ports, workers)?;
+        let answers = found.as_slice();
         let mut wires = Wires {
             loads: CowTable::new(alloc),
             pins: no_wires(alloc, store.pin_bound())?,
         };
         for net in 0..store.net_bound() {
-            match add_net(alloc, store, ports, &mut wires, net) {
-                Ok(()) => (),
-                Err(unfit) => return Err(fault_of(alloc, store, net, unfit)),
-            }
+            put_answer(alloc, store, &mut wires, net, &answers[net as usize])?;
         }
         Ok(wires)
     }

@@ -1,0 +1,6 @@
+use Rattle.node_rows.proofs.FoundLaws.{numbers_more}
+use Rattle.node_rows.proofs.wire_tables.numbers_below.Goals as goal
+
+pub loop-number-preserved : goal.loop-number-preserved
+loop-number-preserved c =
+    numbers_more c.loop-number.number c.loop-number.numbers c.push.new.self c.loop-number.invariant c.in_ok-push.ensures.ok
