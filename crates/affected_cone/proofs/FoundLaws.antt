@@ -10,6 +10,8 @@ use Rattle.netlist_store.specs.Linked.{IsLinked}
 use Rattle.pin_graph.specs.Graphs.{Graphed, IsGraph}
 use Rattle.arrival_engine.specs.declared.tables.Arrivals.{Arrivals}
 use Rattle.arrival_engine.specs.Analysed.{AreTables}
+use Rattle.arc_delays.specs.Delays.{AreDelays}
+use Rattle.std.specs.Arc.{arc_value}
 use Rattle.pessimism_credit.specs.declared.rows.TreeRow.{TreeRow}
 use Rattle.required_engine.specs.Worked.{is_back_within}
 use Rattle.path_search.specs.Trees.{IsClockTree}
@@ -36,6 +38,7 @@ found_analysis s g found same sound num linked is f = (
     linked = subst (λ (x : Stored). IsLinked x.design) (sym same) linked;
     graph = is;
     tables = subst (λ (x : Stored). AreTables x found.arrivals) (sym same) f.arrivals.tables;
+    delays = subst (λ (x : Stored). AreDelays x (arc_value found.arrivals.delays)) (sym same) f.arrivals.delays;
     within = f.required.within;
     tree = f.tree;
   },
@@ -53,6 +56,9 @@ known_told k arrivals backs ends g tree store graph rows required trees list a k
       (subst (λ (x : List EndSlacks). IsAnalysis (record { stored = g.stored; rows = arrivals.rows; backs = backs; ends = x })) (sym list) a)));
   graph = ap (λ (x : Graphed). x.stored) graph ∙ sym store;
   tables = subst (λ (x : Stored). AreTables x k.arrivals.now) (sym store) (subst (λ (x : Arrivals). AreTables g.stored x) (sym rows) kept.tables);
+  delays =
+      subst (λ (x : Stored). AreDelays x (arc_value k.arrivals.now.delays)) (sym store)
+      (subst (λ (x : Arrivals). AreDelays g.stored (arc_value x.delays)) (sym rows) kept.delays);
   within = subst (λ (x : List BackRow). (node : ℕ) (row : BackRow) → slice_get x node ≡ Some row → is_back_within row ≡ true) (sym required) kept.within;
   tree = subst (λ (x : Graphed). IsClockTree x k.tree.now) (sym graph) (subst (λ (x : List TreeRow). IsClockTree g x) (sym trees) kept.tree);
 }

@@ -1,3 +1,4 @@
+pub mod SharingLaws
 pub mod SlackLaws
 pub mod SumLaws
 pub mod OrderLaws

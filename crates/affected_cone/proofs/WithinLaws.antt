@@ -15,7 +15,7 @@ use Rattle.pin_graph.specs.Nodes.{node_at}
 use Rattle.pin_graph.specs.Graphs.{Graphed, IsGraph}
 use Rattle.pin_graph.proofs.Members.{in_flat_map}
 use Rattle.pin_graph.proofs.NodeLaws.{has_node}
-use Rattle.path_cones.proofs.RangeLaws.{rows_fine, within}
+use Rattle.arc_delays.proofs.RangeLaws.{rows_fine, within}
 use Rattle.timing_defs.specs.declared.kinds.Tran.{Tran}
 use Rattle.timing_defs.specs.declared.kinds.Tran.TheVariants.{Rise, Fall}
 

@@ -17,7 +17,9 @@ use Rattle.level_workers.specs.Mapped.{IsMap}
 use Rattle.pin_graph.specs.Graphs.{Graphed, IsGraph}
 use Rattle.pin_graph.specs.RowTables.{AreRows, AreBackRows}
 use Rattle.arrival_engine.specs.declared.tables.Arrivals.{Arrivals}
+use Rattle.arc_delays.specs.Delays.{AreDelays}
 use Rattle.arrival_engine.specs.Analysed.{AreTables}
+use Rattle.std.specs.Arc.{arc_value}
 use Rattle.pessimism_credit.specs.declared.rows.TreeRow.{TreeRow}
 use Rattle.path_search.specs.Trees.{IsClockTree}
 use Rattle.required_engine.specs.Worked.{is_back_within}
@@ -62,6 +64,7 @@ pub record IsKept (g : Graphed) (arrivals : Arrivals) (backs : List BackRow) (pl
   pub linked : IsLinked g.stored.design
   pub graph : IsGraph g
   pub tables : AreTables g.stored arrivals
+  pub delays : AreDelays g.stored (arc_value arrivals.delays)
   pub within : (node : ℕ) (row : BackRow) → slice_get backs node ≡ Some row → is_back_within row ≡ true
   pub tree : IsClockTree g places
 
@@ -72,4 +75,5 @@ pub record IsSearch (x : Search) : Type 0 where
   pub fine : NoOrigin x.store.now.design
   pub rows : AreRows x.store.now x.arrivals.now.rows
   pub tables : AreTables x.store.now x.arrivals.now
+  pub delays : AreDelays x.store.now (arc_value x.arrivals.now.delays)
   pub tree : IsClockTree x.graph.now x.tree.now

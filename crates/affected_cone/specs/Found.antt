@@ -8,7 +8,9 @@ use Rattle.level_workers.specs.Mapped.{IsMap}
 use Rattle.pin_graph.specs.Graphs.{Graphed}
 use Rattle.pin_graph.specs.RowTables.{AreRows, AreBackRows}
 use Rattle.arrival_engine.specs.declared.tables.Arrivals.{Arrivals}
+use Rattle.arc_delays.specs.Delays.{AreDelays}
 use Rattle.arrival_engine.specs.Analysed.{AreTables}
+use Rattle.std.specs.Arc.{arc_value}
 use Rattle.path_search.specs.Trees.{IsClockTree}
 use Rattle.required_engine.specs.Worked.{is_back_within}
 use Rattle.affected_cone.specs.declared.found.Found.{Found}
@@ -18,6 +20,7 @@ use Rattle.affected_cone.specs.Analysed.{ends_of, IsEnd}
 pub record AreArrivals (s : Stored) (a : Arrivals) : Type 0 where
   pub rows : AreRows s a.rows
   pub tables : AreTables s a
+  pub delays : AreDelays s (arc_value a.delays)
 
 -- its required times, each within its limit
 pub record AreRequired (s : Stored) (backs : List BackRow) : Type 0 where

@@ -8,7 +8,9 @@ use Rattle.timing_defs.specs.Netlist.{Node}
 use Rattle.timing_defs.specs.Required.{graph_slack}
 use Rattle.timing_defs.specs.Reports.{fs_value}
 use Rattle.pin_graph.specs.Nodes.{node_at, node_bound}
+use Rattle.arc_delays.specs.Delays.{AreDelays}
 use Rattle.arrival_engine.specs.Analysed.{AreTables}
+use Rattle.std.specs.Arc.{arc_value}
 use Rattle.path_search.specs.Trees.{IsClockTree}
 use Rattle.required_engine.specs.Worked.{is_back_within}
 use Rattle.affected_cone.specs.declared.asking.Known.{Known}
@@ -19,6 +21,7 @@ pub record IsKnown (k : Known) : Type 0 where
   pub analysis : IsAnalysis (record { stored = k.store.now; rows = k.arrivals.now.rows; backs = k.required.now.rows; ends = k.ends.now })
   pub graph : k.graph.now.stored ≡ k.store.now
   pub tables : AreTables k.store.now k.arrivals.now
+  pub delays : AreDelays k.store.now (arc_value k.arrivals.now.delays)
   pub within : (node : ℕ) (row : BackRow) → slice_get k.required.now.rows node ≡ Some row → is_back_within row ≡ true
   pub tree : IsClockTree k.graph.now k.tree.now
 

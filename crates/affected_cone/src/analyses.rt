@@ -48,9 +48,9 @@ impl Model for Analysis {
 impl Analysis {
     /// The analysis of a sound store, from nothing: slews, arrivals and required times level by level,
     /// each level's nodes shared between that many threads and the gate called as each piece of a level
-    /// begins, then the slacks of endpoints by one search for each endpoint and kind. The rows are the
-    /// same whatever the number of workers. `OutOfRange` exactly where a quantity leaves its limit, at a
-    /// net or a pin where that begins.
+    /// begins, then the slacks of endpoints by one search for each endpoint and kind, shared between as
+    /// many threads as there are processors. The rows are the same whatever the number of workers.
+    /// `OutOfRange` exactly where a quantity leaves its limit, at a net or a pin where that begins.
     pub fn full<H: Threads + Sync, G: Gate>(
         rt: &H,
         alloc: Global,

@@ -5,14 +5,13 @@ ghost use Rattle.level_workers.specs.Mapped.{IsMap};
 ghost use Rattle.affected_cone.specs.Analysed.{is_end, ends_of, slack_in, IsEnd, IsSearch};
 ghost use Rattle.affected_cone.specs.Rising.{AreRising, AreBounds};
 
+use crate::sharing::map_shared;
 use arrival_engine::Arrivals;
-use level_workers::map_level;
 use netlist_store::Store;
 use node_tests::is_endpoint;
 use path_search::worst_slack;
 use pessimism_credit::ClockTree;
 use pin_graph::Graph;
-use sta_outside::NoGate;
 use sta_units::{Fs, Memory};
 use std::alloc::Global;
 use std::thread::Threads;
@@ -146,16 +145,14 @@ fn pin_slacks(alloc: Global, search: &Search<'_>, pin: u32) -> Result<EndSlacks,
     })
 }
 
-/// The slacks of endpoints by their numbers, found by that many threads.
+/// The slacks of endpoints by their numbers, in their order. The searches are shared between as many
+/// threads as there are processors.
 pub(crate) fn slacks_of<H: Threads + Sync>(
     rt: &H,
     alloc: Global,
     search: &Search<'_>,
-    workers: u32,
     ends: &[u32],
 ) -> Result<Items<EndSlacks>, Memory>
-    requires some { 1 ≤ workers }
-    requires most { workers ≤ 32 }
     requires search { IsSearch search.now }
     requires ends { ends.now ≡ ends_of search.now.store.now }
     ensures { IfOk result (IsMap (IsEnd search.now.store.now) ends.now) }
@@ -164,5 +161,5 @@ pub(crate) fn slacks_of<H: Threads + Sync>(
         requires { IsSearch search.now }
         ensures { is_end search.entry.now.store.now pin.now ≡ true → IfOk result (IsEnd search.entry.now.store.now pin.now) }
     { pin_slacks(alloc, search, *pin) };
-    map_level(rt, alloc, workers, 0, ends, &found, &NoGate)
+    map_shared(rt, alloc, ends, &found)
 }

@@ -37,15 +37,12 @@ fn all_slacks<H: Threads + Sync>(
     rt: &H,
     alloc: Global,
     search: &Search<'_>,
-    workers: u32,
 ) -> Result<Items<EndSlacks>, Memory>
-    requires some { 1 ≤ workers }
-    requires most { workers ≤ 32 }
     requires search { IsSearch search.now }
     ensures { IfOk result (IsMap (IsEnd search.now.store.now) (ends_of search.now.store.now)) }
 {
     let ends = all_ends(alloc, search.store)?;
-    slacks_of(rt, alloc, search, workers, ends.as_slice())
+    slacks_of(rt, alloc, search, ends.as_slice())
 }
 
 /// What is found, from arrivals, required times and clock tree on.
@@ -54,13 +51,10 @@ fn with_tree<H: Threads + Sync>(
     alloc: Global,
     store: &Store,
     graph: &Graph,
-    workers: u32,
     arrivals: Arrivals,
     required: Required,
     tree: ClockTree,
 ) -> Result<Found, Memory>
-    requires some { 1 ≤ workers }
-    requires most { workers ≤ 32 }
     requires sound { IsSound store.now.design }
     requires graph { graph.now.stored ≡ store.now }
     requires fine { NoOrigin store.now.design }
@@ -75,7 +69,7 @@ fn with_tree<H: Threads + Sync>(
         arrivals: &arrivals,
         tree: &tree,
     };
-    let ends = all_slacks(rt, alloc, &search, workers)?;
+    let ends = all_slacks(rt, alloc, &search)?;
     Ok(Found {
         arrivals,
         required,
@@ -90,12 +84,9 @@ fn with_required<H: Threads + Sync>(
     alloc: Global,
     store: &Store,
     graph: &Graph,
-    workers: u32,
     arrivals: Arrivals,
     required: Required,
 ) -> Result<Found, Memory>
-    requires some { 1 ≤ workers }
-    requires most { workers ≤ 32 }
     requires sound { IsSound store.now.design }
     requires graph { graph.now.stored ≡ store.now }
     requires range { AreRowsFine store.now.design }
@@ -105,7 +96,7 @@ fn with_required<H: Threads + Sync>(
     ensures { IfOk result (IsFound store.now graph.now) }
 {
     let tree = clock_tree(alloc, store, graph, &arrivals)?;
-    with_tree(rt, alloc, store, graph, workers, arrivals, required, tree)
+    with_tree(rt, alloc, store, graph, arrivals, required, tree)
 }
 
 /// What is found, from arrivals on.
@@ -128,7 +119,7 @@ fn with_arrivals<H: Threads + Sync, G: Gate>(
     ensures refused { IfErr result (IsRangeFault store.now.design) }
 {
     let required = Required::full(rt, alloc, store, graph, &arrivals, workers, gate)?;
-    let found = with_required(rt, alloc, store, graph, workers, arrivals, required)?;
+    let found = with_required(rt, alloc, store, graph, arrivals, required)?;
     Ok(found)
 }
 

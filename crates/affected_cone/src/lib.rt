@@ -13,6 +13,7 @@ mod ends;
 mod found;
 mod graph_slacks;
 mod ranking;
+mod sharing;
 mod totals;
 
 pub use analyses::Analysis;

@@ -4,6 +4,7 @@ ghost use Rattle.std.specs.Prelude.{ℕ, ◌≡◌, ◌<◌, ◌≤◌, Some, le
 ghost use Rattle.std.specs.Arc.{arc_value};
 ghost use Rattle.timing_defs.specs.Checks.{IsSound};
 ghost use Rattle.timing_defs.specs.Rows.{empty_row};
+ghost use Rattle.arc_delays.specs.Delays.{AreDelays};
 ghost use Rattle.node_rows.specs.PortTables.{ArePorts};
 ghost use Rattle.pin_graph.specs.RowTables.{AreRows, AreRowsFine, IsRangeFault};
 ghost use Rattle.arrival_engine.specs.Analysed.{AreTables, sized_rows};
@@ -11,6 +12,7 @@ ghost use Rattle.arrival_engine.specs.Planned.{ArePlanned};
 
 use crate::nodes::empty_row;
 use crate::passes::full_rows;
+use arc_delays::{ArcDelays, Delayed};
 use cow_table::CowTable;
 use netlist_store::Store;
 use node_rows::{Ports, Setting, Wired, Wires};
@@ -22,13 +24,15 @@ use std::sync::Arc;
 use std::thread::Threads;
 use timing_defs::{Fault, NodeRow, Rows};
 
-/// The slews and arrivals of all nodes by their numbers, in fs, and the tables of wires and of ports
-/// that they are evaluated with. Copies share the tables, and the rows until one writes them.
+/// The slews and arrivals of all nodes by their numbers, in fs, the tables of wires and of ports that
+/// they are evaluated with, and the delays of arcs. Copies share the tables and the delays, and the rows
+/// until one writes them.
 #[derive(Drop)]
 pub struct Arrivals {
     pub(crate) rows: CowTable<NodeRow>,
     pub(crate) wires: Arc<Wires>,
     pub(crate) ports: Arc<Ports>,
+    pub(crate) delays: Arc<ArcDelays>,
 }
 
 /// Adds empty rows up to that many.
@@ -93,13 +97,21 @@ fn shared_ports(alloc: Global, store: &Store) -> Result<Arc<Ports>, Memory>
 
 /// The wires of a sound store, none of whose nets is too large, to be shared.
 #[tactic(auto, using(crate::proofs::PassLaws::large_is_range))]
-fn shared_wires(alloc: Global, store: &Store, ports: &Ports) -> Result<Arc<Wires>, Fault>
+fn shared_wires<H: Threads + Sync>(
+    rt: &H,
+    alloc: Global,
+    store: &Store,
+    ports: &Ports,
+    workers: u32,
+) -> Result<Arc<Wires>, Fault>
+    requires some { 1 ≤ workers }
+    requires most { workers ≤ 32 }
     requires sound { IsSound store.now.design }
     requires ports { ArePorts store.now.design.constraints ports.now }
     ensures plan { IfOk result (λ wires. ArePlanned store.now (arc_value wires) ports.now) }
     ensures err { IfErr result (IsRangeFault store.now.design) }
 {
-    let wires = Wires::of(alloc, store, ports)?;
+    let wires = Wires::of(rt, alloc, store, ports, workers)?;
     Ok(shared(alloc, wires)?)
 }
 
@@ -131,6 +143,35 @@ fn rows_over<H: Threads + Sync, G: Gate>(
     full_rows(rt, alloc, &setting, graph, workers, gate)
 }
 
+/// The delays of all arcs, over the tables of a store and the rows of all nodes, to be shared.
+#[tactic(auto, using(crate::proofs::PlanLaws::setting_over))]
+fn shared_delays<H: Threads + Sync>(
+    rt: &H,
+    alloc: Global,
+    store: &Store,
+    graph: &Graph,
+    workers: u32,
+    rows: &CowTable<NodeRow>,
+    wires: &Wires,
+    ports: &Ports,
+) -> Result<Arc<ArcDelays>, Memory>
+    requires graph { graph.now.stored ≡ store.now }
+    requires some { 1 ≤ workers }
+    requires most { workers ≤ 32 }
+    requires plan { ArePlanned store.now wires.now ports.now }
+    requires rows { AreRows store.now rows.now }
+    requires fine { AreRowsFine store.now.design }
+    ensures { IfOk result (λ delays. AreDelays store.now (arc_value delays)) }
+{
+    let setting = Setting {
+        store,
+        wires,
+        ports,
+    };
+    let delays = ArcDelays::full(rt, alloc, &setting, graph, rows, workers)?;
+    shared(alloc, delays)
+}
+
 /// The slews and arrivals of all nodes, with the tables of a store.
 fn with_tables<H: Threads + Sync, G: Gate>(
     rt: &H,
@@ -148,17 +189,24 @@ fn with_tables<H: Threads + Sync, G: Gate>(
     requires plan { ArePlanned store.now (arc_value wires) (arc_value ports) }
     ensures rows { IfOk result (λ a. AreRows store.now a.rows) }
     ensures tables { IfOk result (AreTables store.now) }
+    ensures delays { IfOk result (λ a. AreDelays store.now (arc_value a.delays)) }
     ensures fine { OnOk result (AreRowsFine store.now.design) }
     ensures err { IfErr result (IsRangeFault store.now.design) }
 {
     let rows = rows_over(rt, alloc, store, graph, workers, gate, &wires, &ports)?;
-    Ok(Arrivals { rows, wires, ports })
+    let delays = shared_delays(rt, alloc, store, graph, workers, &rows, &wires, &ports)?;
+    Ok(Arrivals {
+        rows,
+        wires,
+        ports,
+        delays,
+    })
 }
 
 impl Arrivals {
     /// The slews and arrivals of all nodes of a store, from nothing: level by level, each level's nodes
-    /// shared between that many threads, the gate called as each piece of a level begins. The rows are
-    /// the same whatever the number of workers. `OutOfRange` at a net or a pin where a load, a wire
+    /// shared between that many threads, the gate called as each piece of a level begins; then the delays
+    /// of all arcs. The rows are the same whatever the number of workers. `OutOfRange` at a net or a pin where a load, a wire
     /// delay, or a quantity of a node leaves its limit. Takes time of the nets, nodes and arcs.
     pub fn full<H: Threads + Sync, G: Gate>(
         rt: &H,
@@ -174,11 +222,12 @@ impl Arrivals {
         requires most { workers ≤ 32 }
         ensures rows { IfOk result (λ a. AreRows store.now a.rows) }
         ensures tables { IfOk result (AreTables store.now) }
+        ensures delays { IfOk result (λ a. AreDelays store.now (arc_value a.delays)) }
         ensures fine { OnOk result (AreRowsFine store.now.design) }
         ensures err { IfErr result (IsRangeFault store.now.design) }
     {
         let ports = shared_ports(alloc, store)?;
-        let wires = shared_wires(alloc, store, &ports)?;
+        let wires = shared_wires(rt, alloc, store, &ports, workers)?;
         with_tables(rt, alloc, store, graph, workers, gate, wires, ports)
     }
 
@@ -196,22 +245,25 @@ impl Arrivals {
         ensures rows { IfOk result (λ a. a.rows ≡ sized_rows self.now.rows count) }
         ensures wires { IfOk result (λ a. arc_value a.wires ≡ arc_value self.now.wires) }
         ensures ports { IfOk result (λ a. arc_value a.ports ≡ arc_value self.now.ports) }
+        ensures delays { IfOk result (λ a. arc_value a.delays ≡ arc_value self.now.delays) }
     {
         Ok(Arrivals {
             rows: sized(alloc, &self.rows, count as usize)?,
             wires: self.wires.clone()?,
             ports: self.ports.clone()?,
+            delays: self.delays.clone()?,
         })
     }
 
-    /// Writes the row of a node, whose number is below that of the rows. Where memory is wanting the
-    /// rows are as before.
+    /// Writes the row of a node, whose number is below that of the rows. Tables and delays stay. Where
+    /// memory is wanting the rows are as before.
     pub fn set(&mut self, node: u32, row: NodeRow) -> Result<(), Memory>
         requires { node < length self.old.rows }
         ensures ok { OnOk result (self.new.rows ≡ slice_set self.old.rows node row) }
         ensures err { OnErr result (self.new.rows ≡ self.old.rows) }
         ensures wires { arc_value self.new.wires ≡ arc_value self.old.wires }
         ensures ports { arc_value self.new.ports ≡ arc_value self.old.ports }
+        ensures delays { arc_value self.new.delays ≡ arc_value self.old.delays }
     {
         self.rows.set(node as usize, row)
     }
@@ -251,5 +303,15 @@ impl Wired for Arrivals {
 
     fn ports(&self) -> &Ports {
         &self.ports
+    }
+}
+
+impl Delayed for Arrivals {
+    ghost use Rattle.std.specs.Arc.{arc_value};
+
+    ghost delays = { λ a. arc_value a.delays };
+
+    fn delays(&self) -> &ArcDelays {
+        &self.delays
     }
 }

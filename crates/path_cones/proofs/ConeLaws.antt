@@ -19,7 +19,8 @@ use Rattle.pin_graph.proofs.Members.{some_is, any_back, in_filter_map_back}
 use Rattle.worst_walks.specs.declared.cones.WalkArc.{WalkArc}
 use Rattle.worst_walks.specs.Walks.{delay_in, AreApart}
 use Rattle.path_cones.specs.Reaching.{is_among, AreOnce}
-use Rattle.path_cones.specs.Delays.{delay_numbered, signed, walk_arc}
+use Rattle.arc_delays.specs.Delays.{delay_numbered}
+use Rattle.path_cones.specs.Delays.{signed, walk_arc}
 use Rattle.path_cones.specs.FanIns.{IsFromAbove}
 
 -- places of nodes

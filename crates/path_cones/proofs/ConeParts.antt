@@ -1,11 +1,11 @@
 -- The fan-in cone of end nodes, from the arcs of the graph: each arc leads from a higher level, and an
 -- arc between two nodes of the graph is one of the design.
 
-use Rattle.std.proofs.Common.{◌≡◌, ◌⊎◌, ℕ, zero, suc, ◌+◌, ◌-◌, ◌^◌, ◌<◌, ◌≤◌, ℤ, Bool, true, false, ◌||◌, if◌then◌else◌, max, List, [], ◌∷◌, map, length, get_or, Option, None, Some, refl, sym, ap, subst, ◌∙◌, inl, inr, arith}
-use Rattle.std.specs.Prelude.{nat_eq, All, Contains, slice_index, option_map, option_and_then, pos, ◌-ℤ◌}
+use Rattle.std.proofs.Common.{◌≡◌, ◌⊎◌, ℕ, zero, suc, ◌+◌, ◌-◌, ◌^◌, ◌<◌, ◌≤◌, ℤ, Bool, true, false, if◌then◌else◌, max, List, [], ◌∷◌, map, length, get_or, Option, None, Some, refl, sym, ap, subst, ◌∙◌, inl, inr, arith}
+use Rattle.std.specs.Prelude.{nat_eq, All, Contains, slice_index, option_map, option_and_then, pos, ◌-ℤ◌, IfSome}
 use Rattle.std.specs.List.{list_any, filter_map, range_with_len}
 use Rattle.std.specs.List.Sorted.{IsNonDecreasingBy}
-use Rattle.std.proofs.lemmas.Bool.{cases_Bool, cases_lt, eqb-true, eq-eqb, false≢true, and_parts, and_from, lt-ltb, or_parts, not-false}
+use Rattle.std.proofs.lemmas.Bool.{cases_Bool, cases_lt, eqb-true, eq-eqb, false≢true, and_parts, and_from, lt-ltb}
 use Rattle.std.proofs.lemmas.Option.{none-some}
 use Rattle.std.proofs.lemmas.List.Elements.{All-contains}
 use Rattle.std.proofs.lemmas.List.Folds.{list_any_at}
@@ -18,31 +18,17 @@ use Rattle.timing_defs.specs.declared.kinds.Kind.TheVariants.{Setup, Hold}
 use Rattle.timing_defs.specs.declared.kinds.Split.{Split}
 use Rattle.timing_defs.specs.declared.kinds.Tran.{Tran}
 use Rattle.timing_defs.specs.declared.kinds.Tran.TheVariants.{Rise, Fall}
-use Rattle.timing_defs.specs.declared.library.CellArc.{CellArc}
-use Rattle.timing_defs.specs.declared.design.Design.{Design}
-use Rattle.timing_defs.specs.declared.rows.NodeRow.{NodeRow}
-use Rattle.timing_defs.specs.Lookup.{look}
-use Rattle.timing_defs.specs.Netlist.{Node, name_of, is_driver, same_node, same_pin, same_tran}
-use Rattle.timing_defs.specs.Wires.{wire_delay}
-use Rattle.timing_defs.specs.Rows.{arcs_in, row, delay, delay_from, delay_along, raw_delay, scaled, slew_in, net_name, load_at, outermost, library_arcs}
-use Rattle.timing_defs.specs.Range.{within_some, NoOrigin}
+use Rattle.timing_defs.specs.Netlist.{Node, name_of, same_node, same_pin, same_tran}
+use Rattle.timing_defs.specs.Rows.{arcs_in, delay}
 use Rattle.timing_defs.specs.Cones.{has_register_arc}
 use Rattle.timing_defs.specs.Paths.{arc_delay}
 use Rattle.timing_defs.specs.Tests.{data_split}
 use Rattle.netlist_store.specs.Linked.{IsLinked}
 use Rattle.netlist_store.specs.Numbering.{Stored, number_of, IsNumbered}
 use Rattle.levelizer.specs.Levels.{greatest}
-use Rattle.node_rows.specs.declared.pin_wires.Wires.{Wires}
-use Rattle.node_rows.specs.declared.ports.Ports.{Ports}
-use Rattle.node_rows.specs.declared.settings.Setting.{Setting}
-use Rattle.node_rows.specs.PortTables.{ArePorts}
-use Rattle.node_rows.specs.WireTables.{AreWires}
-use Rattle.node_rows.specs.Evaluation.{scaled_over, is_wide_looked, is_wide_scaled, is_wide_end, is_wide_along}
-use Rattle.node_rows.proofs.AlongLaws.{bound_of}
 use Rattle.pin_graph.specs.declared.arcs.GraphArc.{GraphArc}
 use Rattle.pin_graph.specs.Nodes.{node_at, node_number, node_bound}
 use Rattle.pin_graph.specs.Graphs.{Graphed, IsGraph, IsArc, fan_at, level_at, network_at, kind_between}
-use Rattle.pin_graph.specs.RowTables.{AreRows}
 use Rattle.pin_graph.proofs.Members.{some_is, none_in, in_map, any_in, any_back, number_in}
 use Rattle.pin_graph.proofs.PinNames.{same_is, same_self}
 use Rattle.pin_graph.proofs.LevelBound.{level_low}
@@ -50,11 +36,11 @@ use Rattle.pin_graph.proofs.NodeLaws.{HasNode, node_told, has_node, same_node_at
 use Rattle.pin_graph.proofs.GraphRows.{placed}
 use Rattle.path_cones.specs.declared.fans.FanIn.{FanIn}
 use Rattle.path_cones.specs.Reaching.{is_among, followed, AreReached, AreOnce, AreOrdered, depth_at}
-use Rattle.path_cones.specs.Delays.{delay_numbered, arc_numbered, signed, followed_delay, walk_arc, arcs_placed, AreWithin, IsFound}
+use Rattle.arc_delays.specs.declared.tables.ArcDelay.{ArcDelay}
+use Rattle.arc_delays.specs.Delays.{AreDelays, delay_numbered}
+use Rattle.path_cones.specs.Delays.{arc_numbered, signed, followed_delay, walk_arc, arcs_placed}
 use Rattle.path_cones.specs.FanIns.{AreParts, IsFromAbove, IsFanIn}
 use Rattle.path_cones.proofs.Growing.{from_low}
-use Rattle.path_cones.proofs.DelayLaws.{narrow_arc}
-use Rattle.path_cones.proofs.RangeLaws.{within, rows_fine}
 use Rattle.path_cones.proofs.ConeLaws.{among_at, above_part, apart_part, delay_part}
 use Rattle.worst_walks.specs.declared.cones.WalkArc.{WalkArc}
 use Rattle.worst_walks.specs.Walks.{delay_in, AreApart}
@@ -88,35 +74,12 @@ tran_self : (a : Tran) → same_tran a a ≡ true
 tran_self Rise = refl
 tran_self Fall = refl
 
--- a delay is the one whose limit is tested
-over_is : (d : Design) (split : Split) (to from : Node) (row : NodeRow) (v : ℤ) → delay_from d split from to row ≡ Some v → scaled_over d split to from row ≡ Some v
-over_is d split to from row v e = by (slew_in split row) refl (is_driver to.pin) refl e
-  where
-    by : (o : Option ℤ) → slew_in split row ≡ o → (b : Bool) → is_driver to.pin ≡ b → option_and_then (delay_along d split from to) o ≡ Some v
-        → scaled_over d split to from row ≡ Some v
-    by None p b q f = absurd (none-some v f)
-    by (Some x) p true q f =
-        let a : scaled_over d split to from row ≡ option_map (scaled d split to) (option_and_then (raw_delay d split from to) (slew_in split row)) =
-        ap (λ t. if t then option_map (scaled d split to) (option_and_then (raw_delay d split from to) (slew_in split row))
-        else Some (scaled d split to (wire_delay d split (net_name to.pin) from.pin to.pin))) q in
-        a ∙ ap (λ o. option_map (scaled d split to) (option_and_then (raw_delay d split from to) o)) p ∙ f
-    by (Some x) p false q f =
-        let a : scaled_over d split to from row ≡ Some (scaled d split to (wire_delay d split (net_name to.pin) from.pin to.pin)) =
-        ap (λ t. if t then option_map (scaled d split to) (option_and_then (raw_delay d split from to) (slew_in split row))
-        else Some (scaled d split to (wire_delay d split (net_name to.pin) from.pin to.pin))) q in
-        let b : delay_along d split from to x ≡ Some (scaled d split to (wire_delay d split (net_name to.pin) from.pin to.pin)) =
-        ap (λ t. option_map (scaled d split to) (if t then outermost split (λ (arc : CellArc). Some (look arc.delay x (load_at d split to.pin))) None (library_arcs d split from to)
-        else Some (wire_delay d split (net_name to.pin) from.pin to.pin))) q in
-        a ∙ sym b ∙ f
-
-delay_bound : (d : Design) (split : Split) (to from : Node) (row : NodeRow) (v : ℤ) → is_wide_along d split to from row ≡ false → delay_from d split from to row ≡ Some v → Within v
-delay_bound d split to from row v narrow e =
-    let all = or_parts (is_wide_looked d split to from row || is_wide_scaled d split to from row) (is_wide_end d split to from row) narrow in
-    let two = or_parts (is_wide_looked d split to from row) (is_wide_scaled d split to from row) all.0 in
-    bound_of v (sym (ap within_some (over_is d split to from row v e)) ∙ not-false (within_some (scaled_over d split to from row)) two.1)
-
 turned_within : (v : ℤ) → Within v → Within (pos 0 -ℤ v)
 turned_within v h = omega (arith, ints)
+
+some_within : (o : Option ℤ) (v : ℤ) → o ≡ Some v → IfSome o Within → Within v
+some_within None v e h = absurd (none-some v e)
+some_within (Some w) v e h = subst Within (some_is e) h
 
 signed_bound : (kind : Kind) (v : ℤ) → Within v → Within (signed kind v)
 signed_bound Setup v h = h
@@ -216,7 +179,7 @@ module _ (g : Graphed) (num : IsNumbered g.stored) (linked : IsLinked g.stored.d
             absurd (false≢true (sym none ∙ any_in (λ (a : GraphArc). nat_eq a.from x) (fan_at g.ins n) arc c (eq-eqb x x refl)))
       ]
 
-  module _ (fine : AreWithin g.stored.design) (kind : Kind) (fits : node_bound g.stored < 2 ^ 32) (ends nodes : List ℕ)
+  module _ (table : List (List ArcDelay)) (found : AreDelays g.stored table) (kind : Kind) (fits : node_bound g.stored < 2 ^ 32) (ends nodes : List ℕ)
       (reach : AreReached g ends nodes) (once : AreOnce nodes) (falls : IsNonDecreasingBy (depth_at g) nodes) where
     its_low : (b : ℕ) → b < length nodes → slice_index nodes b < node_bound g.stored
     its_low b low = reach.below (slice_index nodes b) (among_at nodes b low)
@@ -244,11 +207,7 @@ module _ (g : Graphed) (num : IsNumbered g.stored) (linked : IsLinked g.stored.d
         → (v : ℤ) → delay_numbered g.stored (data_split kind) arc.from arc.to ≡ Some v → Within (signed kind v)
     its_bound n low arc c v e =
         let a = ((is.ins n low).sound arc (arc_low n arc low c)).0 in
-        let is_delay : delay_numbered g.stored (data_split kind) arc.from arc.to ≡ delay g.stored.design (data_split kind) a.from a.to =
-        ap (λ o. option_and_then (λ f. option_and_then (delay g.stored.design (data_split kind) f) (node_at g.stored arc.to)) o) a.from_number
-        ∙ ap (λ o. option_and_then (delay g.stored.design (data_split kind) a.from) o) a.to_number in
-        signed_bound kind v (delay_bound g.stored.design (data_split kind) a.to a.from (row g.stored.design a.from) v
-        (narrow_arc g num linked is fine arc a (data_split kind)) (sym is_delay ∙ e))
+        signed_bound kind v (some_within (delay_numbered g.stored (data_split kind) arc.from arc.to) v e (found.within (data_split kind) arc a))
 
     one_from : (n : ℕ) → n < node_bound g.stored → AreApart (filter_map (walk_arc g.stored kind nodes) (followed g n))
     one_from n low = by (network_at g n)
@@ -312,32 +271,15 @@ module _ (g : Graphed) (num : IsNumbered g.stored) (linked : IsLinked g.stored.d
 
 -- as the code has it: the graph is that of a store
 pub cone_there : (g : Graphed) (s : Stored) (kind : Kind) (ends nodes starts : List ℕ) (arcs : List WalkArc) (f : FanIn) → g.stored ≡ s → IsNumbered s → IsLinked s.design
-    → IsGraph g → (wires : Wires) → AreWires s wires → NoOrigin s.design → node_bound g.stored < 2 ^ 32 → AreOrdered g ends nodes
+    → IsGraph g → (table : List (List ArcDelay)) → AreDelays s table → node_bound g.stored < 2 ^ 32 → AreOrdered g ends nodes
     → AreParts (length nodes) (arcs_placed g kind nodes) starts arcs → f ≡ record { nodes = nodes; starts = starts; arcs = arcs } → IsFanIn g kind ends f
-cone_there g s kind ends nodes starts arcs f same num linked is wires are none fits order parts e =
+cone_there g s kind ends nodes starts arcs f same num linked is table found fits order parts e =
     subst (λ (x : FanIn). IsFanIn g kind ends x) (sym e)
     (all_parts g (subst (λ (x : Stored). IsNumbered x) (sym same) num) (subst (λ (x : Stored). IsLinked x.design) (sym same) linked) is
-    (subst (λ (x : Stored). AreWithin x.design) (sym same) (within g s same num linked is wires are (rows_fine s.design none)))
+    table (subst (λ (x : Stored). AreDelays x table) (sym same) found)
     kind fits ends nodes order.reached order.once order.falling starts arcs parts)
 
 -- each node of a cone is below the bound
 pub ordered_low : (g : Graphed) (ends nodes : List ℕ) → AreOrdered g ends nodes → All (λ n. n < node_bound g.stored) nodes
 ordered_low g ends nodes order = λ i d low.
     order.reached.below (get_or nodes i d) (list_any_at (nat_eq (get_or nodes i d)) nodes i d low (eq-eqb (get_or nodes i d) (get_or nodes i d) refl))
-
--- what delays are found from
-pub found_there : (setting : Setting) (g : Graphed) (rows : List NodeRow) (wires : Wires) (ports : Ports) → g.stored ≡ setting.store.now
-    → IsNumbered setting.store.now → IsLinked setting.store.now.design → IsGraph g → setting.wires.now ≡ wires → setting.ports.now ≡ ports
-    → AreWires setting.store.now wires → ArePorts setting.store.now.design.constraints ports → AreRows setting.store.now rows
-    → NoOrigin setting.store.now.design → IsFound setting g rows
-found_there setting g rows wires ports same num linked is of_wires of_ports are_wires are_ports are none = record {
-  tables = record {
-    wires = subst (λ (w : Wires). AreWires setting.store.now w) (sym of_wires) are_wires;
-    ports = subst (λ (p : Ports). ArePorts setting.store.now.design.constraints p) (sym of_ports) are_ports;
-  };
-  same = same;
-  rows_are = subst (λ (x : Stored). AreRows x rows) (sym same) are;
-  within =
-      subst (λ (x : Stored). AreWithin x.design) (sym same)
-      (within g setting.store.now same num linked is wires are_wires (rows_fine setting.store.now.design none));
-}

@@ -1,6 +1,4 @@
 pub mod ConeLaws
 pub mod ConeParts
-pub mod DelayLaws
 pub mod Growing
 pub mod PartLaws
-pub mod RangeLaws

@@ -1,58 +1,36 @@
 //! The delays along the arcs of a cone.
 
-ghost use Rattle.std.specs.Prelude.{◌≡◌, ◌<◌, ◌≤◌, unsigned_abs, option_map, IfSome};
+ghost use Rattle.std.specs.Prelude.{◌≡◌, IfSome};
 ghost use Rattle.sta_units.specs.Numbers.{Within};
 ghost use Rattle.timing_defs.specs.Tests.{data_split};
-ghost use Rattle.pin_graph.specs.Nodes.{node_bound};
 ghost use Rattle.pin_graph.specs.Graphs.{IsArc};
-ghost use Rattle.path_cones.specs.Delays.{place_told, delay_numbered, signed, IsFound};
+ghost use Rattle.arc_delays.specs.Delays.{AreDelays, delay_numbered};
+ghost use Rattle.path_cones.specs.Delays.{signed};
 
-use node_rows::{Before, NodeAt, Setting, values_into};
+use arc_delays::ArcDelays;
 use pin_graph::{Graph, GraphArc};
-use timing_defs::{Kind, Rows, Split};
+use timing_defs::{Kind, Split};
 
-/// A node by its pin's number; none of a gap.
-fn place_of(graph: &Graph, node: u32) -> Option<NodeAt>
-    requires { node < node_bound graph.now.stored }
-    ensures { result ≡ place_told graph.now node }
-{
-    let pin = graph.pin_of(node)?;
-    Some(NodeAt {
-        pin,
-        tran: graph.tran_of(node),
-        network: graph.is_network(node),
-    })
-}
-
-/// The delay along an arc in fs, where there is one. Takes no memory.
-pub(crate) fn delay_along<A: Rows>(
-    setting: &Setting<'_>,
+/// The delay along an arc in fs, where there is one, in the split that a kind of tests has of data.
+/// Takes no memory.
+pub(crate) fn delay_along(
     graph: &Graph,
-    arrivals: &A,
-    split: Split,
+    delays: &ArcDelays,
+    kind: Kind,
     arc: &GraphArc,
 ) -> Option<i64>
-    requires found { IsFound setting.now graph.now (A.rows arrivals.now) }
+    requires delays { AreDelays graph.now.stored delays.now }
     requires arc { IsArc graph.now.stored arc.now }
-    ensures delay { result ≡ delay_numbered graph.now.stored split arc.now.from arc.now.to }
+    ensures delay { result ≡ delay_numbered graph.now.stored (data_split kind) arc.now.from arc.now.to }
     ensures within { IfSome result (λ delay. Within delay) }
 {
-    setting.store.laws();
-    graph.laws();
-    let from = place_of(graph, arc.from)?;
-    let to = place_of(graph, arc.to)?;
-    let before = Before {
-        node: from,
-        row: arrivals.row(arc.from),
-    };
-    match values_into(setting, split, to, &before) {
-        Ok(values) => values.delay,
-        Err(_) => unreachable!(),
-    }
+    // The graph is asked for by the contract alone.
+    let _ = graph;
+    delays.along(data_split(kind), arc.from, arc.to)
 }
 
 /// The split of the delays that a test's data path has.
-pub(crate) fn data_split(kind: Kind) -> Split
+fn data_split(kind: Kind) -> Split
     ensures { result ≡ data_split kind }
 {
     match kind {

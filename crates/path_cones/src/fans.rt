@@ -1,24 +1,21 @@
 //! The fan-in cone of an endpoint.
 
 ghost use Rattle.std.specs.Prelude.{◌≡◌, ◌<◌, ◌^◌, All, IfOk};
-ghost use Rattle.timing_defs.specs.Range.{NoOrigin};
-ghost use Rattle.node_rows.specs.PortTables.{ArePorts};
-ghost use Rattle.node_rows.specs.WireTables.{AreWires};
+ghost use Rattle.arc_delays.specs.Delays.{AreDelays};
 ghost use Rattle.pin_graph.specs.Nodes.{node_bound};
-ghost use Rattle.pin_graph.specs.RowTables.{AreRows};
 ghost use Rattle.path_cones.specs.FanIns.{IsFanIn};
 ghost use Rattle.path_cones.specs.Reaching.{AreOrdered};
 
 use crate::leveling::sort_by_level;
 use crate::listing::{Listed, Sources, list_arcs};
 use crate::reaching::reached;
+use arc_delays::ArcDelays;
 use indexmap::IndexSet;
 use netlist_store::Store;
-use node_rows::{Setting, Wired};
 use pin_graph::Graph;
 use sta_units::Memory;
 use std::alloc::Global;
-use timing_defs::{Items, Kind, Rows};
+use timing_defs::{Items, Kind};
 use worst_walks::WalkArc;
 
 /// The fan-in cone of an endpoint: the graph's number of each node, by its place in the cone, and the
@@ -65,19 +62,16 @@ fn joined(alloc: Global, nodes: &IndexSet<u32>, listed: Listed) -> Result<FanIn,
 /// after the first are outside the clock network, and the arcs between these. Takes the time of the
 /// cone's arcs and of sorting its nodes. Fails for want of memory, and where there are `2^22` nodes, more
 /// than a sound design has, or `2^32` arcs.
-pub fn fan_in<A: Rows + Wired>(
+pub fn fan_in(
     alloc: Global,
     store: &Store,
     graph: &Graph,
-    arrivals: &A,
+    delays: &ArcDelays,
     ends: &[u32],
     kind: Kind,
 ) -> Result<FanIn, Memory>
     requires graph { graph.now.stored ≡ store.now }
-    requires rows { AreRows store.now (A.rows arrivals.now) }
-    requires wires { AreWires store.now (A.wires arrivals.now) }
-    requires ports { ArePorts store.now.design.constraints (A.ports arrivals.now) }
-    requires none { NoOrigin store.now.design }
+    requires delays { AreDelays store.now delays.now }
     requires ends { All (λ end. end < node_bound graph.now.stored) ends.now }
     ensures { IfOk result (IsFanIn graph.now kind ends.now) }
 {
@@ -85,13 +79,8 @@ pub fn fan_in<A: Rows + Wired>(
     graph.laws();
     bounded(graph);
     let sources = Sources {
-        setting: Setting {
-            store,
-            wires: arrivals.wires(),
-            ports: arrivals.ports(),
-        },
         graph,
-        arrivals,
+        delays,
         kind,
     };
     let nodes = ordered(alloc, graph, ends)?;

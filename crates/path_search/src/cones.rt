@@ -11,8 +11,8 @@ ghost use Rattle.path_search.specs.PinCones.{cone_of, IsNamedNode, IsEndOf, IsPi
 
 use crate::offers::offers;
 use crate::sources::Sources;
+use arc_delays::Delayed;
 use netlist_store::Store;
-use node_rows::Wired;
 use path_cones::{FanIn, fan_in};
 use pin_graph::Graph;
 use sta_units::Memory;
@@ -64,13 +64,13 @@ fn place_of(nodes: &[u32], node: u32) -> u32
 }
 
 /// An end node of a fan-in, with the launches of the paths to it.
-fn walk_end<A: Rows + Wired>(
+fn walk_end<A: Rows + Delayed>(
     alloc: Global,
     sources: &Sources<'_, A>,
     nodes: &[u32],
     end: u32,
 ) -> Result<WalkEnd, Memory>
-    requires sources { AreSources sources.now.store.now sources.now.graph.now (A.rows sources.now.arrivals.now) (A.wires sources.now.arrivals.now) (A.ports sources.now.arrivals.now) sources.now.tree.now }
+    requires sources { AreSources sources.now.store.now sources.now.graph.now (A.rows sources.now.arrivals.now) (A.delays sources.now.arrivals.now) sources.now.tree.now }
     requires nodes { All (λ n. n < node_bound sources.now.store.now) nodes.now }
     requires end { end < node_bound sources.now.store.now }
     requires there { is_number sources.now.store.now.pins (pin_under end) ≡ true }
@@ -113,12 +113,12 @@ fn cone_with(alloc: Global, fan: FanIn, rise: WalkEnd, fall: WalkEnd) -> Result<
 
 /// The cone in which the paths to an endpoint are searched. Takes the time of the cone's arcs and of
 /// sorting its nodes.
-pub(crate) fn pin_cone<A: Rows + Wired>(
+pub(crate) fn pin_cone<A: Rows + Delayed>(
     alloc: Global,
     sources: &Sources<'_, A>,
     endpoint: &Name,
 ) -> Result<PinCone, Memory>
-    requires sources { AreSources sources.now.store.now sources.now.graph.now (A.rows sources.now.arrivals.now) (A.wires sources.now.arrivals.now) (A.ports sources.now.arrivals.now) sources.now.tree.now }
+    requires sources { AreSources sources.now.store.now sources.now.graph.now (A.rows sources.now.arrivals.now) (A.delays sources.now.arrivals.now) sources.now.tree.now }
     requires endpoint { Contains (endpoints sources.now.store.now.design) endpoint.now }
     ensures { IfOk result (IsPinCone sources.now.graph.now sources.now.kind endpoint.now) }
 {
@@ -128,7 +128,7 @@ pub(crate) fn pin_cone<A: Rows + Wired>(
         alloc,
         sources.store,
         sources.graph,
-        sources.arrivals,
+        sources.arrivals.delays(),
         &[rise, fall],
         sources.kind,
     )?;

@@ -16,8 +16,8 @@ use crate::ends::{EndTest, end_tests};
 use crate::launches::{LaunchNode, launch_node};
 use crate::sources::Sources;
 use crate::test_slacks::{credit_between, slack_at};
+use arc_delays::Delayed;
 use netlist_store::Store;
-use node_rows::Wired;
 use node_tests::NodeTest;
 use pessimism_credit::ClockTree;
 use pin_graph::Graph;
@@ -183,7 +183,7 @@ fn chosen_test(
 }
 
 /// What a path of a launch node holds that gives this slack less the delays after it.
-fn count_test<A: Rows + Wired>(
+fn count_test<A: Rows + Delayed>(
     sources: &Sources<'_, A>,
     launch: &LaunchNode,
     tests: &[EndTest],
@@ -191,7 +191,7 @@ fn count_test<A: Rows + Wired>(
     end: u32,
     offer: i64,
 ) -> Counted
-    requires sources { AreSources sources.now.store.now sources.now.graph.now (A.rows sources.now.arrivals.now) (A.wires sources.now.arrivals.now) (A.ports sources.now.arrivals.now) sources.now.tree.now }
+    requires sources { AreSources sources.now.store.now sources.now.graph.now (A.rows sources.now.arrivals.now) (A.delays sources.now.arrivals.now) sources.now.tree.now }
     requires launch { IsLaunchNode sources.now.graph.now (data_split sources.now.kind) number launch.now }
     requires tests { AreEndTestsOf sources.now.graph.now sources.now.kind end tests.now }
     requires there { is_number sources.now.store.now.pins (pin_under end) ≡ true }
@@ -227,14 +227,14 @@ fn count_test<A: Rows + Wired>(
 /// the end node: the launch edge and the launch node's arrival, and of the tests that give the least slack
 /// the capture edge and the credit of the one of the lesser clock pin's name, rise before fall. Takes as
 /// many steps as the end node has tests, and the exceptions that are tried for each.
-pub(crate) fn test_that_counts<A: Rows + Wired>(
+pub(crate) fn test_that_counts<A: Rows + Delayed>(
     alloc: Global,
     sources: &Sources<'_, A>,
     launch: u32,
     end: u32,
     offer: i64,
 ) -> Result<Counted, Memory>
-    requires sources { AreSources sources.now.store.now sources.now.graph.now (A.rows sources.now.arrivals.now) (A.wires sources.now.arrivals.now) (A.ports sources.now.arrivals.now) sources.now.tree.now }
+    requires sources { AreSources sources.now.store.now sources.now.graph.now (A.rows sources.now.arrivals.now) (A.delays sources.now.arrivals.now) sources.now.tree.now }
     requires launch { launch < node_bound sources.now.store.now }
     requires end { end < node_bound sources.now.store.now }
     requires there { is_number sources.now.store.now.pins (pin_under end) ≡ true }

@@ -14,7 +14,7 @@ use crate::ends::{EndTest, end_tests};
 use crate::launches::launch_node;
 use crate::sources::Sources;
 use crate::test_slacks::least_slack;
-use node_rows::Wired;
+use arc_delays::Delayed;
 use sta_units::Memory;
 use std::alloc::Global;
 use timing_defs::{Items, Rows};
@@ -22,14 +22,14 @@ use worst_walks::Launch;
 
 /// What a node offers for the tests of an end node: the least slack of its paths there in fs, less the
 /// delays after it.
-fn offer_of<A: Rows + Wired>(
+fn offer_of<A: Rows + Delayed>(
     alloc: Global,
     sources: &Sources<'_, A>,
     tests: &[EndTest],
     node: u32,
     end: u32,
 ) -> Result<Option<i64>, Memory>
-    requires sources { AreSources sources.now.store.now sources.now.graph.now (A.rows sources.now.arrivals.now) (A.wires sources.now.arrivals.now) (A.ports sources.now.arrivals.now) sources.now.tree.now }
+    requires sources { AreSources sources.now.store.now sources.now.graph.now (A.rows sources.now.arrivals.now) (A.delays sources.now.arrivals.now) sources.now.tree.now }
     requires tests { AreEndTestsOf sources.now.graph.now sources.now.kind end tests.now }
     requires node { node < node_bound sources.now.store.now }
     requires there { is_number sources.now.store.now.pins (pin_under end) ≡ true }
@@ -64,13 +64,13 @@ fn add_offer(launches: &mut Items<Launch>, place: u32, offer: Option<i64>) -> Re
 /// What each node of a list offers for an end node that is there, in the order of the list: the least
 /// slack of the node's paths to the end node in fs, less the delays after it. Takes as many steps as the
 /// launch nodes of the list times the tests of the end node, and the exceptions that are tried for each.
-pub(crate) fn offers<A: Rows + Wired>(
+pub(crate) fn offers<A: Rows + Delayed>(
     alloc: Global,
     sources: &Sources<'_, A>,
     nodes: &[u32],
     end: u32,
 ) -> Result<Items<Launch>, Memory>
-    requires sources { AreSources sources.now.store.now sources.now.graph.now (A.rows sources.now.arrivals.now) (A.wires sources.now.arrivals.now) (A.ports sources.now.arrivals.now) sources.now.tree.now }
+    requires sources { AreSources sources.now.store.now sources.now.graph.now (A.rows sources.now.arrivals.now) (A.delays sources.now.arrivals.now) sources.now.tree.now }
     requires nodes { All (λ node. node < node_bound sources.now.store.now) nodes.now }
     requires few { length nodes.now ≤ 2 ^ 32 }
     requires end { end < node_bound sources.now.store.now }

@@ -5,8 +5,7 @@ ghost use Rattle.timing_defs.specs.Checks.{IsSound};
 ghost use Rattle.timing_defs.specs.Range.{NoOrigin};
 ghost use Rattle.timing_defs.specs.Reports.{endpoints};
 ghost use Rattle.timing_defs.specs.Paths.{IsSlack, IsShown};
-ghost use Rattle.node_rows.specs.PortTables.{ArePorts};
-ghost use Rattle.node_rows.specs.WireTables.{AreWires};
+ghost use Rattle.arc_delays.specs.Delays.{AreDelays};
 ghost use Rattle.pin_graph.specs.RowTables.{AreRows};
 ghost use Rattle.path_search.specs.Sources.{AreSources};
 ghost use Rattle.path_search.specs.Trees.{IsClockTree};
@@ -18,8 +17,8 @@ use crate::cones::{PinCone, pin_cone};
 use crate::orders::ByName;
 use crate::shown::path_of;
 use crate::sources::Sources;
+use arc_delays::Delayed;
 use netlist_store::Store;
-use node_rows::Wired;
 use pessimism_credit::ClockTree;
 use pin_graph::Graph;
 use sta_units::{Fs, Memory};
@@ -153,13 +152,13 @@ fn none_law(store: &Store, graph: &Graph, kind: Kind, endpoint: &Name, search: &
 }
 
 /// The path that is shown of a cone's worst walk.
-fn shown_in<A: Rows + Wired>(
+fn shown_in<A: Rows + Delayed>(
     alloc: Global,
     sources: &Sources<'_, A>,
     endpoint: &Name,
     search: &PinCone,
 ) -> Result<Option<Path>, Memory>
-    requires sources { AreSources sources.now.store.now sources.now.graph.now (A.rows sources.now.arrivals.now) (A.wires sources.now.arrivals.now) (A.ports sources.now.arrivals.now) sources.now.tree.now }
+    requires sources { AreSources sources.now.store.now sources.now.graph.now (A.rows sources.now.arrivals.now) (A.delays sources.now.arrivals.now) sources.now.tree.now }
     requires search { IsPinCone sources.now.graph.now sources.now.kind endpoint.now search.now }
     ensures { IfOk result (IsShown sources.now.store.now.design sources.now.kind endpoint.now) }
 {
@@ -194,7 +193,7 @@ fn shown_in<A: Rows + Wired>(
 /// The slack of an endpoint for a kind of tests, in fs: the least over all paths to it that are tested;
 /// none where there is no such path. Takes the time of the arcs of the endpoint's fan-in and of sorting
 /// its nodes, and of its launches times the tests of the endpoint. The one error is want of memory.
-pub fn worst_slack<A: Rows + Wired>(
+pub fn worst_slack<A: Rows + Delayed>(
     alloc: Global,
     store: &Store,
     graph: &Graph,
@@ -207,8 +206,7 @@ pub fn worst_slack<A: Rows + Wired>(
     requires sound { IsSound store.now.design }
     requires none { NoOrigin store.now.design }
     requires rows { AreRows store.now (A.rows arrivals.now) }
-    requires wires { AreWires store.now (A.wires arrivals.now) }
-    requires ports { ArePorts store.now.design.constraints (A.ports arrivals.now) }
+    requires delays { AreDelays store.now (A.delays arrivals.now) }
     requires tree { IsClockTree graph.now tree.now }
     requires endpoint { Contains (endpoints store.now.design) endpoint.now }
     ensures { IfOk result (λ slack. IsSlack store.now.design kind endpoint.now (option_map (λ s. s.0) slack)) }
@@ -228,7 +226,7 @@ pub fn worst_slack<A: Rows + Wired>(
 /// tested, and of those the first by its nodes; none where there is no such path. Times, slack and credit
 /// are in fs. Takes the time of `worst_slack`, and a list of the nodes of a path for each launch of least
 /// slack. The one error is want of memory.
-pub fn worst_path<A: Rows + Wired>(
+pub fn worst_path<A: Rows + Delayed>(
     alloc: Global,
     store: &Store,
     graph: &Graph,
@@ -241,8 +239,7 @@ pub fn worst_path<A: Rows + Wired>(
     requires sound { IsSound store.now.design }
     requires none { NoOrigin store.now.design }
     requires rows { AreRows store.now (A.rows arrivals.now) }
-    requires wires { AreWires store.now (A.wires arrivals.now) }
-    requires ports { ArePorts store.now.design.constraints (A.ports arrivals.now) }
+    requires delays { AreDelays store.now (A.delays arrivals.now) }
     requires tree { IsClockTree graph.now tree.now }
     requires endpoint { Contains (endpoints store.now.design) endpoint.now }
     ensures { IfOk result (IsShown store.now.design kind endpoint.now) }

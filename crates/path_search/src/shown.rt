@@ -19,8 +19,9 @@ use crate::cones::PinCone;
 use crate::counted::{Counted, test_that_counts};
 use crate::orders::climb;
 use crate::sources::Sources;
+use arc_delays::Delayed;
 use netlist_store::Store;
-use node_rows::{Wired, time_on, times_in};
+use node_rows::{time_on, times_in};
 use pin_graph::Graph;
 use sta_units::{Fs, Memory};
 use std::alloc::Global;
@@ -230,7 +231,7 @@ fn ends_of(search: &PinCone, walk: &Walk) -> Ends
 }
 
 /// The nodes of a path: those of the clock network before its launch node, and those of its walk.
-fn nodes_of<A: Rows + Wired>(
+fn nodes_of<A: Rows + Delayed>(
     alloc: Global,
     sources: &Sources<'_, A>,
     search: &PinCone,
@@ -239,7 +240,7 @@ fn nodes_of<A: Rows + Wired>(
     first: u32,
     rest: &[u32],
 ) -> Result<Items<PathNode>, Memory>
-    requires sources { AreSources sources.now.store.now sources.now.graph.now (A.rows sources.now.arrivals.now) (A.wires sources.now.arrivals.now) (A.ports sources.now.arrivals.now) sources.now.tree.now }
+    requires sources { AreSources sources.now.store.now sources.now.graph.now (A.rows sources.now.arrivals.now) (A.delays sources.now.arrivals.now) sources.now.tree.now }
     requires launch { launch < node_bound sources.now.graph.now.stored }
     requires before { All (λ n. is_number sources.now.store.now.pins (pin_under n) ≡ true) (climb sources.now.graph.now launch) }
     requires cone { IsCone search.now.cone }
@@ -388,14 +389,14 @@ fn path_law(
 }
 
 /// The path of a walk of a cone.
-pub(crate) fn path_of<A: Rows + Wired>(
+pub(crate) fn path_of<A: Rows + Delayed>(
     alloc: Global,
     sources: &Sources<'_, A>,
     endpoint: &Name,
     search: &PinCone,
     walk: &Walk,
 ) -> Result<Path, Memory>
-    requires sources { AreSources sources.now.store.now sources.now.graph.now (A.rows sources.now.arrivals.now) (A.wires sources.now.arrivals.now) (A.ports sources.now.arrivals.now) sources.now.tree.now }
+    requires sources { AreSources sources.now.store.now sources.now.graph.now (A.rows sources.now.arrivals.now) (A.delays sources.now.arrivals.now) sources.now.tree.now }
     requires search { IsPinCone sources.now.graph.now sources.now.kind endpoint.now search.now }
     requires walk { IsWalk search.now.cone walk.now }
     ensures { IfOk result (IsWalkPath sources.now.graph.now sources.now.kind endpoint.now search.now walk.now) }

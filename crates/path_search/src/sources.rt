@@ -5,8 +5,8 @@ use pessimism_credit::ClockTree;
 use pin_graph::Graph;
 use timing_defs::Kind;
 
-/// What paths of a kind are searched in: a store with its graph, the rows of its nodes with the tables of
-/// wires and ports that they were evaluated with, and its clock tree.
+/// What paths of a kind are searched in: a store with its graph, the rows of its nodes with the delays
+/// of arcs, and its clock tree.
 #[derive(Drop)]
 pub(crate) struct Sources<'a, A> {
     pub(crate) store: &'a Store,

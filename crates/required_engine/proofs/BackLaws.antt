@@ -22,8 +22,6 @@ use Rattle.timing_defs.specs.Range.{within_some, fine_delay, fine_test, required
 use Rattle.timing_defs.proofs.RowLaws.{stable, row_is, back_is}
 use Rattle.netlist_store.specs.Linked.{IsLinked}
 use Rattle.netlist_store.specs.Numbering.{IsNumbered}
-use Rattle.node_rows.specs.declared.pin_wires.Wires.{Wires}
-use Rattle.node_rows.specs.WireTables.{AreWires}
 use Rattle.node_rows.specs.Evaluation.{times_on, are_wide_times}
 use Rattle.node_rows.proofs.FineLaws.{IsFine, time_told}
 use Rattle.node_rows.proofs.MergeLaws.{filter_map_agree}
@@ -184,7 +182,7 @@ module _ (g : Graphed) (num : IsNumbered g.stored) (linked : IsLinked g.stored.d
         ∙ (and_parts (required_inputs d split e (fine_required d split e) n) (within_some (required d split n e)) (sym (fine_is e) ∙ fine e c)).1)
 
     -- what the required times of a node are computed from
-    module _ (wires : Wires) (are : AreWires g.stored wires) (fine : AreRowsFine d) (need : is_need_origin d (kind_of split) n ≡ false)
+    module _ (fine : AreRowsFine d) (need : is_need_origin d (kind_of split) n ≡ false)
         (behind : (to : Node) → Contains (arcs_out d n) to → IsFineBack d to) where
       clock_fine : (inst : Inst) → n.pin.owner ≡ Some inst → (clock : Node) → Contains (flat_map both_nodes (inst_pins d inst)) clock → IsFine d (clock_split (kind_of split)) clock
       clock_fine inst own clock c =
@@ -193,10 +191,10 @@ module _ (g : Graphed) (num : IsNumbered g.stored) (linked : IsLinked g.stored.d
           let p = own_pins d linked inst r.item i.inst r.within in
           let pin : r.item ≡ clock.pin = sym (of_both r.item clock r.inside) in
           let there : Contains (pins d) clock.pin = subst (λ (q : Pin). Contains (pins d) q) (sym p.same ∙ pin) (own_in d linked inst p.pin i.inst p.within) in
-          node_fine g num linked is wires are fine (clock_split (kind_of split)) clock (stood clock there)
+          node_fine g num linked is fine (clock_split (kind_of split)) clock (stood clock there)
 
       endpoint_inputs : list_all (fine_test d (kind_of split) n) (tests_at d (kind_of split) n) ≡ true
-      endpoint_inputs = tests_fine d (kind_of split) n need (node_fine g num linked is wires are fine (data_split (kind_of split)) n s).slew clock_fine
+      endpoint_inputs = tests_fine d (kind_of split) n need (node_fine g num linked is fine (data_split (kind_of split)) n s).slew clock_fine
 
       arc_inputs : (edge : ℕ × Tran) → Contains (launch_edges d) edge
           → list_all (λ to. is_none (required d split to edge) || (fine_required d split edge to && fine_delay d split n to)) (arcs_out d n) ≡ true
@@ -204,7 +202,7 @@ module _ (g : Graphed) (num : IsNumbered g.stored) (linked : IsLinked g.stored.d
           all_from (λ to. is_none (required d split to edge) || (fine_required d split edge to && fine_delay d split n to)) (arcs_out d n)
           (λ to c. or_right (is_none (required d split to edge)) (fine_required d split edge to && fine_delay d split n to)
           (and_from (fine_required d split edge to) (fine_delay d split n to) ((behind to c).times split edge m)
-          (arc_delay g num linked is wires are fine split to ((high g num linked is).closed n s to c) n (out_in n s to c))))
+          (arc_delay g num linked is fine split to ((high g num linked is).closed n s to c) n (out_in n s to c))))
 
       pub inputs_fine : (edge : ℕ × Tran) → Contains (launch_edges d) edge → required_inputs d split edge (fine_required d split edge) n ≡ true
       inputs_fine edge m = elim (cases_Bool (is_endpoint d n.pin)) [ inl e ↦ rw e endpoint_inputs | inr e ↦ rw e (arc_inputs edge m) ]

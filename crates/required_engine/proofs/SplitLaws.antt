@@ -6,6 +6,7 @@ use Rattle.std.specs.List.{list_any}
 use Rattle.std.specs.Option.{option_map_or}
 use Rattle.std.specs.Str.{bytes_eq}
 use Rattle.std.proofs.lemmas.Bool.{or_parts, or_cases, and_from, false≢true}
+use Rattle.std.proofs.lemmas.Option.{cond_some}
 use Rattle.timing_defs.specs.declared.kinds.Split.{Split}
 use Rattle.timing_defs.specs.declared.kinds.Split.TheVariants.{Early, Late}
 use Rattle.timing_defs.specs.declared.kinds.Tran.{Tran}
@@ -18,37 +19,35 @@ use Rattle.timing_defs.specs.declared.design.Design.{Design}
 use Rattle.timing_defs.specs.declared.faults.Fault.{Fault}
 use Rattle.timing_defs.specs.declared.faults.Fault.TheVariants as fault
 use Rattle.timing_defs.specs.declared.faults.Place.TheVariants.{Pin as at_pin}
-use Rattle.timing_defs.specs.Netlist.{Node, name_of, nodes}
-use Rattle.timing_defs.specs.Rows.{outermost, time_on, times_in, launch_edges, delay, row}
+use Rattle.timing_defs.specs.Netlist.{Pin, Node, name_of, nodes}
+use Rattle.timing_defs.specs.Rows.{outermost, time_on, times_in, launch_edges, delay, row, empty_row}
 use Rattle.timing_defs.specs.Tests.{Test, tests_at, is_endpoint}
 use Rattle.timing_defs.specs.Required.{arcs_out, kind_of, other_split, limit_of, back_times, less_some, required_of, back_row, empty_back}
 use Rattle.timing_defs.specs.Range.{fine_required, required_inputs, is_required_origin, is_need_origin, is_back_origin, is_forward_origin, is_node_origin, is_origin}
 use Rattle.netlist_store.specs.Linked.{IsLinked}
-use Rattle.netlist_store.specs.Numbering.{Stored, name_at, pin_numbered, IsNumbered}
+use Rattle.netlist_store.specs.Numbering.{Stored, name_at, pin_numbered, is_number, IsNumbered}
 use Rattle.level_workers.specs.Mapped.{IsMap}
-use Rattle.node_rows.specs.declared.pin_wires.Wires.{Wires}
-use Rattle.node_rows.specs.declared.settings.NodeAt.{NodeAt}
-use Rattle.node_rows.specs.declared.settings.Before.{Before}
-use Rattle.node_rows.specs.WireTables.{AreWires}
-use Rattle.node_rows.specs.Evaluation.{times_on, are_wide_times, is_row_within, IsPlaced}
+use Rattle.node_rows.specs.Evaluation.{times_on, are_wide_times, IsPlaced}
 use Rattle.node_rows.proofs.ResultLaws.{ok_more, err_more}
 use Rattle.node_tests.specs.declared.node_test.NodeTest.{NodeTest}
 use Rattle.node_tests.specs.NodeTests.{AreTests, tests_numbered, is_wide_numbered, name_numbered, IsTestFault}
-use Rattle.pin_graph.specs.Nodes.{node_at, node_bound, pin_under}
+use Rattle.pin_graph.specs.Nodes.{node_at, node_bound, pin_under, tran_under}
 use Rattle.pin_graph.specs.Graphs.{Graphed, IsGraph, fan_at}
 use Rattle.pin_graph.specs.RowTables.{AreRows, AreRowsFine, row_numbered, back_numbered}
 use Rattle.pin_graph.proofs.Members.{some_is, any_in}
 use Rattle.pin_graph.proofs.PinNames.{same_self}
+use Rattle.pin_graph.proofs.PinLaws.{pin_at_number}
 use Rattle.pin_graph.proofs.NodeLaws.{HasNode, under_number, has_node}
 use Rattle.required_engine.specs.declared.afters.After.{After}
+use Rattle.required_engine.specs.declared.nodes.AskedNode.{AskedNode}
 use Rattle.required_engine.specs.declared.unfit.Unfit.{Unfit}
 use Rattle.required_engine.specs.declared.unfit.Unfit.TheVariants.{Range, Memory}
 use Rattle.required_engine.specs.Behinds.{edge_of, over_tests, over_arcs}
-use Rattle.required_engine.specs.Worked.{IsFineBack, IsBackRow, IsBackFault, AreReady, is_wide_back, IsUnfit, place_told, IsOnward, IsAfter}
-use Rattle.required_engine.proofs.ForwardLaws.{node_listed, row_fine}
+use Rattle.required_engine.specs.Worked.{IsFineBack, IsAsked, IsBackRow, IsBackFault, AreReady, is_wide_back, IsUnfit, pin_told, IsOnward, IsAfter}
+use Rattle.required_engine.proofs.ForwardLaws.{node_listed}
 use Rattle.required_engine.proofs.TestLaws.{limits_told}
 use Rattle.required_engine.proofs.BackLaws.{times_found, wide_found, inputs_fine, time_fine, no_origin}
-use Rattle.required_engine.proofs.AfterLaws.{told_place, placed_at, behind_fine, row_is_told, arcs_onward, arcs_told}
+use Rattle.required_engine.proofs.AfterLaws.{behind_fine, arcs_onward, arcs_told}
 
 or_first : (a b : Bool) → a ≡ true → (a || b) ≡ true
 or_first true b h = refl
@@ -68,14 +67,29 @@ unfit_right false b Range h = h
 unfit_right a b Memory h = tt
 
 -- a node of a graph in one split
-module _ (g : Graphed) (is : IsGraph g) (rows : List BackRow) (k : ℕ) (low : k < node_bound g.stored) (ready : AreReady g rows k)
-    (from : Before) (place : place_told g k ≡ Some from.node) where
-  module _ (num : IsNumbered g.stored) (linked : IsLinked g.stored.design) where
+module _ (g : Graphed) (is : IsGraph g) (rows : List BackRow) (asked : AskedNode) (ready : AreReady g rows asked.number) where
+  abbrev k : ℕ
+  k = asked.number
+
+  abbrev own : NodeRow
+  own = asked.row.now
+
+  abbrev endpoint : Bool
+  endpoint = asked.endpoint
+
+  module _ (num : IsNumbered g.stored) (linked : IsLinked g.stored.design) (are : IsAsked g.stored asked) where
     abbrev d : Design
     d = g.stored.design
 
-    there : (n : Node) × ((node_at g.stored k ≡ Some n) × (told_place g k ≡ from.node))
-    there = placed_at g num linked is k from.node place
+    there : (n : Node) × ((node_at g.stored k ≡ Some n) × (is_endpoint d n.pin ≡ endpoint))
+    there = by (pin_numbered g.stored (pin_under k)) refl
+      where
+        by : (o : Option Pin) → pin_numbered g.stored (pin_under k) ≡ o → (n : Node) × ((node_at g.stored k ≡ Some n) × (is_endpoint d n.pin ≡ endpoint))
+        by None e = let none : None ≡ Some endpoint = sym (ap (option_map (is_endpoint d)) e) ∙ are.endpoint in absurd (cc)
+        by (Some pin) e = (
+          record { pin = pin; tran = tran_under k },
+          (ap (option_map (λ (p : Pin). record { pin = p; tran = tran_under k })) e, some_is (sym (ap (option_map (is_endpoint d)) e) ∙ are.endpoint)),
+        )
 
     abbrev node : Node
     node = there.0
@@ -83,124 +97,94 @@ module _ (g : Graphed) (is : IsGraph g) (rows : List BackRow) (k : ℕ) (low : k
     has : HasNode g.stored node k
     has = has_node g.stored num linked k node there.1.0
 
-    pin_is : pin_numbered g.stored from.node.pin ≡ Some node.pin
-    pin_is =
-        ap (pin_numbered g.stored) (sym (ap (λ (p : NodeAt). p.pin) there.1.1) ∙ ap pin_under has.number ∙ under_number has.pin node.tran) ∙ has.has.pin
-
-    ends : (b : Bool) → option_map (is_endpoint d) (pin_numbered g.stored from.node.pin) ≡ Some b → is_endpoint d node.pin ≡ b
-    ends b e = some_is (sym (ap (option_map (is_endpoint d)) pin_is) ∙ e)
-
     back_is_told : back_numbered g.stored k ≡ back_row d node
     back_is_told = ap (λ o. option_map_or (back_row d) o empty_back) there.1.0
 
-    module _ (wires : Wires) (are : AreWires g.stored wires) (fine : AreRowsFine d) (its_row : from.row.now ≡ row_numbered g.stored k) where
-      own_row : from.row.now ≡ row d node
-      own_row = row_is_told g num linked is rows k low ready node there.1.0 from place its_row
+    onto_all : All (IsOnward g.stored rows) (fan_at g.outs k)
+    onto_all = arcs_onward g num linked is rows k are.below ready node there.1.0
 
-      within : is_row_within from.row.now ≡ true
-      within = ap is_row_within own_row ∙ row_fine g num linked is wires are fine node (k, has)
+    module _ (fine : AreRowsFine d) (split : Split) (wide : is_wide_numbered g.stored (kind_of split) k ≡ false) where
+      own_row : own ≡ row d node
+      own_row = are.row ∙ ap (λ o. option_map_or (row d) o empty_row) there.1.0
 
-      module _ (split : Split) where
-        onto_all : All (IsOnward g.stored g rows split from) (fan_at g.outs k)
-        onto_all = arcs_onward g num linked is rows k low ready node there.1.0 from place its_row split wires are fine
+      need : is_need_origin d (kind_of split) node ≡ false
+      need = sym (ap (λ o. option_map_or (is_need_origin d (kind_of split)) o false) there.1.0) ∙ wide
 
-        module _ (wide : is_wide_numbered g.stored (kind_of split) k ≡ false) where
-          need : is_need_origin d (kind_of split) node ≡ false
-          need = sym (ap (λ o. option_map_or (is_need_origin d (kind_of split)) o false) there.1.0) ∙ wide
+      inputs : (edge : ℕ × Tran) → Contains (launch_edges d) edge → required_inputs d split edge (fine_required d split edge) node ≡ true
+      inputs = inputs_fine g num linked is split node (k, has) fine need (behind_fine g num linked is rows k are.below ready node there.1.0)
 
-          inputs : (edge : ℕ × Tran) → Contains (launch_edges d) edge → required_inputs d split edge (fine_required d split edge) node ≡ true
-          inputs = inputs_fine g num linked is split node (k, has) wires are fine need (behind_fine g num linked is rows k low ready node there.1.0)
+      told : (f : ℕ × Tran → Option ℤ) → ((edge : ℕ × Tran) → f edge ≡ required_of d split (back_row d) node edge)
+          → (times_on f (map edge_of (times_in split own)) ≡ back_times split (back_numbered g.stored k))
+          × (are_wide_times f (map edge_of (times_in split own)) ≡ is_wide_back g.stored split k)
+      told f each = (
+        ap (λ (r : NodeRow). times_on f (map edge_of (times_in split r))) own_row
+            ∙ times_found g num linked is split node (k, has) f each ∙ sym (ap (back_times split) back_is_told),
+        ap (λ (r : NodeRow). are_wide_times f (map edge_of (times_in split r))) own_row
+            ∙ wide_found g num linked is split node (k, has) f each inputs
+            ∙ sym (ap (λ o. option_map_or (λ n. list_any (is_required_origin d split n) (launch_edges d)) o false) there.1.0),
+      )
 
-          told : (f : ℕ × Tran → Option ℤ) → ((edge : ℕ × Tran) → f edge ≡ required_of d split (back_row d) node edge)
-              → (times_on f (map edge_of (times_in split from.row.now)) ≡ back_times split (back_numbered g.stored k))
-              × (are_wide_times f (map edge_of (times_in split from.row.now)) ≡ is_wide_back g.stored split k)
-          told f each = (
-            ap (λ (r : NodeRow). times_on f (map edge_of (times_in split r))) own_row
-                ∙ times_found g num linked is split node (k, has) f each ∙ sym (ap (back_times split) back_is_told),
-            ap (λ (r : NodeRow). are_wide_times f (map edge_of (times_in split r))) own_row
-                ∙ wide_found g num linked is split node (k, has) f each inputs
-                ∙ sym (ap (λ o. option_map_or (λ n. list_any (is_required_origin d split n) (launch_edges d)) o false) there.1.0),
-          )
+      over_tests_is : (tests : List NodeTest) → AreTests g.stored tests (tests_numbered g.stored (kind_of split) k) → endpoint ≡ true
+          → (edge : ℕ × Tran) → over_tests d split tests edge ≡ required_of d split (back_row d) node edge
+      over_tests_is tests are_tests end edge =
+          limits_told d g.stored edge (other_split split) (kind_of split) None tests (tests_at d (kind_of split) node)
+          (subst (λ (ts : List Test). AreTests g.stored tests ts) (ap (λ o. option_map_or (tests_at d (kind_of split)) o []) there.1.0) are_tests)
+          ∙ sym (ap (λ b. if b then outermost (other_split split) (λ test. Some (limit_of d (kind_of split) edge test)) None (tests_at d (kind_of split) node)
+          else outermost (other_split split) (λ to. less_some (time_on (back_times split (back_row d to)) edge) (delay d split node to)) None (arcs_out d node)) (there.1.1 ∙ end))
 
-          over_tests_is : (tests : List NodeTest) → AreTests g.stored tests (tests_numbered g.stored (kind_of split) k) → is_endpoint d node.pin ≡ true
-              → (edge : ℕ × Tran) → over_tests d split tests edge ≡ required_of d split (back_row d) node edge
-          over_tests_is tests are_tests end edge =
-              limits_told d g.stored edge (other_split split) (kind_of split) None tests (tests_at d (kind_of split) node)
-              (subst (λ (ts : List Test). AreTests g.stored tests ts) (ap (λ o. option_map_or (tests_at d (kind_of split)) o []) there.1.0) are_tests)
-              ∙ sym (ap (λ b. if b then outermost (other_split split) (λ test. Some (limit_of d (kind_of split) edge test)) None (tests_at d (kind_of split) node)
-              else outermost (other_split split) (λ to. less_some (time_on (back_times split (back_row d to)) edge) (delay d split node to)) None (arcs_out d node)) end)
-
-          over_arcs_is : (found : List After) → IsMap (IsAfter g.stored g rows split from) (fan_at g.outs k) found → is_endpoint d node.pin ≡ false
-              → (edge : ℕ × Tran) → over_arcs split found edge ≡ required_of d split (back_row d) node edge
-          over_arcs_is found are_found end edge =
-              arcs_told g num linked is rows k low ready node there.1.0 from place its_row split found are_found edge
-              ∙ sym (ap (λ b. if b then outermost (other_split split) (λ test. Some (limit_of d (kind_of split) edge test)) None (tests_at d (kind_of split) node)
-              else outermost (other_split split) (λ to. less_some (time_on (back_times split (back_row d to)) edge) (delay d split node to)) None (arcs_out d node)) end)
+      over_arcs_is : (found : List After) → IsMap (IsAfter g.stored rows split) (fan_at g.outs k) found → endpoint ≡ false
+          → (edge : ℕ × Tran) → over_arcs split found edge ≡ required_of d split (back_row d) node edge
+      over_arcs_is found are_found end edge =
+          arcs_told g num linked is rows k are.below ready node there.1.0 split found are_found edge
+          ∙ sym (ap (λ b. if b then outermost (other_split split) (λ test. Some (limit_of d (kind_of split) edge test)) None (tests_at d (kind_of split) node)
+          else outermost (other_split split) (λ to. less_some (time_on (back_times split (back_row d to)) edge) (delay d split node to)) None (arcs_out d node)) (there.1.1 ∙ end))
 
   -- of the store
-  module _ (s : Stored) (same : g.stored ≡ s) (num : IsNumbered s) (linked : IsLinked s.design) (wires : Wires) (are : AreWires s wires)
-      (fine : AreRowsFine s.design) (its_row : from.row.now ≡ row_numbered s k) where
+  module _ (s : Stored) (same : g.stored ≡ s) (num : IsNumbered s) (linked : IsLinked s.design) (are : IsAsked s asked) where
     own_num : IsNumbered g.stored
     own_num = subst (λ (x : Stored). IsNumbered x) (sym same) num
 
     own_linked : IsLinked g.stored.design
     own_linked = subst (λ (x : Stored). IsLinked x.design) (sym same) linked
 
-    own_are : AreWires g.stored wires
-    own_are = subst (λ (x : Stored). AreWires x wires) (sym same) are
+    own_asked : IsAsked g.stored asked
+    own_asked = subst (λ (x : Stored). IsAsked x asked) (sym same) are
 
-    own_fine : AreRowsFine g.stored.design
-    own_fine = subst (λ (x : Stored). AreRowsFine x.design) (sym same) fine
+    pub arcs_there : All (IsOnward g.stored rows) (fan_at g.outs k)
+    arcs_there = onto_all own_num own_linked own_asked
 
-    told_row : from.row.now ≡ row_numbered g.stored k
-    told_row = subst (λ (x : Stored). from.row.now ≡ row_numbered x k) (sym same) its_row
+    module _ (fine : AreRowsFine s.design) (split : Split) (wide : is_wide_numbered s (kind_of split) k ≡ false)
+        (f : ℕ × Tran → Option ℤ) where
+      abbrev Found : Stored → Type 0
+      Found x =
+          (times_on f (map edge_of (times_in split own)) ≡ back_times split (back_numbered x k))
+          × (are_wide_times f (map edge_of (times_in split own)) ≡ is_wide_back x split k)
 
-    pub row_within : is_row_within from.row.now ≡ true
-    row_within = within own_num own_linked wires own_are own_fine told_row
+      own_fine : AreRowsFine g.stored.design
+      own_fine = subst (λ (x : Stored). AreRowsFine x.design) (sym same) fine
 
-    module _ (split : Split) where
-      pub arcs_there : All (IsOnward s g rows split from) (fan_at g.outs k)
-      arcs_there =
-          subst (λ (x : Stored). All (IsOnward x g rows split from) (fan_at g.outs k)) same
-          (onto_all own_num own_linked wires own_are own_fine told_row split)
+      own_wide : is_wide_numbered g.stored (kind_of split) k ≡ false
+      own_wide = subst (λ (x : Stored). is_wide_numbered x (kind_of split) k ≡ false) (sym same) wide
 
-      module _ (wide : is_wide_numbered s (kind_of split) k ≡ false) (f : ℕ × Tran → Option ℤ) where
-        abbrev Found : Stored → Type 0
-        Found x =
-            (times_on f (map edge_of (times_in split from.row.now)) ≡ back_times split (back_numbered x k))
-            × (are_wide_times f (map edge_of (times_in split from.row.now)) ≡ is_wide_back x split k)
+      pub tests_found : (tests : List NodeTest) → AreTests s tests (tests_numbered s (kind_of split) k) → endpoint ≡ true
+          → ((edge : ℕ × Tran) → f edge ≡ over_tests s.design split tests edge) → Found s
+      tests_found tests are_tests end each =
+          subst Found same
+          (told own_num own_linked own_asked own_fine split own_wide f
+          (λ edge. subst (λ (x : Stored). f edge ≡ over_tests x.design split tests edge) (sym same) (each edge)
+          ∙ over_tests_is own_num own_linked own_asked own_fine split own_wide tests
+          (subst (λ (x : Stored). AreTests x tests (tests_numbered x (kind_of split) k)) (sym same) are_tests) end edge))
 
-        own_wide : is_wide_numbered g.stored (kind_of split) k ≡ false
-        own_wide = subst (λ (x : Stored). is_wide_numbered x (kind_of split) k ≡ false) (sym same) wide
-
-        own_end : (b : Bool) → option_map (is_endpoint s.design) (pin_numbered s from.node.pin) ≡ Some b → option_map (is_endpoint g.stored.design) (pin_numbered g.stored from.node.pin) ≡ Some b
-        own_end b e = subst (λ (x : Stored). option_map (is_endpoint x.design) (pin_numbered x from.node.pin) ≡ Some b) (sym same) e
-
-        pub tests_found : (tests : List NodeTest) → AreTests s tests (tests_numbered s (kind_of split) k)
-            → option_map (is_endpoint s.design) (pin_numbered s from.node.pin) ≡ Some true
-            → ((edge : ℕ × Tran) → f edge ≡ over_tests s.design split tests edge) → Found s
-        tests_found tests are_tests end each =
-            subst Found same
-            (told own_num own_linked wires own_are own_fine told_row split own_wide f
-            (λ edge. subst (λ (x : Stored). f edge ≡ over_tests x.design split tests edge) (sym same) (each edge)
-            ∙ over_tests_is own_num own_linked wires own_are own_fine told_row split own_wide tests
-            (subst (λ (x : Stored). AreTests x tests (tests_numbered x (kind_of split) k)) (sym same) are_tests)
-            (ends own_num own_linked true (own_end true end)) edge))
-
-        pub arcs_found : (found : List After) → IsMap (IsAfter s g rows split from) (fan_at g.outs k) found
-            → option_map (is_endpoint s.design) (pin_numbered s from.node.pin) ≡ Some false
-            → ((edge : ℕ × Tran) → f edge ≡ over_arcs split found edge) → Found s
-        arcs_found found are_found end each =
-            subst Found same
-            (told own_num own_linked wires own_are own_fine told_row split own_wide f
-            (λ edge. each edge
-            ∙ over_arcs_is own_num own_linked wires own_are own_fine told_row split own_wide found
-            (subst (λ (x : Stored). IsMap (IsAfter x g rows split from) (fan_at g.outs k) found) (sym same) are_found)
-            (ends own_num own_linked false (own_end false end)) edge))
+      pub arcs_found : (found : List After) → IsMap (IsAfter g.stored rows split) (fan_at g.outs k) found → endpoint ≡ false
+          → ((edge : ℕ × Tran) → f edge ≡ over_arcs split found edge) → Found s
+      arcs_found found are_found end each =
+          subst Found same
+          (told own_num own_linked own_asked own_fine split own_wide f
+          (λ edge. each edge ∙ over_arcs_is own_num own_linked own_asked own_fine split own_wide found are_found end edge))
 
 -- a node whose required times are found is fine, and one that is refused is an origin
 module _ (g : Graphed) (s : Stored) (same : g.stored ≡ s) (is : IsGraph g) (num : IsNumbered s) (linked : IsLinked s.design) (rows : List BackRow) (k : ℕ)
-    (low : k < node_bound s) (ready : AreReady g rows k) (wires : Wires) (are : AreWires s wires) (fine : AreRowsFine s.design)
+    (low : k < node_bound s) (ready : AreReady g rows k) (fine : AreRowsFine s.design)
     (setup : is_wide_numbered s Setup k ≡ false) (hold : is_wide_numbered s Hold k ≡ false) where
   kinds : (split : Split) → is_wide_numbered s (kind_of split) k ≡ false
   kinds Early = hold
@@ -214,23 +198,23 @@ module _ (g : Graphed) (s : Stored) (same : g.stored ≡ s) (is : IsGraph g) (nu
     -- over the graph's own store
     abbrev Fine : Stored → Type 0
     Fine x =
-        IsNumbered x → IsLinked x.design → k < node_bound x → AreWires x wires → AreRowsFine x.design → ((split : Split) → is_wide_numbered x (kind_of split) k ≡ false)
+        IsNumbered x → IsLinked x.design → k < node_bound x → AreRowsFine x.design → ((split : Split) → is_wide_numbered x (kind_of split) k ≡ false)
         → ((split : Split) → is_wide_back x split k ≡ false) → (n : Node) → node_at x k ≡ Some n → IsFineBack x.design n
 
     its_fine : Fine g.stored
-    its_fine num linked low are fine wide near n told =
+    its_fine num linked low fine wide near n told =
         let has = has_node g.stored num linked k n told in
         let need : (split : Split) → is_need_origin g.stored.design (kind_of split) n ≡ false =
         λ split. sym (ap (λ o. option_map_or (is_need_origin g.stored.design (kind_of split)) o false) told) ∙ wide split in
         let none : (split : Split) → list_any (is_required_origin g.stored.design split n) (launch_edges g.stored.design) ≡ false =
         λ split. sym (ap (λ o. option_map_or (λ m. list_any (is_required_origin g.stored.design split m) (launch_edges g.stored.design)) o false) told) ∙ near split in
         record {
-          times = λ split edge c. time_fine g num linked is split n (k, has) wires are fine (need split) (behind_fine g num linked is rows k low ready n told) (none split) edge c;
-          origins = λ split. no_origin g num linked is split n (k, has) wires are fine (need split) (behind_fine g num linked is rows k low ready n told) (none split);
+          times = λ split edge c. time_fine g num linked is split n (k, has) fine (need split) (behind_fine g num linked is rows k low ready n told) (none split) edge c;
+          origins = λ split. no_origin g num linked is split n (k, has) fine (need split) (behind_fine g num linked is rows k low ready n told) (none split);
         }
 
     node_is_fine : (n : Node) → node_at s k ≡ Some n → IsFineBack s.design n
-    node_is_fine = subst Fine same its_fine num linked low are fine kinds near_in
+    node_is_fine = subst Fine same its_fine num linked low fine kinds near_in
 
     pub row_found : (told : BackRow) → told ≡ back_numbered s k → IsBackRow s k told
     row_found told e = record { row = e; fine = node_is_fine }
@@ -356,15 +340,9 @@ pub row_here : (s : Stored) (rows : List NodeRow) → AreRows s rows → (k : �
 row_here s rows are k low r e = some_is (sym e ∙ are.row k low)
 
 -- the name of a node's pin
-pub name_there : (g : Graphed) (s : Stored) → g.stored ≡ s → IsNumbered s → IsLinked s.design → IsGraph g → (k : ℕ) (place : NodeAt) → place_told g k ≡ Some place
-    → name_at s.pins place.pin ≡ Some (name_numbered s k)
-name_there g s same num linked is k place e =
-    subst (λ (x : Stored). IsNumbered x → IsLinked x.design → name_at x.pins place.pin ≡ Some (name_numbered x k)) same own num linked
-  where
-    own : IsNumbered g.stored → IsLinked g.stored.design → name_at g.stored.pins place.pin ≡ Some (name_numbered g.stored k)
-    own n l =
-        let there = placed_at g n l is k place e in
-        let has = has_node g.stored n l k there.0 there.1.0 in
-        ap (name_at g.stored.pins) (sym (ap (λ (p : NodeAt). p.pin) there.1.1) ∙ ap pin_under has.number ∙ under_number has.pin there.0.tran)
-        ∙ has.has.name
-        ∙ sym (ap (λ o. Some (option_map_or (λ (n : Node). name_of n.pin) o [])) there.1.0)
+pub name_there : (s : Stored) → IsNumbered s → IsLinked s.design → (k pin : ℕ) → pin_told s k ≡ Some pin → name_at s.pins pin ≡ Some (name_numbered s k)
+name_there s num linked k pin e =
+    let c = cond_some (is_number s.pins (pin_under k)) (pin_under k) pin e in
+    let p = pin_at_number s num linked (pin_under k) c.0 in
+    ap (name_at s.pins) (sym c.1) ∙ p.1.name
+    ∙ sym (ap (λ o. Some (option_map_or (λ (n : Node). name_of n.pin) (option_map (λ (q : Pin). record { pin = q; tran = tran_under k }) o) [])) p.1.pin)

@@ -16,31 +16,27 @@ use Rattle.timing_defs.specs.declared.faults.Fault.TheVariants.{OutOfRange, Memo
 use Rattle.timing_defs.specs.declared.faults.Place.TheVariants.{Pin as at_pin}
 use Rattle.timing_defs.specs.Netlist.{Node}
 use Rattle.timing_defs.specs.Rows.{launch_edges}
+use Rattle.timing_defs.specs.Tests.{is_endpoint}
 use Rattle.timing_defs.specs.Required.{empty_back}
 use Rattle.timing_defs.specs.Range.{is_origin, fine_required, is_required_origin, is_back_origin}
-use Rattle.netlist_store.specs.Numbering.{Stored, name_at, is_number}
-use Rattle.node_rows.specs.declared.settings.NodeAt.{NodeAt}
-use Rattle.node_rows.specs.declared.settings.Before.{Before}
-use Rattle.node_rows.specs.declared.pin_wires.Wires.{Wires}
-use Rattle.node_rows.specs.declared.ports.Ports.{Ports}
-use Rattle.node_rows.specs.WireTables.{AreWires}
-use Rattle.node_rows.specs.PortTables.{ArePorts}
-use Rattle.node_rows.specs.Evaluation.{IsJoined, told_values, told_wide}
+use Rattle.netlist_store.specs.Numbering.{Stored, name_at, is_number, pin_numbered}
 use Rattle.pin_graph.specs.declared.arcs.GraphArc.{GraphArc}
-use Rattle.pin_graph.specs.Nodes.{node_at, node_bound, pin_under, tran_under}
-use Rattle.pin_graph.specs.Graphs.{Graphed, fan_at, level_at, network_at}
-use Rattle.pin_graph.specs.RowTables.{AreRows, AreRowsFine, back_numbered, IsRangeFault}
+use Rattle.pin_graph.specs.Nodes.{node_at, node_bound, pin_under}
+use Rattle.pin_graph.specs.Graphs.{Graphed, IsArc, fan_at, level_at}
+use Rattle.pin_graph.specs.RowTables.{AreRows, AreRowsFine, row_numbered, back_numbered, IsRangeFault}
+use Rattle.arc_delays.specs.declared.tables.ArcDelay.{ArcDelay}
+use Rattle.arc_delays.specs.Delays.{delay_numbered, AreDelays}
 use Rattle.required_engine.specs.declared.afters.After.{After}
+use Rattle.required_engine.specs.declared.nodes.AskedNode.{AskedNode}
 use Rattle.required_engine.specs.declared.unfit.Unfit.{Unfit}
 use Rattle.required_engine.specs.declared.unfit.Unfit.TheVariants.{Range, Memory}
 use Rattle.required_engine.specs.declared.passes.Evaluated.{Evaluated}
 
--- the slews and arrivals of all nodes, none of which leaves its limit, with the tables of wires and of ports
-pub record AreFound (s : Stored) (found : List NodeRow) (w : Wires) (p : Ports) : Type 0 where
+-- the slews and arrivals of all nodes, none of which leaves its limit, with the delays of all arcs
+pub record AreFound (s : Stored) (found : List NodeRow) (table : List (List ArcDelay)) : Type 0 where
   pub rows : AreRows s found
   pub fine : AreRowsFine s.design
-  pub wires : AreWires s w
-  pub ports : ArePorts s.design.constraints p
+  pub delays : AreDelays s table
 
 -- the required times of a node have values within their limits, and no setup or hold time leaves its limit
 pub record IsFineBack (d : Design) (node : Node) : Type 0 where
@@ -90,26 +86,26 @@ abbrev pub IsUnfit : Bool → Unfit → Type 0
 IsUnfit wide Range = wide ≡ true
 IsUnfit wide Memory = ⊤
 
--- a node by its pin's number; none of a gap
-abbrev pub place_told : Graphed → ℕ → Option NodeAt
-place_told g node =
-    (if is_number g.stored.pins (pin_under node)
-    then Some (record { pin = pin_under node; tran = tran_under node; network = network_at g node }) else None)
+-- the pin's number of a node; none of a gap
+abbrev pub pin_told : Stored → ℕ → Option ℕ
+pin_told s node = (if is_number s.pins (pin_under node) then Some (pin_under node) else None)
 
--- an arc leads from a node to one of the tables, and no quantity of it leaves its limit
-pub record IsOnward (s : Stored) (g : Graphed) (rows : List BackRow) (split : Split) (from : Before) (arc : GraphArc) : Type 0 where
-  pub below : arc.to < node_bound g.stored
-  pub number : is_number g.stored.pins (pin_under arc.to) ≡ true
+-- a node of the store, its row, and whether its pin is an endpoint
+pub record IsAsked (s : Stored) (node : AskedNode) : Type 0 where
+  pub below : node.number < node_bound s
+  pub row : node.row.now ≡ row_numbered s node.number
+  pub endpoint : option_map (is_endpoint s.design) (pin_numbered s (pin_under node.number)) ≡ Some node.endpoint
+
+-- an arc of the design that leads to a node of the tables
+pub record IsOnward (s : Stored) (rows : List BackRow) (arc : GraphArc) : Type 0 where
+  pub is : IsArc s arc
+  pub below : arc.to < node_bound s
   pub listed : arc.to < length rows
-  pub joined : (to : NodeAt) → place_told g arc.to ≡ Some to → IsJoined s to from.node
-  pub fine : (to : NodeAt) → place_told g arc.to ≡ Some to → told_wide s split to from ≡ false
 
 -- the node to which an arc leads: its row, and the delay of the arc
-pub record IsAfter (s : Stored) (g : Graphed) (rows : List BackRow) (split : Split) (from : Before) (arc : GraphArc) (after : After) : Type 0 where
+pub record IsAfter (s : Stored) (rows : List BackRow) (split : Split) (arc : GraphArc) (after : After) : Type 0 where
   pub row : slice_get rows arc.to ≡ Some after.row.now
-  pub to : NodeAt
-  pub place : place_told g arc.to ≡ Some to
-  pub delay : after.delay ≡ (told_values s split to from).delay
+  pub delay : after.delay ≡ delay_numbered s split arc.from arc.to
 
 -- what is answered for a number: a node's required times, or why it has none
 abbrev pub IsAnswer : Stored → ℕ → Result BackRow Fault → Type 0

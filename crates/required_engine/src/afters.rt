@@ -1,17 +1,18 @@
 //! The nodes to which arcs lead from a node, and the required times that they give.
 
-ghost use Rattle.std.specs.Prelude.{◌≡◌, ◌<◌, All, Some, true, false, IfOk};
+ghost use Rattle.std.specs.Prelude.{◌≡◌, ◌<◌, All, Some, length, slice_get, IfOk};
 ghost use Rattle.timing_defs.specs.Required.{back_times, less_some};
 ghost use Rattle.level_workers.specs.Mapped.{IsMap};
-ghost use Rattle.node_rows.specs.Evaluation.{IsSetting, IsJoined, told_values, told_wide, is_row_within};
 ghost use Rattle.pin_graph.specs.Nodes.{node_bound};
 ghost use Rattle.pin_graph.specs.Graphs.{fan_at};
+ghost use Rattle.arc_delays.specs.Delays.{delay_told, AreDelays};
 ghost use Rattle.required_engine.specs.Behinds.{over_arcs};
-ghost use Rattle.required_engine.specs.Worked.{place_told, IsOnward, IsAfter};
+ghost use Rattle.required_engine.specs.Worked.{IsOnward, IsAfter};
 
 use crate::limits::{difference, other_split, outer_some, wide};
+use arc_delays::ArcDelays;
 use cow_table::CowTable;
-use node_rows::{Before, NodeAt, Setting, time_on, values_into};
+use node_rows::time_on;
 use pin_graph::{Graph, GraphArc};
 use sta_units::Memory;
 use std::alloc::Global;
@@ -25,76 +26,42 @@ pub(crate) struct After<'a> {
     pub(crate) delay: Option<i64>,
 }
 
-/// A node by its pin's number; none of a gap.
-pub(crate) fn place_of(graph: &Graph, node: u32) -> Option<NodeAt>
-    requires { node < node_bound graph.now.stored }
-    ensures { result ≡ place_told graph.now node }
-{
-    let pin = graph.pin_of(node)?;
-    Some(NodeAt {
-        pin,
-        tran: graph.tran_of(node),
-        network: graph.is_network(node),
-    })
-}
-
-/// The delay of an arc none of whose quantities leaves its limit.
-fn delay_into(setting: &Setting<'_>, split: Split, to: NodeAt, from: &Before<'_>) -> Option<i64>
-    requires setting { IsSetting setting.now }
-    requires joined { IsJoined setting.now.store.now to from.now.node }
-    requires row { is_row_within from.now.row.now ≡ true }
-    requires fine { told_wide setting.now.store.now split to from.now ≡ false }
-    ensures { result ≡ (told_values setting.now.store.now split to from.now).delay }
-{
-    match values_into(setting, split, to, from) {
-        Ok(values) => values.delay,
-        Err(_) => unreachable!(),
-    }
-}
-
 /// The node to which an arc leads.
 fn onward<'a>(
-    setting: &Setting<'_>,
-    graph: &Graph,
+    delays: &ArcDelays,
     rows: &'a CowTable<BackRow>,
     split: Split,
-    from: &Before<'_>,
     arc: &GraphArc,
 ) -> After<'a>
-    requires setting { IsSetting setting.now }
-    requires row { is_row_within from.now.row.now ≡ true }
-    requires onward { IsOnward setting.now.store.now graph.now rows.now split from.now arc.now }
-    ensures { IsAfter setting.now.store.now graph.now rows.now split from.now arc.now result }
+    requires delays { arc.now.to < length delays.now }
+    requires rows { arc.now.to < length rows.now }
+    ensures row { slice_get rows.now arc.now.to ≡ Some result.row.now }
+    ensures delay { result.delay ≡ delay_told delays.now split arc.now.from arc.now.to }
 {
-    match place_of(graph, arc.to) {
-        Some(to) => After {
-            row: rows.get(arc.to as usize),
-            delay: delay_into(setting, split, to, from),
-        },
-        None => unreachable!(),
+    After {
+        row: rows.get(arc.to as usize),
+        delay: delays.along(split, arc.from, arc.to),
     }
 }
 
-/// The nodes to which arcs lead from a node, in time of the arcs.
+/// The nodes to which arcs lead from a node, in time of the arcs into these nodes.
 pub(crate) fn afters<'a>(
     alloc: Global,
-    setting: &Setting<'_>,
     graph: &Graph,
+    delays: &ArcDelays,
     rows: &'a CowTable<BackRow>,
     split: Split,
-    from: &Before<'_>,
     node: u32,
 ) -> Result<Vec<After<'a>>, Memory>
-    requires setting { IsSetting setting.now }
-    requires row { is_row_within from.now.row.now ≡ true }
     requires node { node < node_bound graph.now.stored }
-    requires arcs { All (IsOnward setting.now.store.now graph.now rows.now split from.now) (fan_at graph.now.outs node) }
-    ensures { IfOk result (λ found. IsMap (IsAfter setting.now.store.now graph.now rows.now split from.now) (fan_at graph.now.outs node) found.items) }
+    requires delays { AreDelays graph.now.stored delays.now }
+    requires arcs { All (IsOnward graph.now.stored rows.now) (fan_at graph.now.outs node) }
+    ensures { IfOk result (λ found. IsMap (IsAfter graph.now.stored rows.now split) (fan_at graph.now.outs node) found.items) }
 {
     let mut found = Vec::new(alloc);
     for arc in graph.arcs_out(node) {
         found
-            .push(onward(setting, graph, rows, split, from, arc))
+            .push(onward(delays, rows, split, arc))
             .map_err(|_| Memory)?;
     }
     Ok(found)

@@ -4,26 +4,26 @@ ghost use Rattle.std.specs.Prelude.{ℕ, List, Bool, ◌≡◌, ◌+◌, ◌<◌
 ghost use Rattle.timing_defs.specs.Checks.{IsSound};
 ghost use Rattle.timing_defs.specs.Required.{kind_of, back_times, empty_back};
 ghost use Rattle.netlist_store.specs.Numbering.{is_number, name_at};
-ghost use Rattle.node_rows.specs.WireTables.{AreWires};
-ghost use Rattle.node_rows.specs.PortTables.{ArePorts};
-ghost use Rattle.node_rows.specs.Evaluation.{IsSetting, IsPlaced};
+ghost use Rattle.node_rows.specs.Evaluation.{IsPlaced};
 ghost use Rattle.node_tests.specs.NodeTests.{AreTests, tests_numbered, is_wide_numbered};
 ghost use Rattle.pin_graph.specs.Nodes.{node_bound};
-ghost use Rattle.pin_graph.specs.RowTables.{AreRows, AreRowsFine, row_numbered, back_numbered};
-ghost use Rattle.required_engine.specs.Worked.{AreFound, IsBackRow, IsBackFault, AreReady, is_wide_back, IsUnfit, place_told};
+ghost use Rattle.pin_graph.specs.RowTables.{AreRows, AreRowsFine, back_numbered};
+ghost use Rattle.arc_delays.specs.Delays.{AreDelays};
+ghost use Rattle.required_engine.specs.Worked.{AreFound, IsAsked, IsBackRow, IsBackFault, AreReady, is_wide_back, IsUnfit, pin_told};
 
-use crate::afters::{afters, place_of};
+use crate::afters::afters;
 use crate::tables::Required;
 use crate::times::{Behind, required_times};
 use crate::unfit::Unfit;
+use arc_delays::{ArcDelays, Delayed};
 use cow_table::CowTable;
 use netlist_store::Store;
-use node_rows::{Before, NodeAt, Setting, Wired, times_in};
+use node_rows::times_in;
 use node_tests::{NodeTest, is_endpoint, node_tests};
 use pin_graph::Graph;
 use sta_units::Steps;
 use std::alloc::Global;
-use timing_defs::{BackRow, EdgeTimes, Fault, Kind, Place, Rows, Split};
+use timing_defs::{BackRow, EdgeTimes, Fault, Kind, NodeRow, Place, Rows, Split};
 
 /// The row of a number that is of no node.
 pub(crate) fn empty_back(alloc: Global) -> BackRow
@@ -35,69 +35,73 @@ pub(crate) fn empty_back(alloc: Global) -> BackRow
     }
 }
 
+/// A node whose required times are asked for: its number, its row, and whether its pin is an endpoint.
+#[derive(Clone, Copy, Drop)]
+struct AskedNode<'a> {
+    number: u32,
+    row: &'a NodeRow,
+    endpoint: bool,
+}
+
 /// The required times of a node in a split, over its tests or over the nodes to which arcs lead.
 fn split_times(
     alloc: Global,
-    setting: &Setting<'_>,
+    store: &Store,
     graph: &Graph,
+    delays: &ArcDelays,
     rows: &CowTable<BackRow>,
     split: Split,
-    from: &Before<'_>,
-    node: u32,
+    node: &AskedNode<'_>,
     tests: &[NodeTest],
 ) -> Result<EdgeTimes, Unfit>
-    requires setting { IsSetting setting.now }
-    requires graph { graph.now.stored ≡ setting.now.store.now }
-    requires fine { AreRowsFine setting.now.store.now.design }
-    requires node { node < node_bound graph.now.stored }
-    requires place { place_told graph.now node ≡ Some from.now.node }
-    requires row { from.now.row.now ≡ row_numbered setting.now.store.now node }
-    requires ready { AreReady graph.now rows.now node }
-    requires tests { AreTests setting.now.store.now tests.now (tests_numbered setting.now.store.now (kind_of split) node) }
-    requires needs { is_wide_numbered setting.now.store.now (kind_of split) node ≡ false }
-    ensures times { IfOk result (λ times. times ≡ back_times split (back_numbered setting.now.store.now node)) }
-    ensures fine { OnOk result (is_wide_back setting.now.store.now split node ≡ false) }
-    ensures err { IfErr result (IsUnfit (is_wide_back setting.now.store.now split node)) }
+    requires graph { graph.now.stored ≡ store.now }
+    requires fine { AreRowsFine store.now.design }
+    requires delays { AreDelays store.now delays.now }
+    requires node { IsAsked store.now node.now }
+    requires ready { AreReady graph.now rows.now node.now.number }
+    requires tests { AreTests store.now tests.now (tests_numbered store.now (kind_of split) node.now.number) }
+    requires needs { is_wide_numbered store.now (kind_of split) node.now.number ≡ false }
+    ensures times { IfOk result (λ times. times ≡ back_times split (back_numbered store.now node.now.number)) }
+    ensures fine { OnOk result (is_wide_back store.now split node.now.number ≡ false) }
+    ensures err { IfErr result (IsUnfit (is_wide_back store.now split node.now.number)) }
 {
-    setting.store.laws();
+    store.laws();
     graph.laws();
-    let arrived = times_in(from.row, split);
-    if is_endpoint(setting.store, from.node.pin) {
-        return required_times(alloc, setting.store, split, &Behind::Tests(tests), arrived);
+    let arrived = times_in(node.row, split);
+    if node.endpoint {
+        return required_times(alloc, store, split, &Behind::Tests(tests), arrived);
     }
-    let found = afters(alloc, setting, graph, rows, split, from, node)?;
+    let found = afters(alloc, graph, delays, rows, split, node.number)?;
     let arcs = Behind::Arcs(found.as_slice());
-    required_times(alloc, setting.store, split, &arcs, arrived)
+    required_times(alloc, store, split, &arcs, arrived)
 }
 
 /// The required times of a node in both splits.
 fn both_times(
     alloc: Global,
-    setting: &Setting<'_>,
+    store: &Store,
     graph: &Graph,
+    delays: &ArcDelays,
     rows: &CowTable<BackRow>,
-    from: &Before<'_>,
-    node: u32,
+    node: &AskedNode<'_>,
     setup: &[NodeTest],
     hold: &[NodeTest],
 ) -> Result<BackRow, Unfit>
-    requires setting { IsSetting setting.now }
-    requires graph { graph.now.stored ≡ setting.now.store.now }
-    requires fine { AreRowsFine setting.now.store.now.design }
-    requires node { node < node_bound graph.now.stored }
-    requires place { place_told graph.now node ≡ Some from.now.node }
-    requires row { from.now.row.now ≡ row_numbered setting.now.store.now node }
-    requires ready { AreReady graph.now rows.now node }
-    requires setup { AreTests setting.now.store.now setup.now (tests_numbered setting.now.store.now Kind.Setup node) }
-    requires hold { AreTests setting.now.store.now hold.now (tests_numbered setting.now.store.now Kind.Hold node) }
-    requires setup_needs { is_wide_numbered setting.now.store.now Kind.Setup node ≡ false }
-    requires hold_needs { is_wide_numbered setting.now.store.now Kind.Hold node ≡ false }
-    ensures row { IfOk result (λ row. row ≡ back_numbered setting.now.store.now node) }
-    ensures fine { OnOk result ((is_wide_back setting.now.store.now Split.Early node || is_wide_back setting.now.store.now Split.Late node) ≡ false) }
-    ensures err { IfErr result (IsUnfit (is_wide_back setting.now.store.now Split.Early node || is_wide_back setting.now.store.now Split.Late node)) }
+    requires graph { graph.now.stored ≡ store.now }
+    requires fine { AreRowsFine store.now.design }
+    requires delays { AreDelays store.now delays.now }
+    requires node { IsAsked store.now node.now }
+    requires ready { AreReady graph.now rows.now node.now.number }
+    requires setup { AreTests store.now setup.now (tests_numbered store.now Kind.Setup node.now.number) }
+    requires hold { AreTests store.now hold.now (tests_numbered store.now Kind.Hold node.now.number) }
+    requires setup_needs { is_wide_numbered store.now Kind.Setup node.now.number ≡ false }
+    requires hold_needs { is_wide_numbered store.now Kind.Hold node.now.number ≡ false }
+    ensures row { IfOk result (λ row. row ≡ back_numbered store.now node.now.number) }
+    ensures fine { OnOk result ((is_wide_back store.now Split.Early node.now.number || is_wide_back store.now Split.Late node.now.number) ≡ false) }
+    ensures err { IfErr result (IsUnfit (is_wide_back store.now Split.Early node.now.number || is_wide_back store.now Split.Late node.now.number)) }
 {
-    let early = split_times(alloc, setting, graph, rows, Split::Early, from, node, hold)?;
-    let late = split_times(alloc, setting, graph, rows, Split::Late, from, node, setup)?;
+    let early = split_times(alloc, store, graph, delays, rows, Split::Early, node, hold)?;
+    let late = split_times(alloc, store, graph, delays, rows, Split::Late, node, setup)?;
     Ok(BackRow { early, late })
 }
 
@@ -116,21 +120,21 @@ fn fault_at(alloc: Global, store: &Store, pin: u32, unfit: Unfit) -> Fault
 }
 
 /// The required times of a node with these tests.
-fn tested_back<A: Rows + Wired>(
+fn tested_back<A: Rows + Delayed>(
     alloc: Global,
     store: &Store,
     graph: &Graph,
     arrivals: &A,
     rows: &CowTable<BackRow>,
     node: u32,
-    place: NodeAt,
+    pin: u32,
     setup: &[NodeTest],
     hold: &[NodeTest],
 ) -> Result<BackRow, Fault>
     requires graph { graph.now.stored ≡ store.now }
-    requires found { AreFound store.now (A.rows arrivals.now) (A.wires arrivals.now) (A.ports arrivals.now) }
+    requires found { AreFound store.now (A.rows arrivals.now) (A.delays arrivals.now) }
     requires node { node < node_bound store.now }
-    requires place { place_told graph.now node ≡ Some place }
+    requires pin { pin_told store.now node ≡ Some pin }
     requires ready { AreReady graph.now rows.now node }
     requires setup { AreTests store.now setup.now (tests_numbered store.now Kind.Setup node) }
     requires hold { AreTests store.now hold.now (tests_numbered store.now Kind.Hold node) }
@@ -141,35 +145,32 @@ fn tested_back<A: Rows + Wired>(
 {
     store.laws();
     graph.laws();
-    let setting = Setting {
-        store,
-        wires: arrivals.wires(),
-        ports: arrivals.ports(),
-    };
-    let from = Before {
-        node: place,
+    let delays = arrivals.delays();
+    let asked = AskedNode {
+        number: node,
         row: arrivals.row(node),
+        endpoint: is_endpoint(store, pin),
     };
-    match both_times(alloc, &setting, graph, rows, &from, node, setup, hold) {
+    match both_times(alloc, store, graph, delays, rows, &asked, setup, hold) {
         Ok(row) => Ok(row),
-        Err(unfit) => Err(fault_at(alloc, store, place.pin, unfit)),
+        Err(unfit) => Err(fault_at(alloc, store, pin, unfit)),
     }
 }
 
 /// The required times of a node, with the tests of each kind found once.
-fn node_back<A: Rows + Wired>(
+fn node_back<A: Rows + Delayed>(
     alloc: Global,
     store: &Store,
     graph: &Graph,
     arrivals: &A,
     rows: &CowTable<BackRow>,
     node: u32,
-    place: NodeAt,
+    pin: u32,
 ) -> Result<BackRow, Fault>
     requires graph { graph.now.stored ≡ store.now }
-    requires found { AreFound store.now (A.rows arrivals.now) (A.wires arrivals.now) (A.ports arrivals.now) }
+    requires found { AreFound store.now (A.rows arrivals.now) (A.delays arrivals.now) }
     requires node { node < node_bound store.now }
-    requires place { place_told graph.now node ≡ Some place }
+    requires pin { pin_told store.now node ≡ Some pin }
     requires ready { AreReady graph.now rows.now node }
     ensures row { IfOk result (IsBackRow store.now node) }
     ensures err { IfErr result (IsBackFault store.now node) }
@@ -178,15 +179,13 @@ fn node_back<A: Rows + Wired>(
     let setup = node_tests(alloc, store, graph, arrivals, node, Kind::Setup)?;
     let hold = node_tests(alloc, store, graph, arrivals, node, Kind::Hold)?;
     let (setup, hold) = (setup.as_slice(), hold.as_slice());
-    tested_back(
-        alloc, store, graph, arrivals, rows, node, place, setup, hold,
-    )
+    tested_back(alloc, store, graph, arrivals, rows, node, pin, setup, hold)
 }
 
-/// The required times of a node over those of the nodes to which arcs lead from it, in time of its arcs
-/// and tests; none of a number that is of no node. `OutOfRange` at the node's pin where a setup or hold
-/// time or a required time of it, in fs, leaves its limit.
-pub(crate) fn evaluated<A: Rows + Wired>(
+/// The required times of a node over those of the nodes to which arcs lead from it, in time of its tests
+/// and of the arcs into these nodes; none of a number that is of no node. `OutOfRange` at the node's pin
+/// where a setup or hold time or a required time of it, in fs, leaves its limit.
+pub(crate) fn evaluated<A: Rows + Delayed>(
     alloc: Global,
     store: &Store,
     graph: &Graph,
@@ -195,22 +194,23 @@ pub(crate) fn evaluated<A: Rows + Wired>(
     node: u32,
 ) -> Result<BackRow, Fault>
     requires graph { graph.now.stored ≡ store.now }
-    requires found { AreFound store.now (A.rows arrivals.now) (A.wires arrivals.now) (A.ports arrivals.now) }
+    requires found { AreFound store.now (A.rows arrivals.now) (A.delays arrivals.now) }
     requires node { node < node_bound store.now }
     requires ready { AreReady graph.now rows.now node }
     ensures row { IfOk result (IsBackRow store.now node) }
     ensures err { IfErr result (IsBackFault store.now node) }
 {
-    match place_of(graph, node) {
+    match graph.pin_of(node) {
         None => Ok(empty_back(alloc)),
-        Some(place) => node_back(alloc, store, graph, arrivals, rows, node, place),
+        Some(pin) => node_back(alloc, store, graph, arrivals, rows, node, pin),
     }
 }
 
 /// The required times of a node over those of the nodes to which arcs lead from it, counted as one step,
-/// in time of its arcs and tests; none of a number that is of no node. `OutOfRange` at the node's pin
-/// where a setup or hold time or a required time of it, in fs, leaves its limit.
-pub fn eval_back<A: Rows + Wired, L>(
+/// in time of its tests and of the arcs into these nodes; none of a number that is of no node.
+/// `OutOfRange` at the node's pin where a setup or hold time or a required time of it, in fs, leaves its
+/// limit.
+pub fn eval_back<A: Rows + Delayed, L>(
     alloc: Global,
     store: &Store,
     graph: &Graph,
@@ -223,8 +223,7 @@ pub fn eval_back<A: Rows + Wired, L>(
     requires graph { graph.now.stored ≡ store.now }
     requires rows { AreRows store.now (A.rows arrivals.now) }
     requires fine { AreRowsFine store.now.design }
-    requires wires { AreWires store.now (A.wires arrivals.now) }
-    requires ports { ArePorts store.now.design.constraints (A.ports arrivals.now) }
+    requires delays { AreDelays store.now (A.delays arrivals.now) }
     requires node { node < node_bound store.now }
     requires ready { AreReady graph.now rows.now.rows node }
     ensures row { IfOk result (IsBackRow store.now node) }

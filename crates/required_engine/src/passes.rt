@@ -11,10 +11,10 @@ ghost use Rattle.required_engine.specs.Leveled.{AreLevels};
 use crate::nodes::{empty_back, evaluated};
 use crate::ordering::by_level;
 use crate::tables::lengthen;
+use arc_delays::Delayed;
 use cow_table::CowTable;
 use level_workers::map_level;
 use netlist_store::Store;
-use node_rows::Wired;
 use pin_graph::Graph;
 use sta_outside::Gate;
 use sta_units::Memory;
@@ -31,7 +31,7 @@ pub(crate) struct Evaluated {
 
 /// The required times of a node of a level, over those of the higher ones. Nothing is asked of other
 /// numbers.
-fn level_answer<A: Rows + Wired>(
+fn level_answer<A: Rows + Delayed>(
     alloc: Global,
     store: &Store,
     graph: &Graph,
@@ -41,7 +41,7 @@ fn level_answer<A: Rows + Wired>(
     node: u32,
 ) -> Result<BackRow, Fault>
     requires graph { graph.now.stored ≡ store.now }
-    requires found { AreFound store.now (A.rows arrivals.now) (A.wires arrivals.now) (A.ports arrivals.now) }
+    requires found { AreFound store.now (A.rows arrivals.now) (A.delays arrivals.now) }
     requires done { AreDoneFrom graph.now rows.now (level + 1) }
     ensures { node < node_bound graph.now.stored → level_at graph.now node ≡ level → IsAnswer graph.now.stored node result }
 {
@@ -57,7 +57,7 @@ fn level_answer<A: Rows + Wired>(
 }
 
 /// What is found for a node of a level.
-fn level_row<A: Rows + Wired>(
+fn level_row<A: Rows + Delayed>(
     alloc: Global,
     store: &Store,
     graph: &Graph,
@@ -67,7 +67,7 @@ fn level_row<A: Rows + Wired>(
     node: u32,
 ) -> Evaluated
     requires graph { graph.now.stored ≡ store.now }
-    requires found { AreFound store.now (A.rows arrivals.now) (A.wires arrivals.now) (A.ports arrivals.now) }
+    requires found { AreFound store.now (A.rows arrivals.now) (A.delays arrivals.now) }
     requires done { AreDoneFrom graph.now rows.now (level + 1) }
     ensures { IsEvaluated graph.now level node result }
 {
@@ -76,7 +76,7 @@ fn level_row<A: Rows + Wired>(
 }
 
 /// What is found for the nodes of a level, by several threads.
-fn level_rows<H: Threads + Sync, A: Rows + Wired + Sync, G: Gate>(
+fn level_rows<H: Threads + Sync, A: Rows + Delayed + Sync, G: Gate>(
     rt: &H,
     alloc: Global,
     store: &Store,
@@ -91,12 +91,12 @@ fn level_rows<H: Threads + Sync, A: Rows + Wired + Sync, G: Gate>(
     requires some { 1 ≤ workers }
     requires most { workers ≤ 32 }
     requires graph { graph.now.stored ≡ store.now }
-    requires found { AreFound store.now (A.rows arrivals.now) (A.wires arrivals.now) (A.ports arrivals.now) }
+    requires found { AreFound store.now (A.rows arrivals.now) (A.delays arrivals.now) }
     requires done { AreDoneFrom graph.now rows.now (level + 1) }
     ensures { IfOk result (IsMap (IsEvaluated graph.now level) nodes.now) }
 {
     let evaluate = |node: &u32| -> Result<Evaluated, Memory>
-        requires { (graph.now.stored ≡ store.now) × AreFound store.now (A.rows arrivals.now) (A.wires arrivals.now) (A.ports arrivals.now) × AreDoneFrom graph.now rows.now (level + 1) }
+        requires { (graph.now.stored ≡ store.now) × AreFound store.now (A.rows arrivals.now) (A.delays arrivals.now) × AreDoneFrom graph.now rows.now (level + 1) }
         ensures { IfOk result (IsEvaluated graph.entry.now level node.now) }
     { Ok(level_row(alloc, store, graph, arrivals, rows, level, *node)) };
     map_level(rt, alloc, workers, level, nodes, &evaluate, gate)
@@ -128,7 +128,7 @@ fn put_rows(
 }
 
 /// Evaluates the nodes of each level in turn, from the highest down, over the rows of the higher ones.
-fn all_levels<H: Threads + Sync, A: Rows + Wired + Sync, G: Gate>(
+fn all_levels<H: Threads + Sync, A: Rows + Delayed + Sync, G: Gate>(
     rt: &H,
     alloc: Global,
     store: &Store,
@@ -142,7 +142,7 @@ fn all_levels<H: Threads + Sync, A: Rows + Wired + Sync, G: Gate>(
     requires some { 1 ≤ workers }
     requires most { workers ≤ 32 }
     requires graph { graph.now.stored ≡ store.now }
-    requires found { AreFound store.now (A.rows arrivals.now) (A.wires arrivals.now) (A.ports arrivals.now) }
+    requires found { AreFound store.now (A.rows arrivals.now) (A.delays arrivals.now) }
     requires levels { AreLevels graph.now levels.now }
     requires few { length levels.now ≤ 2 ^ 32 }
     requires rows { length rows.old ≡ node_bound graph.now.stored }
@@ -163,7 +163,7 @@ fn all_levels<H: Threads + Sync, A: Rows + Wired + Sync, G: Gate>(
 }
 
 /// The required times of all nodes, from nothing.
-pub(crate) fn full_rows<H: Threads + Sync, A: Rows + Wired + Sync, G: Gate>(
+pub(crate) fn full_rows<H: Threads + Sync, A: Rows + Delayed + Sync, G: Gate>(
     rt: &H,
     alloc: Global,
     store: &Store,
@@ -175,7 +175,7 @@ pub(crate) fn full_rows<H: Threads + Sync, A: Rows + Wired + Sync, G: Gate>(
     requires some { 1 ≤ workers }
     requires most { workers ≤ 32 }
     requires graph { graph.now.stored ≡ store.now }
-    requires found { AreFound store.now (A.rows arrivals.now) (A.wires arrivals.now) (A.ports arrivals.now) }
+    requires found { AreFound store.now (A.rows arrivals.now) (A.delays arrivals.now) }
     ensures rows { IfOk result (AreBackRows store.now) }
     ensures fine { OnOk result (AreBacksFine store.now.design) }
     ensures within { IfOk result AreBacksWithin }

@@ -2,16 +2,15 @@
 
 ghost use Rattle.std.specs.Prelude.{ℕ, ◌≡◌, ◌<◌, ◌≤◌, Some, length, slice_get, slice_set, IfOk, IfErr, OnOk, OnErr};
 ghost use Rattle.timing_defs.specs.Checks.{IsSound};
-ghost use Rattle.node_rows.specs.WireTables.{AreWires};
-ghost use Rattle.node_rows.specs.PortTables.{ArePorts};
 ghost use Rattle.pin_graph.specs.RowTables.{AreRows, AreRowsFine, AreBackRows, AreBacksFine, IsRangeFault};
+ghost use Rattle.arc_delays.specs.Delays.{AreDelays};
 ghost use Rattle.required_engine.specs.Worked.{sized_rows, AreBacksWithin};
 
 use crate::nodes::empty_back;
 use crate::passes::full_rows;
+use arc_delays::Delayed;
 use cow_table::CowTable;
 use netlist_store::Store;
-use node_rows::Wired;
 use pin_graph::Graph;
 use sta_outside::Gate;
 use sta_units::{Again, Memory};
@@ -75,8 +74,8 @@ impl Required {
     /// level by level from the highest down, each level's nodes shared between that many threads, the gate
     /// called as each piece of a level begins. The rows are the same whatever the number of workers.
     /// `OutOfRange` at a pin where a setup or hold time or a required time, in fs, leaves its limit. Takes
-    /// time of the nodes, arcs and tests.
-    pub fn full<H: Threads + Sync, A: Rows + Wired + Sync, G: Gate>(
+    /// time of the nodes, of the tests, and for each node of the square of its arcs in.
+    pub fn full<H: Threads + Sync, A: Rows + Delayed + Sync, G: Gate>(
         rt: &H,
         alloc: Global,
         store: &Store,
@@ -91,8 +90,7 @@ impl Required {
         requires graph { graph.now.stored ≡ store.now }
         requires rows { AreRows store.now (A.rows arrivals.now) }
         requires fine { AreRowsFine store.now.design }
-        requires wires { AreWires store.now (A.wires arrivals.now) }
-        requires ports { ArePorts store.now.design.constraints (A.ports arrivals.now) }
+        requires delays { AreDelays store.now (A.delays arrivals.now) }
         ensures rows { IfOk result (λ required. AreBackRows store.now required.rows) }
         ensures fine { OnOk result (AreBacksFine store.now.design) }
         ensures within { IfOk result (λ required. AreBacksWithin required.rows) }

@@ -5,8 +5,8 @@ use Rattle.affected_cone.proofs.ends.slacks_of.Goals as goal
 
 pub returns : goal.returns
 returns g c =
-    ok_more c.map_level.result
+    ok_more c.map_shared.result
     (λ rs m. map_weaker _ (IsEnd c.args.search.now.store.now) c.args.ends.now rs
     (λ x l r k. subst (λ (n : ℕ). is_end c.args.search.now.store.now n ≡ true → IsEnd c.args.search.now.store.now n r) k.shows k.says.met
     (is_listed_end c.args.search.now.store.now c.args.ends.now c.requires.ends x l)) m)
-    c.map_level.ensures
+    c.map_shared.ensures

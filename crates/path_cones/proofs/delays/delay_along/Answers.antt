@@ -1,27 +1,23 @@
-use Rattle.path_cones.proofs.DelayLaws.{joined_there, row_there, narrow_there, delay_there}
+use Rattle.std.proofs.Common.{◌≡◌, ◌<◌, ℕ, ℤ, Option, sym, subst, ◌∙◌}
+use Rattle.std.specs.Prelude.{IfSome}
+use Rattle.sta_units.specs.Numbers.{Within}
+use Rattle.timing_defs.specs.declared.kinds.Split.{Split}
+use Rattle.timing_defs.specs.Tests.{data_split}
+use Rattle.arc_delays.specs.Delays.{delay_numbered}
+use Rattle.path_cones.proofs.Growing.{from_low}
 use Rattle.path_cones.proofs.delays.delay_along.Goals as goal
 
-pub values_into-requires-clause-joined : goal.values_into-requires-clause-joined
-values_into-requires-clause-joined g c =
-    joined_there c.args.graph.now c.args.setting.now.store.now c.requires.found.same c.laws.ensures.numbered c.laws.ensures.linked c.laws-2.ensures
-    (g.A.Rows.rows c.args.arrivals.now) c.requires.found.rows_are c.requires.found.within c.args.arc.now c.requires.arc
-    c.in_ok-from.from c.in_ok-to.to c.in_ok-from.ensures c.in_ok-to.ensures
-
-pub values_into-requires-clause-row : goal.values_into-requires-clause-row
-values_into-requires-clause-row g c =
-    row_there c.args.graph.now c.args.setting.now.store.now c.requires.found.same c.laws.ensures.numbered c.laws.ensures.linked c.laws-2.ensures
-    (g.A.Rows.rows c.args.arrivals.now) c.requires.found.rows_are c.requires.found.within c.args.arc.now c.requires.arc
-    c.row.result.now c.row.ensures
-
-pub unreachable-requires : goal.unreachable-requires
-unreachable-requires g c =
-    narrow_there c.args.graph.now c.args.setting.now.store.now c.requires.found.same c.laws.ensures.numbered c.laws.ensures.linked c.laws-2.ensures
-    (g.A.Rows.rows c.args.arrivals.now) c.requires.found.rows_are c.requires.found.within c.args.arc.now c.requires.arc
-    c.args.split c.in_ok-to.to (record { node = c.in_ok-from.from; row = c.row.result }) c.in_ok-from.ensures c.in_ok-to.ensures c.row.ensures c.in-Err.ensures
+pub along-requires : goal.along-requires
+along-requires c =
+    subst (λ (n : ℕ). c.args.arc.now.to < n) (sym c.requires.delays.count)
+    (from_low c.args.graph.now.stored c.args.arc.now.to c.requires.arc.to c.requires.arc.to_number)
 
 pub returns-clause-delay : goal.returns-clause-delay
-returns-clause-delay g c =
-    delay_there c.args.graph.now c.args.setting.now.store.now c.requires.found.same c.laws.ensures.numbered c.laws.ensures.linked c.laws-2.ensures
-    (g.A.Rows.rows c.args.arrivals.now) c.requires.found.rows_are c.requires.found.within c.args.arc.now c.requires.arc
-    c.args.split c.in_ok-to.to (record { node = c.in_ok-from.from; row = c.row.result }) c.in_ok-from.ensures c.in_ok-to.ensures c.row.ensures
-    c.in-Ok.values c.in-Ok.ensures.told
+returns-clause-delay c =
+    subst (λ (split : Split). c.along.result ≡ delay_numbered c.args.graph.now.stored split c.args.arc.now.from c.args.arc.now.to) c.data_split.ensures
+    (c.along.ensures ∙ c.requires.delays.each c.data_split.result c.args.arc.now c.requires.arc)
+
+pub returns-clause-within : goal.returns-clause-within
+returns-clause-within c =
+    subst (λ (o : Option ℤ). IfSome o Within) (sym (returns-clause-delay c))
+    (c.requires.delays.within (data_split c.args.kind) c.args.arc.now c.requires.arc)

@@ -4,4 +4,4 @@ use Rattle.path_cones.specs.Delays.{walk_arc}
 use Rattle.path_cones.proofs.listing.add_arcs.Given as goal
 
 abbrev pub invariant-loop-arc : goal.invariant-loop-arc
-invariant-loop-arc g l = l.arcs ≡ l.initial.arcs ++ filter_map (walk_arc l.sources.graph.now.stored l.sources.kind l.nodes.keys) (take l.arc-index l.into)
+invariant-loop-arc l = l.arcs ≡ l.initial.arcs ++ filter_map (walk_arc l.sources.graph.now.stored l.sources.kind l.nodes.keys) (take l.arc-index l.into)

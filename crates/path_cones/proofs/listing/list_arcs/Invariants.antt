@@ -3,4 +3,4 @@ use Rattle.path_cones.specs.FanIns.{AreParts}
 use Rattle.path_cones.proofs.listing.list_arcs.Given as goal
 
 abbrev pub invariant-loop-node : goal.invariant-loop-node
-invariant-loop-node g l = AreParts l.node-index (arcs_placed l.sources.graph.now l.sources.kind l.nodes.keys) l.starts l.arcs
+invariant-loop-node l = AreParts l.node-index (arcs_placed l.sources.graph.now l.sources.kind l.nodes.keys) l.starts l.arcs

@@ -4,4 +4,4 @@ use Rattle.required_engine.specs.Worked.{IsAfter}
 use Rattle.required_engine.proofs.afters.afters.Given as goal
 
 abbrev pub invariant-loop-arc : goal.invariant-loop-arc
-invariant-loop-arc l = IsMap (IsAfter l.setting.store.now l.graph l.rows l.split l.from) (take l.arc-index l.arc-items) l.found.items
+invariant-loop-arc l = IsMap (IsAfter l.graph.stored l.rows l.split) (take l.arc-index l.arc-items) l.found.items

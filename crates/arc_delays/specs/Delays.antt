@@ -1,0 +1,66 @@
+-- The delays along the arcs of a design, by the numbers of nodes.
+
+use Rattle.std.specs.Prelude.{ℕ, ◌≡◌, ◌<◌, ℤ, true, false, if◌then◌else◌, List, [], map, length, find, get_or, Contains, Option, None, Some, option_and_then, nat_eq, IfSome}
+use Rattle.sta_units.specs.Numbers.{Within}
+use Rattle.timing_defs.specs.declared.kinds.Split.{Split}
+use Rattle.timing_defs.specs.declared.kinds.Split.TheVariants.{Early, Late}
+use Rattle.timing_defs.specs.declared.design.Design.{Design}
+use Rattle.timing_defs.specs.declared.rows.NodeRow.{NodeRow}
+use Rattle.timing_defs.specs.Netlist.{Node, nodes}
+use Rattle.timing_defs.specs.Rows.{arcs_in, row, delay}
+use Rattle.netlist_store.specs.Numbering.{Stored, is_number}
+use Rattle.node_rows.specs.declared.settings.NodeAt.{NodeAt}
+use Rattle.node_rows.specs.declared.settings.Setting.{Setting}
+use Rattle.node_rows.specs.Evaluation.{is_row_within, is_wide_along, IsSetting}
+use Rattle.pin_graph.specs.declared.arcs.GraphArc.{GraphArc}
+use Rattle.pin_graph.specs.Nodes.{node_at, node_bound, pin_under, tran_under}
+use Rattle.pin_graph.specs.Graphs.{Graphed, IsArc, fan_at, network_at}
+use Rattle.pin_graph.specs.RowTables.{AreRows}
+use Rattle.arc_delays.specs.declared.tables.ArcDelay.{ArcDelay}
+
+-- a node by its pin's number; none of a gap
+abbrev pub place_told : Graphed → ℕ → Option NodeAt
+place_told g node =
+    (if is_number g.stored.pins (pin_under node)
+    then Some (record { pin = pin_under node; tran = tran_under node; network = network_at g node }) else None)
+
+-- the delay from one node's number to another's
+abbrev pub delay_numbered : Stored → Split → ℕ → ℕ → Option ℤ
+delay_numbered s split from to =
+    option_and_then (λ a. option_and_then (delay s.design split a) (node_at s to)) (node_at s from)
+
+-- the delay of a split
+abbrev pub delay_in : Split → ArcDelay → Option ℤ
+delay_in Early d = d.early
+delay_in Late d = d.late
+
+-- what a table has of the arc from one node to another
+abbrev pub delay_told : List (List ArcDelay) → Split → ℕ → ℕ → Option ℤ
+delay_told t split from to = option_and_then (delay_in split) (find (λ (d : ArcDelay). nat_eq d.from from) (get_or t to []))
+
+-- the delays of all arcs of a design, each within its limit
+pub record AreDelays (s : Stored) (t : List (List ArcDelay)) : Type 0 where
+  pub count : length t ≡ node_bound s
+  pub each : (split : Split) (arc : GraphArc) → IsArc s arc → delay_told t split arc.from arc.to ≡ delay_numbered s split arc.from arc.to
+  pub within : (split : Split) (arc : GraphArc) → IsArc s arc → IfSome (delay_numbered s split arc.from arc.to) Within
+
+-- the delays of an arc in both splits
+abbrev pub arc_delay : Stored → GraphArc → ArcDelay
+arc_delay s arc =
+    record { from = arc.from; early = delay_numbered s Early arc.from arc.to; late = delay_numbered s Late arc.from arc.to }
+
+-- the delays of the arcs into a node
+abbrev pub AreInto : Graphed → ℕ → List ArcDelay → Type 0
+AreInto g node delays = node < node_bound g.stored → delays ≡ map (arc_delay g.stored) (fan_at g.ins node)
+
+-- no row and no arc of a design has a quantity that leaves its limit
+pub record AreWithin (d : Design) : Type 0 where
+  pub rows : (n : Node) → Contains (nodes d) n → is_row_within (row d n) ≡ true
+  pub arcs : (split : Split) (to from : Node) → Contains (nodes d) to → Contains (arcs_in d to) from → is_wide_along d split to from (row d from) ≡ false
+
+-- what the delays of a graph's arcs are found from
+pub record IsFound (setting : Setting) (g : Graphed) (rows : List NodeRow) : Type 0 where
+  pub tables : IsSetting setting
+  pub same : g.stored ≡ setting.store.now
+  pub rows_are : AreRows g.stored rows
+  pub within : AreWithin g.stored.design
