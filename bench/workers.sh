@@ -1,5 +1,5 @@
 #!/usr/bin/env bash
-# Times the slews and arrivals, and the required times, of all nodes with 1, 2 and 4 workers: bench/workers.sh [LEVELS], 30 where
+# Times the slews and arrivals with the delays of arcs, and the required times, of all nodes with 1, 2 and 4 workers: bench/workers.sh [LEVELS], 30 where
 # none is given. The design has two ranks of 1,000 registers with LEVELS levels of 1,000 NAND gates between, about 100,000 pins at
 # 30 levels; its texts go through the readers. The program is made in a folder of its own outside the repository, proved, built and
 # run there by `rt run`, and the folder is removed. TRY=1 runs it before any proof, by `rt try`.
