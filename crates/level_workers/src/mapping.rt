@@ -12,16 +12,17 @@ use std::alloc::Global;
 use std::thread::{Threads, join};
 use timing_defs::Items;
 
-/// The results of some items, one after another.
+/// The results of some items, one after another, in a list with that much room.
 fn map_piece<I, R: Drop, F: Fn(&I) -> Result<R, Memory>>(
     alloc: Global,
     items: &[I],
+    room: usize,
     f: &F,
 ) -> Result<Items<R>, Memory>
     requires { F.IsAlwaysCallable f.now }
     ensures { IfOk result (IsMap (λ x r. FnReturnsAt F.Fn f.now x (Ok r)) items.now) }
 {
-    let mut results = Items::with_room(alloc, items.len())?;
+    let mut results = Items::with_room(alloc, room)?;
     for item in items {
         let found = f(item)?;
         results.push(found)?;
@@ -39,8 +40,9 @@ fn joined<R: Drop>(front: Items<R>, back: Items<R>) -> Result<Items<R>, Memory>
     Ok(Items::from_vec(all))
 }
 
-/// The results of some items in that many pieces. The pieces are halved at each step and the first
-/// half goes to a new thread, so the stack grows as the logarithm of their number.
+/// The results of some items in that many pieces, in a list with that much room. The pieces are halved at
+/// each step and the first half goes to a new thread, so the stack grows as the logarithm of their number.
+/// The list of the first piece has room for those that are put after it.
 #[cycle(pieces)]
 fn map_pieces<
     H: Threads + Sync,
@@ -48,7 +50,15 @@ fn map_pieces<
     R: Send + Drop,
     F: Fn(&I) -> Result<R, Memory> + Sync,
     G: Gate,
->(rt: &H, alloc: Global, pieces: Pieces, items: &[I], f: &F, gate: &G) -> Result<Items<R>, Memory>
+>(
+    rt: &H,
+    alloc: Global,
+    pieces: Pieces,
+    items: &[I],
+    room: usize,
+    f: &F,
+    gate: &G,
+) -> Result<Items<R>, Memory>
     requires numbers { pieces.first + pieces.count < 2 ^ 32 }
     requires callable { F.IsAlwaysCallable f.now }
     ensures { IfOk result (IsMap (λ x r. FnReturnsAt F.Fn f.now x (Ok r)) items.now) }
@@ -58,18 +68,18 @@ fn map_pieces<
             level: pieces.level,
             piece: pieces.first,
         });
-        return map_piece(alloc, items, f);
+        return map_piece(alloc, items, room, f);
     }
     let (low, high) = pieces.halves();
     let (front, back) = items.split_at(low.share(items.len(), pieces.count));
     let theirs = move || -> Result<Items<R>, Memory>
         requires { IsSync H.row × IsSync I.row × IsSend R.row × IsSync F.row × IsSync G.row × (low.first + low.count < 2 ^ 32) × F.IsAlwaysCallable f.now }
         ensures { IfOk result (IsMap (λ x r. FnReturnsAt F.Fn f.entry.now x (Ok r)) front.entry.now) }
-    { map_pieces(rt, alloc, low, front, f, gate) };
+    { map_pieces(rt, alloc, low, front, room, f, gate) };
     let ours = move || -> Result<Items<R>, Memory>
         requires { IsSync H.row × IsSync I.row × IsSend R.row × IsSync F.row × IsSync G.row × (high.first + high.count < 2 ^ 32) × F.IsAlwaysCallable f.now }
         ensures { IfOk result (IsMap (λ x r. FnReturnsAt F.Fn f.entry.now x (Ok r)) back.entry.now) }
-    { map_pieces(rt, alloc, high, back, f, gate) };
+    { map_pieces(rt, alloc, high, back, back.len(), f, gate) };
     let (found, more) = join(rt, theirs, ours);
     let found = found?;
     let more = more?;
@@ -109,5 +119,5 @@ pub fn map_level<
         first: 0,
         count,
     };
-    map_pieces(rt, alloc, pieces, items, f, gate)
+    map_pieces(rt, alloc, pieces, items, items.len(), f, gate)
 }
