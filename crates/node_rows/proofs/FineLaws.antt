@@ -1,8 +1,8 @@
 -- Range along a pass over the nodes: where the nodes before a node are fine, a quantity of the node that leaves its limit is an
 -- origin, and where none does the node is fine.
 
-use Rattle.std.proofs.Common.{◌≡◌, ◌⊎◌, ℕ, zero, suc, ◌+◌, ◌<◌, ◌≤◌, ℤ, Bool, true, false, not, List, [], ◌∷◌, Option, None, Some, refl, sym, ap, ◌∙◌, inl, inr, arith}
-use Rattle.std.specs.Prelude.{Contains, nat_eq, find, length, is_none, option_and_then, option_map, ◌&&◌, ◌||◌, if◌then◌else◌}
+use Rattle.std.proofs.Common.{◌≡◌, ℕ, zero, suc, ℤ, Bool, true, false, not, List, [], ◌∷◌, Option, None, Some, refl, sym, ap, ◌∙◌, inl, inr, arith}
+use Rattle.std.specs.Prelude.{Contains, nat_eq, length, is_none, option_map, ◌&&◌, ◌||◌, if◌then◌else◌}
 use Rattle.std.specs.List.{filter_map, list_all, list_any}
 use Rattle.std.specs.Option.{option_map_or}
 use Rattle.std.proofs.lemmas.Bool.{cases_Bool, false≢true, true≢false, and_parts, and_from, eqb-true, eq-eqb}
@@ -11,12 +11,10 @@ use Rattle.timing_defs.specs.declared.kinds.Split.{Split}
 use Rattle.timing_defs.specs.declared.kinds.Split.TheVariants.{Early, Late}
 use Rattle.timing_defs.specs.declared.kinds.Tran.{Tran}
 use Rattle.timing_defs.specs.declared.kinds.Tran.TheVariants.{Rise, Fall}
-use Rattle.timing_defs.specs.declared.edge_times.EdgeTime.{EdgeTime}
-use Rattle.timing_defs.specs.declared.rows.NodeRow.{NodeRow}
 use Rattle.timing_defs.specs.declared.design.Design.{Design}
 use Rattle.timing_defs.specs.Netlist.{Node, nodes, net_of, is_driver, same_tran}
 use Rattle.timing_defs.specs.Wires.{wire_delay}
-use Rattle.timing_defs.specs.Rows.{arcs_in, net_name, scaled, raw_delay, slew, slew_in, slew_of, arrival, arrival_of, arrivals_of, time_on, times_in, launch_edges, edge_time, step, row, as_fs}
+use Rattle.timing_defs.specs.Rows.{arcs_in, net_name, slew, slew_in, slew_of, arrival, arrival_of, time_on, times_in, launch_edges, edge_time, step, row, as_fs}
 use Rattle.timing_defs.specs.Range.{within_some, looked_within, is_loaded, net_wires_within, slew_parts, slew_inputs, fine_slew_within, fine_slew, has_raw_delay, scaled_delay, fine_delay, arrival_inputs, fine_arrival_within, fine_arrival, is_looked_origin, is_scaled_origin, is_slew_origin, is_arrival_origin, is_forward_origin}
 use Rattle.node_rows.specs.Evaluation.{is_wide_looked, is_wide_scaled, is_wide_in}
 use Rattle.timing_defs.proofs.RowLaws.{stable, ArePlacedNodes, row_is, first_in, later_in}

@@ -23,7 +23,7 @@ use Rattle.node_rows.specs.declared.found_nets.FoundNet.{FoundNet}
 use Rattle.node_rows.specs.declared.unfit.Unfit.{Unfit}
 use Rattle.node_rows.specs.Evaluation.{IsUnfit}
 use Rattle.node_rows.specs.NetPins.{IsOnNet, pin_cap_at}
-use Rattle.node_rows.specs.NetTrees.{IsTreeNet, AreTrees, is_wide_net, pin_word}
+use Rattle.node_rows.specs.NetTrees.{IsTreeNet, AreTrees, is_wide_net, late_of, pin_word}
 use Rattle.node_rows.specs.FoundNets.{ArePut, AreWiresTo, IsFoundNet, IsNetAnswer}
 use Rattle.node_rows.proofs.NetSteps.{gap_more, plain_more, plain_fine_as}
 use Rattle.node_rows.proofs.TreeSteps.{wide_as, tree_more}
@@ -55,7 +55,7 @@ plain_found s net load wires empty number rc is lumped early late fine_e fine_l 
 pub tree_found : (s : Stored) → IsNumbered s → IsLinked s.design → (rc : NetRc) (root : ℕ) (items : List ℕ) → IsTreeNet s rc root items
     → (net : ℕ) → option_and_then (rc_of s.design) (name_at s.nets net) ≡ Some rc → IsOnNet s net items
     → (trees : NetTrees) → AreTrees s rc root items trees → is_net_origin s.design rc.net ≡ false
-    → (load : NetLoad) → load.early.0 ≡ trees.early.load → load.late.0 ≡ trees.late.load
+    → (load : NetLoad) → load.early.0 ≡ trees.early.load → load.late.0 ≡ (late_of trees).load
     → (wires : List WireTo) → AreWiresTo s trees items wires → IsFoundNet s net (record { load = load; wires = wires })
 tree_found s num linked rc root items t net its each trees are fine load early late wires to = record {
   within = to.within;

@@ -1,10 +1,12 @@
 -- The pins of a net with resistors: their capacitances, and what its trees tell of each.
 
-use Rattle.std.proofs.Common.{◌≡◌, ℕ, zero, suc, ◌+◌, ◌<◌, ℤ, pos, Bool, true, false, ◌||◌, List, [], ◌∷◌, ◌++◌, length, get_or, set, take, Option, None, Some, refl, sym, ap, subst, ◌∙◌, inl, inr, arith}
+use Rattle.std.proofs.Common.{◌≡◌, ℕ, zero, suc, ◌+◌, ◌<◌, ℤ, pos, Bool, true, false, ◌||◌, List, [], ◌∷◌, ◌++◌, map, length, get_or, set, take, Option, None, Some, refl, sym, ap, subst, ◌∙◌, inl, inr, arith}
 use Rattle.std.specs.Prelude.{nat_eq, option_map, option_and_then, slice_get, slice_set}
-use Rattle.std.specs.List.{list_any}
+use Rattle.std.specs.List.{list_any, list_all}
 use Rattle.std.specs.Option.{option_map_or, unwrap_or}
-use Rattle.std.proofs.lemmas.Bool.{cases_Bool, false≢true, eqb-true, eq-eqb}
+use Rattle.std.specs.Ordering.{int_eq}
+use Rattle.std.proofs.lemmas.Bool.{cases_Bool, false≢true, and_parts, eqb-true, eq-eqb}
+use Rattle.std.proofs.lemmas.Bool.Decides.{Decides-int_eq}
 use Rattle.std.proofs.lemmas.List.{get_or-map, length-map, length-set, take_more}
 use Rattle.std.proofs.lemmas.List.Elements.{All-nil, All-push, Contains-append_cases}
 use Rattle.timing_defs.specs.declared.kinds.Split.{Split}
@@ -22,8 +24,8 @@ use Rattle.node_rows.specs.declared.pin_wires.PinWire.{PinWire}
 use Rattle.node_rows.specs.declared.net_trees.NetTrees.{NetTrees}
 use Rattle.node_rows.specs.declared.found_nets.WireTo.{WireTo}
 use Rattle.node_rows.specs.WireTables.{wire_at, split_wire}
-use Rattle.node_rows.specs.NetPins.{counted, pin_cap_at, drives_at}
-use Rattle.node_rows.specs.NetTrees.{IsSink, HasWire, pin_word}
+use Rattle.node_rows.specs.NetPins.{counted, cap_at, pin_cap_at, has_one_cap, drives_at}
+use Rattle.node_rows.specs.NetTrees.{IsSink, HasWire, late_of, pin_word}
 use Rattle.node_rows.specs.FoundNets.{with_wires, ArePut, AreWiresTo}
 use Rattle.node_rows.proofs.LoadLaws.{number_low}
 use Rattle.node_rows.proofs.Members.{some_is, in_cases, none_in}
@@ -38,6 +40,21 @@ pub cap_told : (s : Stored) (split : Split) (pin : ℕ) (name : List ℕ) (x : �
 cap_told s split pin name x named e =
     ap (λ (w : List ℕ). record { pin = w; cap = record { 0 = x } }) (sym (ap (λ o. unwrap_or o []) named))
     ∙ ap (λ (z : ℤ). record { pin = pin_word s pin; cap = record { 0 = z } }) (counted_all s split (pin_numbered s pin) x e)
+
+-- a pin whose capacitance is the same in both splits
+pub one_cap_told : (s : Stored) (pin : ℕ) (early late : ℤ) → option_map (pin_cap s.design Early) (pin_numbered s pin) ≡ Some early
+    → option_map (pin_cap s.design Late) (pin_numbered s pin) ≡ Some late → int_eq early late ≡ has_one_cap s pin
+one_cap_told s pin early late e f =
+    ap (λ z. int_eq z late) (counted_all s Early (pin_numbered s pin) early e)
+    ∙ ap (λ z. int_eq (cap_at s Early true pin) z) (counted_all s Late (pin_numbered s pin) late f)
+
+pub caps_alike : (s : Stored) (pins : List ℕ) → list_all (has_one_cap s) pins ≡ true → map (pin_cap_at s Early) pins ≡ map (pin_cap_at s Late) pins
+caps_alike s [] h = refl
+caps_alike s (pin ∷ pins) h =
+    let parts = and_parts (has_one_cap s pin) (list_all (has_one_cap s) pins) h in
+    let same : cap_at s Early true pin ≡ cap_at s Late true pin = (Decides-int_eq (cap_at s Early true pin) (cap_at s Late true pin)).0 parts.0 in
+    ap (λ (z : ℤ). record { pin = pin_word s pin; cap = record { 0 = z } } ∷ map (pin_cap_at s Early) pins) same
+    ∙ ap (λ (rest : List PinCap). pin_cap_at s Late pin ∷ rest) (caps_alike s pins parts.1)
 
 -- whether a pin drives
 pub drives_is : (s : Stored) (pin : ℕ) (r : Bool) → option_map is_driver (pin_numbered s pin) ≡ Some r → drives_at s pin ≡ r
@@ -124,7 +141,7 @@ last_of (p ∷ ps) pin other h = elim (cases_Bool (nat_eq other p)) [
 
 put_more : (s : Stored) (trees : NetTrees) (old wires new : List (Option PinWire)) (pins : List ℕ) (i pin : ℕ) → i < length pins → pin ≡ get_or pins i pin
     → length new ≡ length wires
-    → ((net : NetRc) (root : List ℕ) (caps : Split → List PinCap) → IsTreeOf net root (caps Early) trees.early → IsTreeOf net root (caps Late) trees.late → HasWire s net root caps new pin)
+    → ((net : NetRc) (root : List ℕ) (caps : Split → List PinCap) → IsTreeOf net root (caps Early) trees.early → IsTreeOf net root (caps Late) (late_of trees) → HasWire s net root caps new pin)
     → ((other : ℕ) → nat_eq other pin ≡ false → wire_at new other ≡ wire_at wires other)
     → ArePut s trees old wires (take i pins) → ArePut s trees old new (take (i + 1) pins)
 put_more s trees old wires new pins i pin low here len there kept had =
@@ -155,7 +172,7 @@ none_to s trees = record { within = All-nil (λ (to : WireTo). to.pin < length s
 pub wires_more : (s : Stored) (trees : NetTrees) (pins : List ℕ) (i pin : ℕ) (found new : List WireTo) (to : WireTo) → i < length pins → pin ≡ get_or pins i pin
     → is_number s.pins pin ≡ true → new ≡ found ++ to ∷ [] → to.pin ≡ pin
     → ((net : NetRc) (root : List ℕ) (caps : List PinCap) → IsTreeOf net root caps trees.early → IsSink net root caps (pin_word s pin) to.wire.early)
-    → ((net : NetRc) (root : List ℕ) (caps : List PinCap) → IsTreeOf net root caps trees.late → IsSink net root caps (pin_word s pin) to.wire.late)
+    → ((net : NetRc) (root : List ℕ) (caps : List PinCap) → IsTreeOf net root caps (late_of trees) → IsSink net root caps (pin_word s pin) to.wire.late)
     → AreWiresTo s trees (take i pins) found → AreWiresTo s trees (take (i + 1) pins) new
 wires_more s trees pins i pin found new to low here number pushed its early late had =
     subst (λ (xs : List WireTo). AreWiresTo s trees (take (i + 1) pins) xs) (sym pushed)

@@ -26,7 +26,7 @@ use Rattle.node_rows.specs.declared.pin_wires.PinWire.{PinWire}
 use Rattle.node_rows.specs.declared.pin_wires.Wires.{Wires}
 use Rattle.node_rows.specs.declared.net_trees.NetTrees.{NetTrees}
 use Rattle.node_rows.specs.NetPins.{IsOnNet, drives_at, pin_cap_at}
-use Rattle.node_rows.specs.NetTrees.{IsSoundNets, IsTreeNet, AreTrees, AreUpTo, HasWire, is_wide_net, pin_word}
+use Rattle.node_rows.specs.NetTrees.{IsSoundNets, IsTreeNet, AreTrees, AreUpTo, HasWire, is_wide_net, late_of, pin_word}
 use Rattle.node_rows.specs.WireTables.{IsWire, split_load, wire_at}
 use Rattle.node_rows.proofs.Members.{some_is, later_in, any_in, any_back, found_in, found_passes, found_some, in_filter}
 use Rattle.node_rows.proofs.NetFaults.{has_driver}
@@ -116,7 +116,7 @@ module _ (s : Stored) (num : IsNumbered s) (linked : IsLinked s.design) (rc : Ne
   pub tree_more : (net : ℕ) → option_and_then (rc_of s.design) (name_at s.nets net) ≡ Some rc → IsOnNet s net items
       → (trees : NetTrees) → AreTrees s rc root items trees → is_net_origin s.design rc.net ≡ false
       → (w next : Wires) (load : NetLoad) → AreUpTo s w net → next.loads ≡ w.loads ++ load ∷ [] → length next.pins ≡ length w.pins
-      → load.early.0 ≡ trees.early.load → load.late.0 ≡ trees.late.load
+      → load.early.0 ≡ trees.early.load → load.late.0 ≡ (late_of trees).load
       → ((pin : ℕ) → Contains items pin → HasWire s rc (pin_word s root) (λ split. map (pin_cap_at s split) items) next.pins pin)
       → ((other : ℕ) → list_any (nat_eq other) items ≡ false → wire_at next.pins other ≡ wire_at w.pins other)
       → AreUpTo s next (net + 1)

@@ -1,7 +1,7 @@
 -- The arcs of a cell from one of its nodes to another, and what their tables give at a slew and a
 -- load (Liberty reference manual, timing groups).
 
-use Rattle.std.specs.Prelude.{ℕ, ℤ, Bool, ◌&&◌, ◌||◌, List, None, Some}
+use Rattle.std.specs.Prelude.{ℕ, ℤ, Bool, ◌&&◌, ◌||◌, List, Option, None, Some}
 use Rattle.std.specs.Str.{bytes_eq}
 use Rattle.sta_units.specs.Numbers.{is_within}
 use Rattle.timing_defs.specs.declared.kinds.Split.{Split}
@@ -28,16 +28,24 @@ is_between ends arc = leads ends.registers ends.from.now ends.from_tran ends.to.
 abbrev pub has_tables : CellArc → Bool
 has_tables arc = is_well_formed arc.delay && is_well_formed arc.slew
 
+-- the delay of an arc as looked up lies within the limit
+abbrev pub is_delay_looked : ℤ → ℤ → CellArc → Bool
+is_delay_looked slew load arc = is_within (look arc.delay slew load)
+
 -- both values of an arc as looked up lie within the limit
 abbrev pub is_looked : ℤ → ℤ → CellArc → Bool
-is_looked slew load arc = is_within (look arc.slew slew load) && is_within (look arc.delay slew load)
+is_looked slew load arc = is_within (look arc.slew slew load) && is_delay_looked slew load arc
+
+-- the outermost delay of some arcs, after that so far
+abbrev pub outer_delay : Split → ℤ → ℤ → Option ℤ → List CellArc → Option ℤ
+outer_delay split slew load best arcs = outermost split (λ arc. Some (look arc.delay slew load)) best arcs
 
 -- the outermost slew and the outermost delay of some arcs, after those so far
 abbrev pub outer_values : Split → ℤ → ℤ → ArcValues → List CellArc → ArcValues
 outer_values split slew load best arcs =
     record {
       slew = outermost split (λ arc. Some (look arc.slew slew load)) best.slew arcs;
-      delay = outermost split (λ arc. Some (look arc.delay slew load)) best.delay arcs;
+      delay = outer_delay split slew load best.delay arcs;
     }
 
 abbrev pub no_values : ArcValues

@@ -130,10 +130,14 @@ pub record IsAlong (s : Stored) (split : Split) (at : NodeAt) (b : Before) (valu
   pub within : are_within values ≡ true
   pub fine : told_wide s split at b ≡ false
 
+-- a delay times a factor, where there is one
+abbrev pub scaled_some : Option ℤ → ℕ → Option ℤ
+scaled_some delay factor = option_map (λ delay. rounded (delay *ℤ pos factor) (pos (10 ^ 6))) delay
+
 -- a value of arcs with its delay times a factor
 abbrev pub scaled_values : ArcValues → ℕ → ArcValues
 scaled_values values factor =
-    record { slew = values.slew; delay = option_map (λ delay. rounded (delay *ℤ pos factor) (pos (10 ^ 6))) values.delay }
+    record { slew = values.slew; delay = scaled_some values.delay factor }
 
 -- the tables are those of the store
 pub record IsSetting (setting : Setting) : Type 0 where

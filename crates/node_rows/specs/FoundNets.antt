@@ -16,7 +16,7 @@ use Rattle.node_rows.specs.declared.found_nets.FoundNet.{FoundNet}
 use Rattle.node_rows.specs.declared.unfit.Unfit.{Unfit}
 use Rattle.node_rows.specs.Evaluation.{IsUnfit}
 use Rattle.node_rows.specs.WireTables.{wire_at}
-use Rattle.node_rows.specs.NetTrees.{HasWire, AreUpTo, is_wide_net}
+use Rattle.node_rows.specs.NetTrees.{HasWire, AreUpTo, is_wide_net, late_of}
 
 -- a table of wires, once these are put into it one after another
 abbrev pub with_wires : List (Option PinWire) → List WireTo → List (Option PinWire)
@@ -26,7 +26,7 @@ with_wires table (to ∷ rest) = with_wires (slice_set table to.pin (Some to.wir
 -- the wires to some pins, as trees tell them, are put into a table, and no others
 pub record ArePut (s : Stored) (trees : NetTrees) (old wires : List (Option PinWire)) (pins : List ℕ) : Type 0 where
   pub len : length wires ≡ length old
-  pub there : (net : NetRc) (root : List ℕ) (caps : Split → List PinCap) → IsTreeOf net root (caps Early) trees.early → IsTreeOf net root (caps Late) trees.late
+  pub there : (net : NetRc) (root : List ℕ) (caps : Split → List PinCap) → IsTreeOf net root (caps Early) trees.early → IsTreeOf net root (caps Late) (late_of trees)
       → (pin : ℕ) → Contains pins pin → HasWire s net root caps wires pin
   pub kept : (other : ℕ) → list_any (nat_eq other) pins ≡ false → wire_at wires other ≡ wire_at old other
 

@@ -2,7 +2,9 @@
 
 use Rattle.std.specs.Prelude.{ℕ, ℤ, pos, ◌≡◌, nat_eq, count_by, Bool, true, false, not, ◌||◌, if◌then◌else◌, List, []}
 use Rattle.std.specs.Option.{option_map_or, unwrap_or}
+use Rattle.std.specs.Ordering.{int_eq}
 use Rattle.timing_defs.specs.declared.kinds.Split.{Split}
+use Rattle.timing_defs.specs.declared.kinds.Split.TheVariants.{Early, Late}
 use Rattle.timing_defs.specs.declared.rows.PinCap.{PinCap}
 use Rattle.timing_defs.specs.declared.design.Design.{Design}
 use Rattle.timing_defs.specs.Netlist.{Pin, is_driver}
@@ -22,6 +24,10 @@ cap_at s split drivers pin = option_map_or (counted s.design split drivers) (pin
 
 abbrev pub pin_cap_at : Stored → Split → ℕ → PinCap
 pin_cap_at s split pin = record { pin = unwrap_or (name_at s.pins pin) []; cap = record { 0 = cap_at s split true pin } }
+
+-- a pin has the same capacitance in both splits
+abbrev pub has_one_cap : Stored → ℕ → Bool
+has_one_cap s pin = int_eq (cap_at s Early true pin) (cap_at s Late true pin)
 
 abbrev pub drives_at : Stored → ℕ → Bool
 drives_at s pin = option_map_or is_driver (pin_numbered s pin) false

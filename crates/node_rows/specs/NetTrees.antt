@@ -19,7 +19,7 @@ use Rattle.timing_defs.specs.Clocking.{driver_on}
 use Rattle.timing_defs.specs.Checks.{net_fault, data_fault}
 use Rattle.timing_defs.specs.Range.{is_origin, is_net_origin}
 use Rattle.netlist_store.specs.Numbering.{Stored, name_at, pin_numbered, net_number}
-use Rattle.rc_tree.specs.Trees.{delay_of, impulse_of, IsTreeOf}
+use Rattle.rc_tree.specs.Trees.{Told, delay_of, impulse_of, is_out_of_range, IsTreeOf}
 use Rattle.node_rows.specs.declared.pin_wires.SinkWire.{SinkWire}
 use Rattle.node_rows.specs.declared.pin_wires.PinWire.{PinWire}
 use Rattle.node_rows.specs.declared.pin_wires.Wires.{Wires}
@@ -67,9 +67,21 @@ pub record IsTreeNet (s : Stored) (rc : NetRc) (root : ℕ) (pins : List ℕ) : 
   pub rooted : Contains pins root
   pub drives : drives_at s root ≡ true
 
+-- a tree from a net's driver, over the capacitances that the pins have in a split
+abbrev pub IsSplitTree : Stored → NetRc → ℕ → List ℕ → Split → Told → Type 0
+IsSplitTree s rc root pins split tree = IsTreeOf rc (pin_word s root) (map (pin_cap_at s split) pins) tree
+
+-- a total or a delay of a net leaves its limit in a split
+abbrev pub is_wide_tree : Stored → NetRc → ℕ → List ℕ → Split → Bool
+is_wide_tree s rc root pins split = is_out_of_range rc (pin_word s root) (map (pin_cap_at s split) pins)
+
+-- the late tree; where none is made apart, the early one is that of both splits
+abbrev pub late_of : NetTrees → Told
+late_of trees = unwrap_or trees.late trees.early
+
 pub record AreTrees (s : Stored) (rc : NetRc) (root : ℕ) (pins : List ℕ) (trees : NetTrees) : Type 0 where
-  pub early : IsTreeOf rc (pin_word s root) (map (pin_cap_at s Early) pins) trees.early
-  pub late : IsTreeOf rc (pin_word s root) (map (pin_cap_at s Late) pins) trees.late
+  pub early : IsSplitTree s rc root pins Early trees.early
+  pub late : IsSplitTree s rc root pins Late (late_of trees)
 
 -- the tables have the nets below a number
 pub record AreUpTo (s : Stored) (w : Wires) (bound : ℕ) : Type 0 where

@@ -23,4 +23,4 @@ pub use pin_wires::{NetLoad, PinWire, SinkWire, Wires};
 pub use ports::Ports;
 pub use rows::node_row;
 pub use settings::{Before, NodeAt, Setting, Wired};
-pub use values::{slew_in, values_into};
+pub use values::{delay_into, slew_in};

@@ -8,9 +8,9 @@ ghost use Rattle.timing_defs.specs.Range.{within_some};
 ghost use Rattle.netlist_store.specs.Numbering.{is_number, pin_numbered, owner_number};
 ghost use Rattle.node_rows.specs.Between.{no_values, are_within};
 ghost use Rattle.node_rows.specs.WireTables.{root_slew, told_slew, told_delay, wire_at};
-ghost use Rattle.node_rows.specs.Evaluation.{IsJoined, IsSetting, IsAlong, told_wide, is_row_within, scaled_values};
+ghost use Rattle.node_rows.specs.Evaluation.{IsJoined, IsSetting, IsAlong, told_values, told_wide, is_row_within, scaled_some, scaled_values};
 
-use crate::arcs::{ArcEnds, ArcValues, arc_values};
+use crate::arcs::{ArcEnds, ArcValues, arc_delay, arc_values};
 use crate::pin_wires::PinWire;
 use crate::pins::{drives, own_name};
 use crate::scaling::{factor_of, scaled};
@@ -255,7 +255,7 @@ fn net_values(
 
 /// What an arc brings to a node from another. `OutOfRange` exactly where a quantity of the arc leaves its
 /// limit. Takes no memory.
-pub fn values_into(
+pub(crate) fn values_into(
     setting: &Setting<'_>,
     split: Split,
     to: NodeAt,
@@ -270,5 +270,111 @@ pub fn values_into(
         cell_values(setting, split, to, before)
     } else {
         net_values(setting, split, to, before)
+    }
+}
+
+/// A delay times a factor, where that is within its limit.
+fn scaled_within(delay: i64, factor: u32) -> i64
+    requires delay { unsigned_abs delay ≤ limit }
+    requires factor { factor ≤ 10000000 }
+    requires fine { is_within (rounded (delay *ℤ pos factor) (pos (10 ^ 6))) ≡ true }
+    ensures { result ≡ rounded (delay *ℤ pos factor) (pos (10 ^ 6)) }
+{
+    match scaled(delay, factor) {
+        Ok(product) => product,
+        Err(_) => unreachable!(),
+    }
+}
+
+/// A delay times a factor, where there is one; both are within their limits.
+fn scaled_some(delay: Option<i64>, factor: u32) -> Option<i64>
+    requires delay { within_some delay ≡ true }
+    requires factor { factor ≤ 10000000 }
+    requires fine { within_some (scaled_some delay factor) ≡ true }
+    ensures { result ≡ scaled_some delay factor }
+{
+    match delay {
+        Some(delay) => Some(scaled_within(delay, factor)),
+        None => None,
+    }
+}
+
+/// The delay that the arcs of a cell bring to one of its output pins, from a node with this slew.
+fn inst_delay(
+    setting: &Setting<'_>,
+    split: Split,
+    to: NodeAt,
+    before: &Before<'_>,
+    slew: i64,
+    inst: u32,
+) -> Option<i64>
+    requires setting { IsSetting setting.now }
+    requires joined { IsJoined setting.now.store.now to before.now.node }
+    requires row { is_row_within before.now.row.now ≡ true }
+    requires fine { told_wide setting.now.store.now split to before.now ≡ false }
+    requires drives { option_map is_driver (pin_numbered setting.now.store.now to.pin) ≡ Some true }
+    requires slew { slew_in split before.now.row.now ≡ Some slew }
+    requires inst { owner_number setting.now.store.now to.pin ≡ Some inst }
+    ensures { result ≡ (told_values setting.now.store.now split to before.now).delay }
+{
+    setting.store.laws();
+    let ends = ends_between(setting.store, before.node, to);
+    let arcs = setting.store.cell_at(inst, split).arcs.as_slice();
+    let load = load_at(setting, split, to.pin);
+    let delay = arc_delay(split, arcs, &ends, slew, load);
+    let factor = factor_of(&setting.store.constraints().derates, split, true);
+    scaled_some(delay, factor)
+}
+
+/// The delay that the arcs of a cell bring to a pin that drives; none from a node without a slew, and
+/// none to an input port.
+fn cell_delay(setting: &Setting<'_>, split: Split, to: NodeAt, before: &Before<'_>) -> Option<i64>
+    requires setting { IsSetting setting.now }
+    requires joined { IsJoined setting.now.store.now to before.now.node }
+    requires row { is_row_within before.now.row.now ≡ true }
+    requires fine { told_wide setting.now.store.now split to before.now ≡ false }
+    requires drives { option_map is_driver (pin_numbered setting.now.store.now to.pin) ≡ Some true }
+    ensures { result ≡ (told_values setting.now.store.now split to before.now).delay }
+{
+    setting.store.laws();
+    let slew = slew_in(before.row, split)?;
+    let inst = setting.store.inst_of(to.pin)?;
+    inst_delay(setting, split, to, before, slew, inst)
+}
+
+/// The delay that the wire to a sink brings to it; none from a node without a slew.
+fn net_delay(setting: &Setting<'_>, split: Split, to: NodeAt, before: &Before<'_>) -> Option<i64>
+    requires setting { IsSetting setting.now }
+    requires joined { IsJoined setting.now.store.now to before.now.node }
+    requires fine { told_wide setting.now.store.now split to before.now ≡ false }
+    requires drives { option_map is_driver (pin_numbered setting.now.store.now to.pin) ≡ Some false }
+    ensures { result ≡ (told_values setting.now.store.now split to before.now).delay }
+{
+    setting.store.laws();
+    slew_in(before.row, split)?;
+    let wire = setting.wires.wire(to.pin);
+    let factor = factor_of(&setting.store.constraints().derates, split, false);
+    Some(scaled_within(wire_delay(&wire, split), factor))
+}
+
+/// The delay that an arc brings to a node from another, where no quantity of the arc leaves its limit.
+/// Of the tables of arcs it looks up those of delays alone. Takes no memory.
+pub fn delay_into(
+    setting: &Setting<'_>,
+    split: Split,
+    to: NodeAt,
+    before: &Before<'_>,
+) -> Option<i64>
+    requires setting { IsSetting setting.now }
+    requires joined { IsJoined setting.now.store.now to before.now.node }
+    requires row { is_row_within before.now.row.now ≡ true }
+    requires fine { told_wide setting.now.store.now split to before.now ≡ false }
+    ensures value { result ≡ (told_values setting.now.store.now split to before.now).delay }
+    ensures within { within_some result ≡ true }
+{
+    if drives(setting.store, to.pin) {
+        cell_delay(setting, split, to, before)
+    } else {
+        net_delay(setting, split, to, before)
     }
 }

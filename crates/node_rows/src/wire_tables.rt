@@ -3,25 +3,25 @@
 ghost use Rattle.rc_tree.specs.declared.faults.RcFault.TheVariants as rc_fault;
 ghost use Rattle.std.specs.Prelude.{◌≡◌, ◌⊎◌, ◌+◌, ◌≤◌, Bool, ℕ, length, replicate, true, false, None, Some, All, option_map, option_and_then, IfOk, IfErr, OnOk};
 ghost use Rattle.std.specs.List.{range_with_len};
-ghost use Rattle.std.specs.Option.{option_copied, option_map_or};
+ghost use Rattle.std.specs.Option.{option_copied, option_map_or, unwrap_or};
 ghost use Rattle.sta_units.specs.Numbers.{is_within};
 ghost use Rattle.timing_defs.specs.declared.kinds.Split.TheVariants.{Early, Late};
 ghost use Rattle.timing_defs.specs.Wires.{is_lumped, rc_of, net_load};
 ghost use Rattle.timing_defs.specs.Range.{is_net_origin};
 ghost use Rattle.timing_defs.specs.Checks.{has_cycle};
 ghost use Rattle.netlist_store.specs.Numbering.{is_number, name_at};
-ghost use Rattle.rc_tree.specs.Trees.{IsMeasured, IsTreeOf, is_unreached, is_too_large, is_out_of_range};
+ghost use Rattle.rc_tree.specs.Trees.{Told, IsMeasured, IsTreeOf, is_unreached, is_too_large, is_out_of_range};
 ghost use Rattle.level_workers.specs.Mapped.{IsMap};
 ghost use Rattle.node_rows.specs.PortTables.{ArePorts};
 ghost use Rattle.node_rows.specs.NetPins.{IsOnNet};
 ghost use Rattle.node_rows.specs.WireTables.{AreWires};
-ghost use Rattle.node_rows.specs.NetTrees.{IsSoundNets, IsTreeNet, AreTrees, AreUpTo, IsLarge, is_wide_net};
+ghost use Rattle.node_rows.specs.NetTrees.{IsSoundNets, IsTreeNet, IsSplitTree, AreTrees, AreUpTo, IsLarge, late_of, is_wide_net, is_wide_tree};
 ghost use Rattle.node_rows.specs.FoundNets.{IsFoundNet, IsNetAnswer};
 ghost use Rattle.node_rows.specs.Evaluation.{IsUnfit};
 
 use crate::found_nets::{FoundNet, put_found};
 use crate::loads::{bare_load, lumped_load, pins_on};
-use crate::net_trees::{NetTrees, driver_of, pin_caps, wires_to};
+use crate::net_trees::{NetTrees, driver_of, have_one_cap, pin_caps, wires_to};
 use crate::pin_wires::{NetLoad, PinWire, Wires};
 use crate::ports::Ports;
 use crate::unfit::Unfit;
@@ -63,6 +63,53 @@ fn tree_of(alloc: Global, net: &NetRc, root: &Name, caps: &Items<PinCap>) -> Res
     }
 }
 
+/// The tree of a net with resistors in a split, from its driver. `Range` exactly where a total or a
+/// delay leaves its limit in the split.
+fn split_tree(
+    alloc: Global,
+    store: &Store,
+    ports: &Ports,
+    split: Split,
+    rc: &NetRc,
+    root: u32,
+    pins: &[u32],
+) -> Result<Tree, Unfit>
+    requires net { IsTreeNet store.now rc.now root pins.now }
+    requires ports { ArePorts store.now.design.constraints ports.now }
+    ensures tree { IfOk result (IsSplitTree store.now rc.now root pins.now split) }
+    ensures fine { OnOk result (is_wide_tree store.now rc.now root pins.now split ≡ false) }
+    ensures err { IfErr result (IsUnfit (is_wide_tree store.now rc.now root pins.now split)) }
+{
+    store.laws();
+    let name = store.pin_name(root);
+    let caps = pin_caps(alloc, store, ports, split, pins)?;
+    tree_of(alloc, rc, name, &caps)
+}
+
+/// The late tree of a net with resistors where a pin's capacitances differ; none where the early tree is
+/// that of both splits. `Range` only where a total or a delay leaves its limit late.
+fn own_late_tree(
+    alloc: Global,
+    store: &Store,
+    ports: &Ports,
+    rc: &NetRc,
+    root: u32,
+    pins: &[u32],
+) -> Result<Option<Tree>, Unfit>
+    requires net { IsTreeNet store.now rc.now root pins.now }
+    requires ports { ArePorts store.now.design.constraints ports.now }
+    ensures tree { IfOk result (λ late. (early : Told) → IsSplitTree store.now rc.now root pins.now Early early → IsSplitTree store.now rc.now root pins.now Late (unwrap_or late early)) }
+    ensures fine { OnOk result (is_wide_tree store.now rc.now root pins.now Early ≡ false → is_wide_tree store.now rc.now root pins.now Late ≡ false) }
+    ensures err { IfErr result (IsUnfit (is_wide_tree store.now rc.now root pins.now Late)) }
+{
+    store.laws();
+    if have_one_cap(store, ports, pins) {
+        return Ok(None);
+    }
+    let late = split_tree(alloc, store, ports, Split::Late, rc, root, pins)?;
+    Ok(Some(late))
+}
+
 /// The trees of a net with resistors, from its driver. `Range` exactly where a total or a delay of the
 /// net leaves its limit.
 fn net_trees(
@@ -80,11 +127,8 @@ fn net_trees(
     ensures err { IfErr result (IsUnfit (is_net_origin store.now.design rc.now.net)) }
 {
     store.laws();
-    let name = store.pin_name(root);
-    let early_caps = pin_caps(alloc, store, ports, Split::Early, pins)?;
-    let early = tree_of(alloc, rc, name, &early_caps)?;
-    let late_caps = pin_caps(alloc, store, ports, Split::Late, pins)?;
-    let late = tree_of(alloc, rc, name, &late_caps)?;
+    let early = split_tree(alloc, store, ports, Split::Early, rc, root, pins)?;
+    let late = own_late_tree(alloc, store, ports, rc, root, pins)?;
     Ok(NetTrees { early, late })
 }
 
@@ -110,11 +154,11 @@ fn tree_root(store: &Store, net: u32, rc: &NetRc, pins: &[u32]) -> u32
 /// The loads that the trees of a net tell.
 fn tree_load(trees: &NetTrees) -> NetLoad
     ensures early { result.early.0 ≡ trees.now.early.load }
-    ensures late { result.late.0 ≡ trees.now.late.load }
+    ensures late { result.late.0 ≡ (late_of trees.now).load }
 {
     NetLoad {
         early: trees.early.load(),
-        late: trees.late.load(),
+        late: trees.late_tree().load(),
     }
 }
 

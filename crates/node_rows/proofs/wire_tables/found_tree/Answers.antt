@@ -3,7 +3,7 @@ use Rattle.timing_defs.specs.declared.kinds.Split.TheVariants.{Early, Late}
 use Rattle.timing_defs.specs.Range.{is_net_origin}
 use Rattle.node_rows.specs.declared.unfit.Unfit.TheVariants.{Memory}
 use Rattle.node_rows.specs.Evaluation.{IsUnfit}
-use Rattle.node_rows.specs.NetTrees.{is_wide_net}
+use Rattle.node_rows.specs.NetTrees.{is_wide_net, late_of}
 use Rattle.node_rows.proofs.FoundLaws.{tree_found}
 use Rattle.node_rows.proofs.ResultLaws.{handed_up}
 use Rattle.node_rows.proofs.TreeSteps.{wide_as, all_nodes}
@@ -18,7 +18,7 @@ wires_to-requires-clause-early c =
 pub wires_to-requires-clause-late : goal.wires_to-requires-clause-late
 wires_to-requires-clause-late c =
     all_nodes c.args.store.now c.laws.ensures.numbered c.laws.ensures.linked c.args.rc.now c.tree_root-root.result c.pins_on-pins.result.now c.tree_root-root.ensures
-    Late c.in_ok-trees.trees.late c.in_ok-trees.ensures.trees.late
+    Late (late_of c.in_ok-trees.trees) c.in_ok-trees.ensures.trees.late
 
 pub returns-in_err-trees-clause-err : goal.returns-in_err-trees-clause-err
 returns-in_err-trees-clause-err c =
