@@ -1,6 +1,6 @@
 -- The delays along the arcs of a design, by the numbers of nodes.
 
-use Rattle.std.specs.Prelude.{ℕ, ◌≡◌, ◌<◌, ℤ, true, false, if◌then◌else◌, List, [], map, length, find, get_or, Contains, Option, None, Some, option_and_then, nat_eq, IfSome}
+use Rattle.std.specs.Prelude.{ℕ, ◌≡◌, ◌<◌, ℤ, true, false, List, [], map, length, find, get_or, Contains, Option, option_and_then, nat_eq, IfSome}
 use Rattle.sta_units.specs.Numbers.{Within}
 use Rattle.timing_defs.specs.declared.kinds.Split.{Split}
 use Rattle.timing_defs.specs.declared.kinds.Split.TheVariants.{Early, Late}
@@ -8,7 +8,7 @@ use Rattle.timing_defs.specs.declared.design.Design.{Design}
 use Rattle.timing_defs.specs.declared.rows.NodeRow.{NodeRow}
 use Rattle.timing_defs.specs.Netlist.{Node, nodes}
 use Rattle.timing_defs.specs.Rows.{arcs_in, row, delay}
-use Rattle.netlist_store.specs.Numbering.{Stored, is_number}
+use Rattle.netlist_store.specs.Numbering.{Stored}
 use Rattle.node_rows.specs.declared.settings.NodeAt.{NodeAt}
 use Rattle.node_rows.specs.declared.settings.Setting.{Setting}
 use Rattle.node_rows.specs.Evaluation.{is_row_within, is_wide_along, IsSetting}
@@ -18,11 +18,9 @@ use Rattle.pin_graph.specs.Graphs.{Graphed, IsArc, fan_at, network_at}
 use Rattle.pin_graph.specs.RowTables.{AreRows}
 use Rattle.arc_delays.specs.declared.tables.ArcDelay.{ArcDelay}
 
--- a node by its pin's number; none of a gap
-abbrev pub place_told : Graphed → ℕ → Option NodeAt
-place_told g node =
-    (if is_number g.stored.pins (pin_under node)
-    then Some (record { pin = pin_under node; tran = tran_under node; network = network_at g node }) else None)
+-- a node by its pin's number
+abbrev pub node_told : Graphed → ℕ → NodeAt
+node_told g node = record { pin = pin_under node; tran = tran_under node; network = network_at g node }
 
 -- the delay from one node's number to another's
 abbrev pub delay_numbered : Stored → Split → ℕ → ℕ → Option ℤ

@@ -1,52 +1,56 @@
-//! The delay along one arc.
+//! The delays along one arc.
 
-ghost use Rattle.std.specs.Prelude.{◌≡◌, ◌<◌, IfSome};
-ghost use Rattle.sta_units.specs.Numbers.{Within};
-ghost use Rattle.pin_graph.specs.Nodes.{node_bound};
+ghost use Rattle.std.specs.Prelude.{◌≡◌, ◌<◌, true};
+ghost use Rattle.netlist_store.specs.Numbering.{is_number};
+ghost use Rattle.pin_graph.specs.Nodes.{node_bound, pin_under};
 ghost use Rattle.pin_graph.specs.Graphs.{IsArc};
-ghost use Rattle.arc_delays.specs.Delays.{place_told, delay_numbered, IsFound};
+ghost use Rattle.arc_delays.specs.Delays.{node_told, arc_delay, IsFound};
 
+use crate::tables::ArcDelay;
 use cow_table::CowTable;
-use node_rows::{Before, NodeAt, Setting, values_into};
+use node_rows::{Before, NodeAt, Setting, delay_into};
 use pin_graph::{Graph, GraphArc};
 use timing_defs::{NodeRow, Split};
 
-/// A node by its pin's number; none of a gap.
-fn place_of(graph: &Graph, node: u32) -> Option<NodeAt>
-    requires { node < node_bound graph.now.stored }
-    ensures { result ≡ place_told graph.now node }
+/// A node by its pin's number.
+fn node_of(graph: &Graph, node: u32) -> NodeAt
+    requires below { node < node_bound graph.now.stored }
+    requires there { is_number graph.now.stored.pins (pin_under node) ≡ true }
+    ensures { result ≡ node_told graph.now node }
 {
-    let pin = graph.pin_of(node)?;
-    Some(NodeAt {
-        pin,
-        tran: graph.tran_of(node),
-        network: graph.is_network(node),
-    })
+    match graph.pin_of(node) {
+        Some(pin) => NodeAt {
+            pin,
+            tran: graph.tran_of(node),
+            network: graph.is_network(node),
+        },
+        None => unreachable!(),
+    }
 }
 
-/// The delay along an arc in fs, where there is one. Takes no memory.
-pub(crate) fn delay_along(
+/// The delays along an arc in both splits. Takes no memory.
+pub(crate) fn delays_along(
     setting: &Setting<'_>,
     graph: &Graph,
     rows: &CowTable<NodeRow>,
-    split: Split,
     arc: &GraphArc,
-) -> Option<i64>
+) -> ArcDelay
     requires found { IsFound setting.now graph.now rows.now }
     requires arc { IsArc graph.now.stored arc.now }
-    ensures delay { result ≡ delay_numbered graph.now.stored split arc.now.from arc.now.to }
-    ensures within { IfSome result (λ delay. Within delay) }
+    ensures { result ≡ arc_delay graph.now.stored arc.now }
 {
     setting.store.laws();
     graph.laws();
-    let from = place_of(graph, arc.from)?;
-    let to = place_of(graph, arc.to)?;
+    let to = node_of(graph, arc.to);
     let before = Before {
-        node: from,
+        node: node_of(graph, arc.from),
         row: rows.get(arc.from as usize),
     };
-    match values_into(setting, split, to, &before) {
-        Ok(values) => values.delay,
-        Err(_) => unreachable!(),
+    let early = delay_into(setting, Split::Early, to, &before);
+    let late = delay_into(setting, Split::Late, to, &before);
+    ArcDelay {
+        from: arc.from,
+        early,
+        late,
     }
 }

@@ -11,7 +11,7 @@ ghost use Rattle.pin_graph.specs.Graphs.{fan_at, IsArc};
 ghost use Rattle.pin_graph.specs.RowTables.{AreRows, AreRowsFine};
 ghost use Rattle.arc_delays.specs.Delays.{delay_in, arc_delay, delay_told, AreInto, AreDelays, IsFound};
 
-use crate::along::delay_along;
+use crate::along::delays_along;
 use cow_table::CowTable;
 use level_workers::map_level;
 use node_rows::Setting;
@@ -85,24 +85,6 @@ fn delay_from(delays: &[ArcDelay], split: Split, from: u32) -> Option<i64>
     }
 }
 
-/// The delays of an arc in both splits.
-fn arc_delay(
-    setting: &Setting<'_>,
-    graph: &Graph,
-    rows: &CowTable<NodeRow>,
-    arc: &GraphArc,
-) -> ArcDelay
-    requires found { IsFound setting.now graph.now rows.now }
-    requires arc { IsArc graph.now.stored arc.now }
-    ensures { result ≡ arc_delay graph.now.stored arc.now }
-{
-    ArcDelay {
-        from: arc.from,
-        early: delay_along(setting, graph, rows, Split::Early, arc),
-        late: delay_along(setting, graph, rows, Split::Late, arc),
-    }
-}
-
 /// The delays of some arcs.
 fn arc_delays(
     alloc: Global,
@@ -117,7 +99,7 @@ fn arc_delays(
 {
     let mut delays = Items::with_room(alloc, arcs.len())?;
     for arc in arcs {
-        delays.push(arc_delay(setting, graph, rows, arc))?;
+        delays.push(delays_along(setting, graph, rows, arc))?;
     }
     Ok(delays)
 }
