@@ -13,6 +13,7 @@ pub mod Members
 pub mod MergeLaws
 pub mod NetworkLaws
 pub mod NodeLaws
+pub mod OwnLaws
 pub mod PinLaws
 pub mod PinNames
 pub mod PlaceLaws

@@ -5,6 +5,7 @@ use Rattle.std.specs.List.{filter_map, flat_map, range_with_len}
 use Rattle.std.specs.Option.{option_map_or}
 use Rattle.timing_defs.specs.declared.kinds.Split.TheVariants.{Late}
 use Rattle.timing_defs.specs.declared.library.CellArc.{CellArc}
+use Rattle.timing_defs.specs.declared.library.CellPin.{CellPin}
 use Rattle.timing_defs.specs.declared.netlist.Inst.{Inst}
 use Rattle.timing_defs.specs.Netlist.{Pin, name_of, full_name, net_of, is_driver, driver, cell_of}
 use Rattle.timing_defs.specs.Clocking.{cell_arcs}
@@ -15,6 +16,10 @@ use Rattle.pin_graph.specs.declared.pin_arcs.PinArc.{PinArc}
 -- the number of a pin of an instance, by its name in the cell
 abbrev pub own_number : Stored → Inst → List ℕ → Option ℕ
 own_number s inst own = number_of s.pins (full_name (Some inst) own)
+
+-- the numbers of pins of an instance's cell, in their order
+abbrev pub own_numbers : Stored → Inst → List CellPin → List (Option ℕ)
+own_numbers s inst pins = map (λ pin. own_number s inst pin.name) pins
 
 -- an arc of an instance's cell, between the numbers of its pins
 abbrev pub pin_arc : CellArc → ℕ → ℕ → PinArc
