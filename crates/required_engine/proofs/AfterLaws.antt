@@ -1,7 +1,7 @@
--- What the arcs out of a node of a graph lead to: the nodes after it with their required times, by numbers.
+-- What the arcs out of a node of a graph lead to: the required times of the nodes after it, by numbers.
 
-use Rattle.std.proofs.Common.{◌≡◌, ℕ, ◌<◌, List, [], ◌∷◌, get_or, All, None, Some, refl, sym, ap, subst, ◌∙◌, inl, inr}
-use Rattle.std.specs.Prelude.{Contains, option_and_then}
+use Rattle.std.proofs.Common.{◌≡◌, ℕ, ◌<◌, ℤ, List, length, get_or, All, Option, None, Some, refl, sym, ap, subst, ◌∙◌}
+use Rattle.std.specs.Prelude.{Contains, slice_get, option_and_then}
 use Rattle.std.specs.Option.{option_map_or}
 use Rattle.std.proofs.lemmas.Option.{slice_get_within}
 use Rattle.std.proofs.lemmas.List.Elements.{All-contains_itself}
@@ -10,45 +10,23 @@ use Rattle.timing_defs.specs.declared.kinds.Tran.{Tran}
 use Rattle.timing_defs.specs.declared.rows.BackRow.{BackRow}
 use Rattle.timing_defs.specs.declared.design.Design.{Design}
 use Rattle.timing_defs.specs.Netlist.{Node}
-use Rattle.timing_defs.specs.Rows.{arcs_in, outermost, time_on, delay, row}
+use Rattle.timing_defs.specs.Rows.{arcs_in, outermost, time_on, delay}
 use Rattle.timing_defs.specs.Required.{arcs_out, other_split, back_times, less_some, back_row, empty_back}
 use Rattle.timing_defs.specs.Cones.{has_register_arc}
 use Rattle.netlist_store.specs.Linked.{IsLinked}
 use Rattle.netlist_store.specs.Numbering.{IsNumbered}
-use Rattle.level_workers.specs.Mapped.{IsMap}
 use Rattle.node_rows.proofs.MergeLaws.{AreMatched, outermost_same}
 use Rattle.pin_graph.specs.declared.arcs.GraphArc.{GraphArc}
 use Rattle.pin_graph.specs.Nodes.{node_at, node_bound}
 use Rattle.pin_graph.specs.Graphs.{Graphed, IsGraph, IsArc, fan_at, kind_between}
 use Rattle.pin_graph.specs.RowTables.{back_numbered}
-use Rattle.pin_graph.proofs.Members.{some_is, none_in, first_in, later_in, in_cases}
 use Rattle.pin_graph.proofs.NodeLaws.{node_told, node_below, has_node, same_node_at}
 use Rattle.pin_graph.proofs.GraphRows.{Stands, high}
-use Rattle.arc_delays.specs.Delays.{delay_numbered}
-use Rattle.required_engine.specs.declared.afters.After.{After}
-use Rattle.required_engine.specs.Behinds.{over_arcs}
-use Rattle.required_engine.specs.Worked.{IsFineBack, AreReady, IsOnward, IsAfter}
+use Rattle.arc_delays.specs.Delays.{delay_numbered, delay_told, AreDelays}
+use Rattle.required_engine.specs.declared.arcs_out.ArcsOut.{ArcsOut}
+use Rattle.required_engine.specs.Behinds.{IsTabled, over_arc, over_arcs}
+use Rattle.required_engine.specs.Worked.{IsFineBack, AreReady}
 use Rattle.required_engine.proofs.BackLaws.{out_in, in_out}
-
--- members of a list and of its map
-module _ {I R : Type 0} (gives : I → R → Type 0) where
-  pub mapped : (xs : List I) (rs : List R) → IsMap gives xs rs → (x : I) → Contains xs x → (r : R) × (Contains rs r × gives x r)
-  mapped [] [] m x c = absurd (none_in x c)
-  mapped [] (r ∷ rs) m x c = absurd m
-  mapped (y ∷ ys) [] m x c = absurd m
-  mapped (y ∷ ys) (r ∷ rs) m x c = elim (in_cases y ys x c) [
-    | inl e ↦ (r, (first_in r rs, subst (λ (z : I). gives z r) e m.0))
-    | inr d ↦ let k = mapped ys rs m.1 x d in (k.0, (later_in r rs k.0 k.1.0, k.1.1))
-  ]
-
-  pub mapped_from : (xs : List I) (rs : List R) → IsMap gives xs rs → (r : R) → Contains rs r → (x : I) × (Contains xs x × gives x r)
-  mapped_from [] [] m r c = absurd (none_in r c)
-  mapped_from [] (s ∷ ss) m r c = absurd m
-  mapped_from (y ∷ ys) [] m r c = absurd m
-  mapped_from (y ∷ ys) (s ∷ ss) m r c = elim (in_cases s ss r c) [
-    | inl e ↦ (y, (first_in y ys, subst (λ (z : R). gives y z) e m.0))
-    | inr d ↦ let k = mapped_from ys ss m.1 r d in (k.0, (later_in y ys k.0 k.1.0, k.1.1))
-  ]
 
 module _ (g : Graphed) (num : IsNumbered g.stored) (linked : IsLinked g.stored.design) (is : IsGraph g) where
   abbrev d : Design
@@ -97,12 +75,8 @@ module _ (g : Graphed) (num : IsNumbered g.stored) (linked : IsLinked g.stored.d
       from_is : node_at g.stored arc.from ≡ Some node
       from_is = ap (node_at g.stored) ((is.outs k low).sound arc c).1 ∙ told
 
-      onward : IsOnward g.stored rows arc
-      onward = record {
-        is = arc_is;
-        below = node_below g.stored arc_is.to arc.to (has_node g.stored num linked arc.to arc_is.to arc_is.to_number);
-        listed = slice_get_within rows arc.to (back_numbered g.stored arc.to) (ready.after arc c).row;
-      }
+      arc_low : arc.to < node_bound g.stored
+      arc_low = node_below g.stored arc_is.to arc.to (has_node g.stored num linked arc.to arc_is.to arc_is.to_number)
 
       -- the delay to a node, by numbers
       delay_is : (split : Split) (to : Node) → node_at g.stored arc.to ≡ Some to → delay_numbered g.stored split arc.from arc.to ≡ delay d split node to
@@ -110,39 +84,47 @@ module _ (g : Graphed) (num : IsNumbered g.stored) (linked : IsLinked g.stored.d
           ap (λ o. option_and_then (λ f. option_and_then (delay d split f) (node_at g.stored arc.to)) o) from_is
           ∙ ap (λ o. option_and_then (delay d split node) o) e
 
-    pub arcs_onward : All (IsOnward g.stored rows) (fan_at g.outs k)
-    arcs_onward = λ i e l. onward (get_or (fan_at g.outs k) i e) (All-contains_itself (fan_at g.outs k) i e l)
-
-    -- the nodes that are found
-    module _ (split : Split) (found : List After) (are_found : IsMap (IsAfter g.stored rows split) (fan_at g.outs k) found) where
-      record IsTo (a : After) (to : Node) : Type 0 where
-        told_row : a.row.now ≡ back_row d to
-        told_delay : a.delay ≡ delay d split node to
-
-      to_is : (arc : GraphArc) (a : After) (to : Node) → Contains (fan_at g.outs k) arc → IsAfter g.stored rows split arc a → node_at g.stored arc.to ≡ Some to → IsTo a to
-      to_is arc a to c i e = record {
-        told_row = some_is (sym i.row ∙ (ready.after arc c).row) ∙ ap (λ o. option_map_or (back_row d) o empty_back) e;
-        told_delay = i.delay ∙ delay_is arc c split to e;
+    -- the arcs with the tables
+    module _ (out : ArcsOut) (arcs : out.arcs.now ≡ fan_at g.outs k) (same : out.rows.now ≡ rows) (delays : AreDelays g.stored out.delays.now) where
+      tabled_arc : (arc : GraphArc) → Contains (fan_at g.outs k) arc → IsTabled out arc
+      tabled_arc arc c = record {
+        row = subst (λ (rs : List BackRow). arc.to < length rs) (sym same) (slice_get_within rows arc.to (back_numbered g.stored arc.to) (ready.after arc c).row);
+        delays = subst (λ (n : ℕ). arc.to < n) (sym delays.count) (arc_low arc c);
       }
 
-      matched : AreMatched found (arcs_out d node) IsTo
+      pub arcs_tabled : All (IsTabled out) out.arcs.now
+      arcs_tabled =
+          subst (λ (xs : List GraphArc). All (IsTabled out) xs) (sym arcs)
+          (λ i e l. tabled_arc (get_or (fan_at g.outs k) i e) (All-contains_itself (fan_at g.outs k) i e l))
+
+      -- an arc of the node, and where it leads
+      record IsTo (arc : GraphArc) (to : Node) : Type 0 where
+        within : Contains (fan_at g.outs k) arc
+        number : node_at g.stored arc.to ≡ Some to
+
+      matched : AreMatched (fan_at g.outs k) (arcs_out d node) IsTo
       matched = record {
-        there = λ a c.
-            (let m = mapped_from (IsAfter g.stored rows split) (fan_at g.outs k) found are_found a c in
-            let o = out_of m.0 m.1.0 in
-            (o.to, in_out g num linked is o.to (m.0.to, has_node g.stored num linked m.0.to o.to o.number) node o.joins, to_is m.0 a o.to m.1.0 m.1.1 o.number));
-        back = λ to c.
-            (let o = onto to c in
-            let m = mapped (IsAfter g.stored rows split) (fan_at g.outs k) found are_found o.0 o.1.0 in
-            (m.0, m.1.0, to_is o.0 m.0 to o.1.0 m.1.1 o.1.1));
+        there = λ arc c.
+            (let o = out_of arc c in
+            (o.to, in_out g num linked is o.to (arc.to, has_node g.stored num linked arc.to o.to o.number) node o.joins, record { within = c; number = o.number }));
+        back = λ to c. (let o = onto to c in (o.0, o.1.0, record { within = o.1.0; number = o.1.1 }));
       }
 
-      pub arcs_told : (edge : ℕ × Tran) → over_arcs split found edge
-          ≡ outermost (other_split split) (λ to. less_some (time_on (back_times split (back_row d to)) edge) (delay d split node to)) None (arcs_out d node)
-      arcs_told edge =
-          outermost_same found (arcs_out d node) IsTo matched (other_split split)
-          (λ (a : After). less_some (time_on (back_times split a.row.now) edge) a.delay)
-          (λ to. less_some (time_on (back_times split (back_row d to)) edge) (delay d split node to))
-          (λ a to c i.
-          ap (λ (r : BackRow). less_some (time_on (back_times split r) edge) a.delay) i.told_row
-          ∙ ap (less_some (time_on (back_times split (back_row d to)) edge)) i.told_delay)
+      module _ (split : Split) (edge : ℕ × Tran) where
+        abbrev less : GraphArc → BackRow → Option ℤ
+        less arc r = less_some (time_on (back_times split r) edge) (delay_told out.delays.now split arc.from arc.to)
+
+        over_arc_is : (arc : GraphArc) (to : Node) → IsTo arc to
+            → over_arc out split edge arc ≡ less_some (time_on (back_times split (back_row d to)) edge) (delay d split node to)
+        over_arc_is arc to i =
+            ap (λ rs. option_and_then (less arc) (slice_get rs arc.to)) same
+            ∙ ap (option_and_then (less arc)) (ready.after arc i.within).row
+            ∙ ap (λ o. less arc (option_map_or (back_row d) o empty_back)) i.number
+            ∙ ap (less_some (time_on (back_times split (back_row d to)) edge)) (delays.each split arc (arc_is arc i.within) ∙ delay_is arc i.within split to i.number)
+
+        pub arcs_told : over_arcs out split edge
+            ≡ outermost (other_split split) (λ to. less_some (time_on (back_times split (back_row d to)) edge) (delay d split node to)) None (arcs_out d node)
+        arcs_told =
+            ap (outermost (other_split split) (over_arc out split edge) None) arcs
+            ∙ outermost_same (fan_at g.outs k) (arcs_out d node) IsTo matched (other_split split) (over_arc out split edge)
+            (λ to. less_some (time_on (back_times split (back_row d to)) edge) (delay d split node to)) (λ arc to c i. over_arc_is arc to i)

@@ -2,6 +2,7 @@ mod AfterLaws
 mod BackLaws
 mod CarriedLaws
 mod ClockLaws
+mod EndLaws
 mod ForwardLaws
 mod ListingLaws
 mod PassLaws

@@ -23,13 +23,12 @@ use Rattle.pin_graph.specs.declared.arcs.GraphArc.{GraphArc}
 use Rattle.pin_graph.specs.Nodes.{node_at, node_bound, node_number}
 use Rattle.pin_graph.specs.Graphs.{Graphed, IsGraph, fan_at, level_at}
 use Rattle.pin_graph.specs.RowTables.{back_numbered, AreBackRows, AreBacksFine, IsRangeFault}
-use Rattle.pin_graph.proofs.Members.{some_is, none_in, in_cases, in_map, in_flat_map_back}
+use Rattle.pin_graph.proofs.Members.{some_is, none_in, first_in, later_in, in_cases, in_map, in_flat_map_back}
 use Rattle.pin_graph.proofs.PinLaws.{pin_told}
 use Rattle.pin_graph.proofs.NodeLaws.{HasNode, node_told, node_below, has_node}
 use Rattle.required_engine.specs.declared.passes.Evaluated.{Evaluated}
 use Rattle.required_engine.specs.Worked.{is_back_within, AreBacksWithin, IsBackRow, IsBackFault, IsDone, AreReady, AreDoneFrom, AreOfLevel, IsAnswer, IsEvaluated}
 use Rattle.required_engine.specs.Leveled.{nodes_of, AreLevels}
-use Rattle.required_engine.proofs.AfterLaws.{mapped, mapped_from}
 use Rattle.required_engine.proofs.TimeLaws.{is_near}
 use Rattle.required_engine.proofs.BackLaws.{times_near}
 
@@ -45,6 +44,26 @@ set_there (y ∷ ys) zero zero x other = absurd (other refl)
 set_there (y ∷ ys) zero (suc j) x other = refl
 set_there (y ∷ ys) (suc i) zero x other = refl
 set_there (y ∷ ys) (suc i) (suc j) x other = set_there ys i j x (λ e. other (ap suc e))
+
+-- members of a list and of its map
+module _ {I R : Type 0} (gives : I → R → Type 0) where
+  mapped : (xs : List I) (rs : List R) → IsMap gives xs rs → (x : I) → Contains xs x → (r : R) × (Contains rs r × gives x r)
+  mapped [] [] m x c = absurd (none_in x c)
+  mapped [] (r ∷ rs) m x c = absurd m
+  mapped (y ∷ ys) [] m x c = absurd m
+  mapped (y ∷ ys) (r ∷ rs) m x c = elim (in_cases y ys x c) [
+    | inl e ↦ (r, (first_in r rs, subst (λ (z : I). gives z r) e m.0))
+    | inr d ↦ let k = mapped ys rs m.1 x d in (k.0, (later_in r rs k.0 k.1.0, k.1.1))
+  ]
+
+  mapped_from : (xs : List I) (rs : List R) → IsMap gives xs rs → (r : R) → Contains rs r → (x : I) × (Contains xs x × gives x r)
+  mapped_from [] [] m r c = absurd (none_in r c)
+  mapped_from [] (s ∷ ss) m r c = absurd m
+  mapped_from (y ∷ ys) [] m r c = absurd m
+  mapped_from (y ∷ ys) (s ∷ ss) m r c = elim (in_cases s ss r c) [
+    | inl e ↦ (y, (first_in y ys, subst (λ (z : R). gives y z) e m.0))
+    | inr d ↦ let k = mapped_from ys ss m.1 r d in (k.0, (later_in y ys k.0 k.1.0, k.1.1))
+  ]
 
 greatest_over : (xs : List ℕ) (x : ℕ) → Contains xs x → x ≤ greatest xs
 greatest_over [] x c = absurd (none_in x c)

@@ -26,7 +26,7 @@ use Rattle.timing_defs.specs.Required.{arcs_out, kind_of, other_split, limit_of,
 use Rattle.timing_defs.specs.Range.{fine_required, required_inputs, is_required_origin, is_need_origin, is_back_origin, is_forward_origin, is_node_origin, is_origin}
 use Rattle.netlist_store.specs.Linked.{IsLinked}
 use Rattle.netlist_store.specs.Numbering.{Stored, name_at, pin_numbered, is_number, IsNumbered}
-use Rattle.level_workers.specs.Mapped.{IsMap}
+use Rattle.arc_delays.specs.Delays.{AreDelays}
 use Rattle.node_rows.specs.Evaluation.{times_on, are_wide_times, IsPlaced}
 use Rattle.node_rows.proofs.ResultLaws.{ok_more, err_more}
 use Rattle.node_tests.specs.declared.node_test.NodeTest.{NodeTest}
@@ -38,16 +38,16 @@ use Rattle.pin_graph.proofs.Members.{some_is, any_in}
 use Rattle.pin_graph.proofs.PinNames.{same_self}
 use Rattle.pin_graph.proofs.PinLaws.{pin_at_number}
 use Rattle.pin_graph.proofs.NodeLaws.{HasNode, under_number, has_node}
-use Rattle.required_engine.specs.declared.afters.After.{After}
+use Rattle.required_engine.specs.declared.arcs_out.ArcsOut.{ArcsOut}
 use Rattle.required_engine.specs.declared.nodes.AskedNode.{AskedNode}
 use Rattle.required_engine.specs.declared.unfit.Unfit.{Unfit}
 use Rattle.required_engine.specs.declared.unfit.Unfit.TheVariants.{Range, Memory}
-use Rattle.required_engine.specs.Behinds.{edge_of, over_tests, over_arcs}
-use Rattle.required_engine.specs.Worked.{IsFineBack, IsAsked, IsBackRow, IsBackFault, AreReady, is_wide_back, IsUnfit, pin_told, IsOnward, IsAfter}
+use Rattle.required_engine.specs.Behinds.{edge_of, over_tests, IsTabled, over_arcs}
+use Rattle.required_engine.specs.Worked.{IsFineBack, IsAsked, IsBackRow, IsBackFault, AreReady, is_wide_back, IsUnfit, pin_told}
 use Rattle.required_engine.proofs.ForwardLaws.{node_listed}
 use Rattle.required_engine.proofs.TestLaws.{limits_told}
 use Rattle.required_engine.proofs.BackLaws.{times_found, wide_found, inputs_fine, time_fine, no_origin}
-use Rattle.required_engine.proofs.AfterLaws.{behind_fine, arcs_onward, arcs_told}
+use Rattle.required_engine.proofs.AfterLaws.{behind_fine, arcs_tabled, arcs_told}
 
 or_first : (a b : Bool) → a ≡ true → (a || b) ≡ true
 or_first true b h = refl
@@ -100,8 +100,8 @@ module _ (g : Graphed) (is : IsGraph g) (rows : List BackRow) (asked : AskedNode
     back_is_told : back_numbered g.stored k ≡ back_row d node
     back_is_told = ap (λ o. option_map_or (back_row d) o empty_back) there.1.0
 
-    onto_all : All (IsOnward g.stored rows) (fan_at g.outs k)
-    onto_all = arcs_onward g num linked is rows k are.below ready node there.1.0
+    onto_all : (out : ArcsOut) → out.arcs.now ≡ fan_at g.outs k → out.rows.now ≡ rows → AreDelays g.stored out.delays.now → All (IsTabled out) out.arcs.now
+    onto_all out arcs tables delays = arcs_tabled g num linked is rows k are.below ready node there.1.0 out arcs tables delays
 
     module _ (fine : AreRowsFine d) (split : Split) (wide : is_wide_numbered g.stored (kind_of split) k ≡ false) where
       own_row : own ≡ row d node
@@ -132,10 +132,10 @@ module _ (g : Graphed) (is : IsGraph g) (rows : List BackRow) (asked : AskedNode
           ∙ sym (ap (λ b. if b then outermost (other_split split) (λ test. Some (limit_of d (kind_of split) edge test)) None (tests_at d (kind_of split) node)
           else outermost (other_split split) (λ to. less_some (time_on (back_times split (back_row d to)) edge) (delay d split node to)) None (arcs_out d node)) (there.1.1 ∙ end))
 
-      over_arcs_is : (found : List After) → IsMap (IsAfter g.stored rows split) (fan_at g.outs k) found → endpoint ≡ false
-          → (edge : ℕ × Tran) → over_arcs split found edge ≡ required_of d split (back_row d) node edge
-      over_arcs_is found are_found end edge =
-          arcs_told g num linked is rows k are.below ready node there.1.0 split found are_found edge
+      over_arcs_is : (out : ArcsOut) → out.arcs.now ≡ fan_at g.outs k → out.rows.now ≡ rows → AreDelays g.stored out.delays.now → endpoint ≡ false
+          → (edge : ℕ × Tran) → over_arcs out split edge ≡ required_of d split (back_row d) node edge
+      over_arcs_is out arcs tables delays end edge =
+          arcs_told g num linked is rows k are.below ready node there.1.0 out arcs tables delays split edge
           ∙ sym (ap (λ b. if b then outermost (other_split split) (λ test. Some (limit_of d (kind_of split) edge test)) None (tests_at d (kind_of split) node)
           else outermost (other_split split) (λ to. less_some (time_on (back_times split (back_row d to)) edge) (delay d split node to)) None (arcs_out d node)) (there.1.1 ∙ end))
 
@@ -150,8 +150,11 @@ module _ (g : Graphed) (is : IsGraph g) (rows : List BackRow) (asked : AskedNode
     own_asked : IsAsked g.stored asked
     own_asked = subst (λ (x : Stored). IsAsked x asked) (sym same) are
 
-    pub arcs_there : All (IsOnward g.stored rows) (fan_at g.outs k)
-    arcs_there = onto_all own_num own_linked own_asked
+    own_delays : (out : ArcsOut) → AreDelays s out.delays.now → AreDelays g.stored out.delays.now
+    own_delays out = subst (λ (x : Stored). AreDelays x out.delays.now) (sym same)
+
+    pub arcs_there : (out : ArcsOut) → out.arcs.now ≡ fan_at g.outs k → out.rows.now ≡ rows → AreDelays s out.delays.now → All (IsTabled out) out.arcs.now
+    arcs_there out arcs tables delays = onto_all own_num own_linked own_asked out arcs tables (own_delays out delays)
 
     module _ (fine : AreRowsFine s.design) (split : Split) (wide : is_wide_numbered s (kind_of split) k ≡ false)
         (f : ℕ × Tran → Option ℤ) where
@@ -175,12 +178,12 @@ module _ (g : Graphed) (is : IsGraph g) (rows : List BackRow) (asked : AskedNode
           ∙ over_tests_is own_num own_linked own_asked own_fine split own_wide tests
           (subst (λ (x : Stored). AreTests x tests (tests_numbered x (kind_of split) k)) (sym same) are_tests) end edge))
 
-      pub arcs_found : (found : List After) → IsMap (IsAfter g.stored rows split) (fan_at g.outs k) found → endpoint ≡ false
-          → ((edge : ℕ × Tran) → f edge ≡ over_arcs split found edge) → Found s
-      arcs_found found are_found end each =
+      pub arcs_found : (out : ArcsOut) → out.arcs.now ≡ fan_at g.outs k → out.rows.now ≡ rows → AreDelays s out.delays.now → endpoint ≡ false
+          → ((edge : ℕ × Tran) → f edge ≡ over_arcs out split edge) → Found s
+      arcs_found out arcs tables delays end each =
           subst Found same
           (told own_num own_linked own_asked own_fine split own_wide f
-          (λ edge. each edge ∙ over_arcs_is own_num own_linked own_asked own_fine split own_wide found are_found end edge))
+          (λ edge. each edge ∙ over_arcs_is own_num own_linked own_asked own_fine split own_wide out arcs tables (own_delays out delays) end edge))
 
 -- a node whose required times are found is fine, and one that is refused is an origin
 module _ (g : Graphed) (s : Stored) (same : g.stored ≡ s) (is : IsGraph g) (num : IsNumbered s) (linked : IsLinked s.design) (rows : List BackRow) (k : ℕ)

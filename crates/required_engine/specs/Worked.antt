@@ -22,11 +22,10 @@ use Rattle.timing_defs.specs.Range.{is_origin, fine_required, is_required_origin
 use Rattle.netlist_store.specs.Numbering.{Stored, name_at, is_number, pin_numbered}
 use Rattle.pin_graph.specs.declared.arcs.GraphArc.{GraphArc}
 use Rattle.pin_graph.specs.Nodes.{node_at, node_bound, pin_under}
-use Rattle.pin_graph.specs.Graphs.{Graphed, IsArc, fan_at, level_at}
+use Rattle.pin_graph.specs.Graphs.{Graphed, fan_at, level_at}
 use Rattle.pin_graph.specs.RowTables.{AreRows, AreRowsFine, row_numbered, back_numbered, IsRangeFault}
 use Rattle.arc_delays.specs.declared.tables.ArcDelay.{ArcDelay}
-use Rattle.arc_delays.specs.Delays.{delay_numbered, AreDelays}
-use Rattle.required_engine.specs.declared.afters.After.{After}
+use Rattle.arc_delays.specs.Delays.{AreDelays}
 use Rattle.required_engine.specs.declared.nodes.AskedNode.{AskedNode}
 use Rattle.required_engine.specs.declared.unfit.Unfit.{Unfit}
 use Rattle.required_engine.specs.declared.unfit.Unfit.TheVariants.{Range, Memory}
@@ -95,17 +94,6 @@ pub record IsAsked (s : Stored) (node : AskedNode) : Type 0 where
   pub below : node.number < node_bound s
   pub row : node.row.now ≡ row_numbered s node.number
   pub endpoint : option_map (is_endpoint s.design) (pin_numbered s (pin_under node.number)) ≡ Some node.endpoint
-
--- an arc of the design that leads to a node of the tables
-pub record IsOnward (s : Stored) (rows : List BackRow) (arc : GraphArc) : Type 0 where
-  pub is : IsArc s arc
-  pub below : arc.to < node_bound s
-  pub listed : arc.to < length rows
-
--- the node to which an arc leads: its row, and the delay of the arc
-pub record IsAfter (s : Stored) (rows : List BackRow) (split : Split) (arc : GraphArc) (after : After) : Type 0 where
-  pub row : slice_get rows arc.to ≡ Some after.row.now
-  pub delay : after.delay ≡ delay_numbered s split arc.from arc.to
 
 -- what is answered for a number: a node's required times, or why it has none
 abbrev pub IsAnswer : Stored → ℕ → Result BackRow Fault → Type 0

@@ -11,7 +11,7 @@ ghost use Rattle.pin_graph.specs.RowTables.{AreRows, AreRowsFine, back_numbered}
 ghost use Rattle.arc_delays.specs.Delays.{AreDelays};
 ghost use Rattle.required_engine.specs.Worked.{AreFound, IsAsked, IsBackRow, IsBackFault, AreReady, is_wide_back, IsUnfit, pin_told};
 
-use crate::afters::afters;
+use crate::arcs_out::ArcsOut;
 use crate::tables::Required;
 use crate::times::{Behind, required_times};
 use crate::unfit::Unfit;
@@ -43,7 +43,7 @@ struct AskedNode<'a> {
     endpoint: bool,
 }
 
-/// The required times of a node in a split, over its tests or over the nodes to which arcs lead.
+/// The required times of a node in a split, over its tests or over the arcs out of it.
 fn split_times(
     alloc: Global,
     store: &Store,
@@ -71,9 +71,12 @@ fn split_times(
     if node.endpoint {
         return required_times(alloc, store, split, &Behind::Tests(tests), arrived);
     }
-    let found = afters(alloc, graph, delays, rows, split, node.number)?;
-    let arcs = Behind::Arcs(found.as_slice());
-    required_times(alloc, store, split, &arcs, arrived)
+    let out = ArcsOut {
+        rows,
+        delays,
+        arcs: graph.arcs_out(node.number),
+    };
+    required_times(alloc, store, split, &Behind::Arcs(out), arrived)
 }
 
 /// The required times of a node in both splits.
@@ -120,44 +123,65 @@ fn fault_at(alloc: Global, store: &Store, pin: u32, unfit: Unfit) -> Fault
 }
 
 /// The required times of a node with these tests.
-fn tested_back<A: Rows + Delayed>(
+fn tested_back(
     alloc: Global,
     store: &Store,
     graph: &Graph,
-    arrivals: &A,
+    delays: &ArcDelays,
     rows: &CowTable<BackRow>,
-    node: u32,
+    node: &AskedNode<'_>,
     pin: u32,
     setup: &[NodeTest],
     hold: &[NodeTest],
 ) -> Result<BackRow, Fault>
     requires graph { graph.now.stored ≡ store.now }
-    requires found { AreFound store.now (A.rows arrivals.now) (A.delays arrivals.now) }
-    requires node { node < node_bound store.now }
-    requires pin { pin_told store.now node ≡ Some pin }
-    requires ready { AreReady graph.now rows.now node }
-    requires setup { AreTests store.now setup.now (tests_numbered store.now Kind.Setup node) }
-    requires hold { AreTests store.now hold.now (tests_numbered store.now Kind.Hold node) }
-    requires setup_needs { is_wide_numbered store.now Kind.Setup node ≡ false }
-    requires hold_needs { is_wide_numbered store.now Kind.Hold node ≡ false }
-    ensures row { IfOk result (IsBackRow store.now node) }
-    ensures err { IfErr result (IsBackFault store.now node) }
+    requires fine { AreRowsFine store.now.design }
+    requires delays { AreDelays store.now delays.now }
+    requires node { IsAsked store.now node.now }
+    requires pin { pin_told store.now node.now.number ≡ Some pin }
+    requires ready { AreReady graph.now rows.now node.now.number }
+    requires setup { AreTests store.now setup.now (tests_numbered store.now Kind.Setup node.now.number) }
+    requires hold { AreTests store.now hold.now (tests_numbered store.now Kind.Hold node.now.number) }
+    requires setup_needs { is_wide_numbered store.now Kind.Setup node.now.number ≡ false }
+    requires hold_needs { is_wide_numbered store.now Kind.Hold node.now.number ≡ false }
+    ensures row { IfOk result (IsBackRow store.now node.now.number) }
+    ensures err { IfErr result (IsBackFault store.now node.now.number) }
 {
     store.laws();
     graph.laws();
-    let delays = arrivals.delays();
-    let asked = AskedNode {
-        number: node,
-        row: arrivals.row(node),
-        endpoint: is_endpoint(store, pin),
-    };
-    match both_times(alloc, store, graph, delays, rows, &asked, setup, hold) {
+    match both_times(alloc, store, graph, delays, rows, node, setup, hold) {
         Ok(row) => Ok(row),
         Err(unfit) => Err(fault_at(alloc, store, pin, unfit)),
     }
 }
 
-/// The required times of a node, with the tests of each kind found once.
+/// The required times of an endpoint's node; its tests of each kind are found once.
+fn endpoint_back<A: Rows + Delayed>(
+    alloc: Global,
+    store: &Store,
+    graph: &Graph,
+    arrivals: &A,
+    rows: &CowTable<BackRow>,
+    node: &AskedNode<'_>,
+    pin: u32,
+) -> Result<BackRow, Fault>
+    requires graph { graph.now.stored ≡ store.now }
+    requires found { AreFound store.now (A.rows arrivals.now) (A.delays arrivals.now) }
+    requires node { IsAsked store.now node.now }
+    requires pin { pin_told store.now node.now.number ≡ Some pin }
+    requires ready { AreReady graph.now rows.now node.now.number }
+    ensures row { IfOk result (IsBackRow store.now node.now.number) }
+    ensures err { IfErr result (IsBackFault store.now node.now.number) }
+{
+    store.laws();
+    let setup = node_tests(alloc, store, graph, arrivals, node.number, Kind::Setup)?;
+    let hold = node_tests(alloc, store, graph, arrivals, node.number, Kind::Hold)?;
+    let (setup, hold) = (setup.as_slice(), hold.as_slice());
+    let delays = arrivals.delays();
+    tested_back(alloc, store, graph, delays, rows, node, pin, setup, hold)
+}
+
+/// The required times of a node. One whose pin is no endpoint has no tests, and none are looked for.
 fn node_back<A: Rows + Delayed>(
     alloc: Global,
     store: &Store,
@@ -176,15 +200,22 @@ fn node_back<A: Rows + Delayed>(
     ensures err { IfErr result (IsBackFault store.now node) }
 {
     store.laws();
-    let setup = node_tests(alloc, store, graph, arrivals, node, Kind::Setup)?;
-    let hold = node_tests(alloc, store, graph, arrivals, node, Kind::Hold)?;
-    let (setup, hold) = (setup.as_slice(), hold.as_slice());
-    tested_back(alloc, store, graph, arrivals, rows, node, pin, setup, hold)
+    let asked = AskedNode {
+        number: node,
+        row: arrivals.row(node),
+        endpoint: is_endpoint(store, pin),
+    };
+    if asked.endpoint {
+        return endpoint_back(alloc, store, graph, arrivals, rows, &asked, pin);
+    }
+    let delays = arrivals.delays();
+    tested_back(alloc, store, graph, delays, rows, &asked, pin, &[], &[])
 }
 
-/// The required times of a node over those of the nodes to which arcs lead from it, in time of its tests
-/// and of the arcs into these nodes; none of a number that is of no node. `OutOfRange` at the node's pin
-/// where a setup or hold time or a required time of it, in fs, leaves its limit.
+/// The required times of a node over those of the nodes after it; none of a number that is of no node.
+/// `OutOfRange` at the node's pin where a setup or hold time or a required time of it, in fs, leaves its
+/// limit. Each launch edge takes time of the node's tests, or of the arcs into the nodes after it and of
+/// the launch edges there; an endpoint's tests are found once for each kind.
 pub(crate) fn evaluated<A: Rows + Delayed>(
     alloc: Global,
     store: &Store,
@@ -206,10 +237,10 @@ pub(crate) fn evaluated<A: Rows + Delayed>(
     }
 }
 
-/// The required times of a node over those of the nodes to which arcs lead from it, counted as one step,
-/// in time of its tests and of the arcs into these nodes; none of a number that is of no node.
-/// `OutOfRange` at the node's pin where a setup or hold time or a required time of it, in fs, leaves its
-/// limit.
+/// The required times of a node over those of the nodes after it, counted as one step; none of a number
+/// that is of no node. `OutOfRange` at the node's pin where a setup or hold time or a required time of
+/// it, in fs, leaves its limit. Each launch edge takes time of the node's tests, or of the arcs into the
+/// nodes after it and of the launch edges there; an endpoint's tests are found once for each kind.
 pub fn eval_back<A: Rows + Delayed, L>(
     alloc: Global,
     store: &Store,

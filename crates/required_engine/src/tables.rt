@@ -74,7 +74,8 @@ impl Required {
     /// level by level from the highest down, each level's nodes shared between that many threads, the gate
     /// called as each piece of a level begins. The rows are the same whatever the number of workers.
     /// `OutOfRange` at a pin where a setup or hold time or a required time, in fs, leaves its limit. Takes
-    /// time of the nodes, of the tests, and for each node of the square of its arcs in.
+    /// time of the nodes, and for each launch edge at a node of its tests, or of the arcs into the nodes
+    /// after it and of the launch edges there: in all, of the square of each node's arcs in.
     pub fn full<H: Threads + Sync, A: Rows + Delayed + Sync, G: Gate>(
         rt: &H,
         alloc: Global,

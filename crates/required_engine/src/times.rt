@@ -6,10 +6,10 @@ ghost use Rattle.sta_units.specs.Numbers.{is_within};
 ghost use Rattle.timing_defs.specs.Rows.{edge_time};
 ghost use Rattle.timing_defs.specs.Range.{within_some};
 ghost use Rattle.node_rows.specs.Evaluation.{times_on, are_wide_times};
-ghost use Rattle.required_engine.specs.Behinds.{over_behind, edge_of};
+ghost use Rattle.required_engine.specs.Behinds.{AreTabled, over_behind, edge_of};
 ghost use Rattle.required_engine.specs.Worked.{IsUnfit};
 
-use crate::afters::{After, over_arcs};
+use crate::arcs_out::{ArcsOut, over_arcs};
 use crate::limits::over_tests;
 use crate::unfit::Unfit;
 use netlist_store::Store;
@@ -18,11 +18,11 @@ use sta_units::{Fs, LIM};
 use std::alloc::Global;
 use timing_defs::{EdgeTime, EdgeTimes, Split, Tran};
 
-/// What lies behind a node: the tests of an endpoint, or the nodes to which arcs lead from another.
+/// What lies behind a node: the tests of an endpoint, or the arcs out of another.
 #[derive(Clone, Copy, Drop)]
 pub(crate) enum Behind<'a> {
     Tests(&'a [NodeTest]),
-    Arcs(&'a [After<'a>]),
+    Arcs(ArcsOut<'a>),
 }
 
 /// The required time on a launch edge, in fs.
@@ -33,11 +33,12 @@ fn over_behind(
     clock: u32,
     tran: Tran,
 ) -> Option<i128>
+    requires { AreTabled behind.now }
     ensures { result ≡ over_behind store.now.design split behind.now (clock, tran) }
 {
     match behind {
         Behind::Tests(tests) => over_tests(store, split, tests, clock, tran),
-        Behind::Arcs(afters) => over_arcs(split, afters, clock, tran),
+        Behind::Arcs(out) => over_arcs(out, split, clock, tran),
     }
 }
 
@@ -81,6 +82,7 @@ fn add_required(
     behind: &Behind<'_>,
     arrival: &EdgeTime,
 ) -> Result<(), Unfit>
+    requires { AreTabled behind.now }
     ensures times { OnOk result (times.new ≡ times.old ++ option_to_list (option_map (edge_time (edge_of arrival.now)) (over_behind store.now.design split behind.now (edge_of arrival.now)))) }
     ensures fine { OnOk result (within_some (over_behind store.now.design split behind.now (edge_of arrival.now)) ≡ true) }
     ensures err { IfErr result (IsUnfit (not (within_some (over_behind store.now.design split behind.now (edge_of arrival.now))))) }
@@ -98,6 +100,7 @@ pub(crate) fn required_times(
     behind: &Behind<'_>,
     arrived: &[EdgeTime],
 ) -> Result<EdgeTimes, Unfit>
+    requires { AreTabled behind.now }
     ensures times { IfOk result (λ times. times ≡ times_on (over_behind store.now.design split behind.now) (map edge_of arrived.now)) }
     ensures fine { OnOk result (are_wide_times (over_behind store.now.design split behind.now) (map edge_of arrived.now) ≡ false) }
     ensures err { IfErr result (IsUnfit (are_wide_times (over_behind store.now.design split behind.now) (map edge_of arrived.now))) }

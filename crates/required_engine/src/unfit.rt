@@ -1,7 +1,6 @@
 //! Why required times are not found.
 
 use sta_units::Memory;
-use std::alloc::AllocError;
 
 /// A required time leaves its limit, or memory is wanting.
 #[derive(Debug, Clone, Copy, PartialEq, Eq, Drop)]
@@ -17,17 +16,6 @@ impl From<Memory> for Unfit {
     ghost from_gives = { λ _ told. told ≡ unfit.Memory };
 
     fn from(_wanting: Memory) -> Unfit {
-        Unfit::Memory
-    }
-}
-
-impl From<AllocError> for Unfit {
-    ghost use Rattle.std.specs.Prelude.{◌≡◌};
-    ghost use Rattle.required_engine.specs.declared.unfit.Unfit.TheVariants as unfit;
-
-    ghost from_gives = { λ _ told. told ≡ unfit.Memory };
-
-    fn from(_refused: AllocError) -> Unfit {
         Unfit::Memory
     }
 }

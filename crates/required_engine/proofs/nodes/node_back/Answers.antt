@@ -1,15 +1,24 @@
+use Rattle.std.proofs.Common.{Some, ap, ◌∙◌}
 use Rattle.timing_defs.specs.declared.kinds.Kind.TheVariants.{Setup, Hold}
-use Rattle.node_rows.proofs.ResultLaws.{handed_up}
-use Rattle.required_engine.specs.Worked.{IsBackFault}
-use Rattle.required_engine.proofs.SplitLaws.{test_refused}
+use Rattle.required_engine.proofs.EndLaws.{untested_pin}
 use Rattle.required_engine.proofs.nodes.node_back.Goals as goal
 
-pub returns-in_err-setup-clause-err : goal.returns-in_err-setup-clause-err
-returns-in_err-setup-clause-err g c =
-    handed_up c.from_residual.result c.in_err-setup.field-0.0 (IsBackFault c.args.store.now c.args.node) c.from_residual.ensures.1
-    (test_refused c.args.store.now c.laws.ensures.numbered c.laws.ensures.linked c.args.node Setup c.in_err-setup.field-0.0 c.in_err-setup.ensures.err)
+pub tested_back-requires-clause-setup : goal.tested_back-requires-clause-setup
+tested_back-requires-clause-setup g c =
+    (untested_pin c.args.store.now c.laws.ensures.numbered c.laws.ensures.linked c.args.node Setup c.args.pin c.requires.pin
+    (c.is_endpoint.ensures ∙ ap Some c.if-asked.false)).0
 
-pub returns-in_err-hold-clause-err : goal.returns-in_err-hold-clause-err
-returns-in_err-hold-clause-err g c =
-    handed_up c.from_residual-in_err-hold.result c.in_err-hold.field-0.0 (IsBackFault c.args.store.now c.args.node) c.from_residual-in_err-hold.ensures.1
-    (test_refused c.args.store.now c.laws.ensures.numbered c.laws.ensures.linked c.args.node Hold c.in_err-hold.field-0.0 c.in_err-hold.ensures.err)
+pub tested_back-requires-clause-hold : goal.tested_back-requires-clause-hold
+tested_back-requires-clause-hold g c =
+    (untested_pin c.args.store.now c.laws.ensures.numbered c.laws.ensures.linked c.args.node Hold c.args.pin c.requires.pin
+    (c.is_endpoint.ensures ∙ ap Some c.if-asked.false)).0
+
+pub tested_back-requires-clause-setup_needs : goal.tested_back-requires-clause-setup_needs
+tested_back-requires-clause-setup_needs g c =
+    (untested_pin c.args.store.now c.laws.ensures.numbered c.laws.ensures.linked c.args.node Setup c.args.pin c.requires.pin
+    (c.is_endpoint.ensures ∙ ap Some c.if-asked.false)).1
+
+pub tested_back-requires-clause-hold_needs : goal.tested_back-requires-clause-hold_needs
+tested_back-requires-clause-hold_needs g c =
+    (untested_pin c.args.store.now c.laws.ensures.numbered c.laws.ensures.linked c.args.node Hold c.args.pin c.requires.pin
+    (c.is_endpoint.ensures ∙ ap Some c.if-asked.false)).1
