@@ -9,7 +9,7 @@ use crate::sharing::map_shared;
 use arrival_engine::Arrivals;
 use netlist_store::Store;
 use node_tests::is_endpoint;
-use path_search::worst_slack;
+use path_search::{EndpointSlacks, worst_slacks};
 use pessimism_credit::ClockTree;
 use pin_graph::Graph;
 use sta_units::{Fs, Memory};
@@ -111,7 +111,7 @@ pub(crate) fn all_ends(alloc: Global, store: &Store) -> Result<Items<u32>, Memor
     Ok(ends)
 }
 
-/// The slacks of an endpoint, by one search for each kind.
+/// The slacks of an endpoint, by one search for both kinds.
 fn end_slacks(alloc: Global, search: &Search<'_>, pin: u32) -> Result<EndSlacks, Memory>
     requires search { IsSearch search.now }
     requires pin { is_end search.now.store.now pin ≡ true }
@@ -125,8 +125,7 @@ fn end_slacks(alloc: Global, search: &Search<'_>, pin: u32) -> Result<EndSlacks,
     } = *search;
     store.laws();
     let name = store.pin_name(pin);
-    let setup = worst_slack(alloc, store, graph, arrivals, tree, name, Kind::Setup)?;
-    let hold = worst_slack(alloc, store, graph, arrivals, tree, name, Kind::Hold)?;
+    let EndpointSlacks { setup, hold } = worst_slacks(alloc, store, graph, arrivals, tree, name)?;
     Ok(EndSlacks { pin, setup, hold })
 }
 

@@ -1,7 +1,7 @@
 //! The whole timing analysis of a sound design, and the answer to every question about it.
 //!
 //! An analysis holds the slews, arrivals and required times of all nodes, the clock tree, and the slacks
-//! of all endpoints (`analyses`). The slacks of endpoints are found once, by one search for each kind
+//! of all endpoints (`analyses`). The slacks of endpoints are found once, by one search for each endpoint
 //! (`ends`); sums over them (`totals`), the worst of them (`ranking`) and the slack of one (`asking`) are
 //! looked up. A path alone is searched for when it is asked.
 #![tactic(auto)]

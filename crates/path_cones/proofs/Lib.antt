@@ -1,4 +1,5 @@
 pub mod ConeLaws
 pub mod ConeParts
 pub mod Growing
+pub mod Orders
 pub mod PartLaws

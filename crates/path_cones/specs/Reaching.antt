@@ -7,6 +7,7 @@ use Rattle.std.specs.List.Sorted.{IsNonDecreasingBy}
 use Rattle.pin_graph.specs.declared.arcs.GraphArc.{GraphArc}
 use Rattle.pin_graph.specs.Nodes.{node_bound}
 use Rattle.pin_graph.specs.Graphs.{Graphed, network_at, level_at, fan_at}
+use Rattle.path_cones.specs.declared.leveling.Leveled.{Leveled}
 
 abbrev pub is_among : List ℕ → ℕ → Bool
 is_among nodes n = list_any (nat_eq n) nodes
@@ -32,6 +33,16 @@ AreOnce nodes = (a b : ℕ) → a < length nodes → b < length nodes → slice_
 -- how far a node's level is below the greatest number
 abbrev pub depth_at : Graphed → ℕ → ℕ
 depth_at g n = (if nat_lt n (node_bound g.stored) then 2 ^ 32 - 1 - level_at g n else 0)
+
+-- a node with its depth
+abbrev pub leveled_at : Graphed → ℕ → Leveled
+leveled_at g n = record { depth = depth_at g n; node = n }
+
+abbrev pub depth_of : Leveled → ℕ
+depth_of l = l.depth
+
+abbrev pub node_of : Leveled → ℕ
+node_of l = l.node
 
 -- the nodes of a cone, each once, none after one of a lower level
 pub record AreOrdered (g : Graphed) (ends nodes : List ℕ) : Type 0 where

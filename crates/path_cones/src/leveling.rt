@@ -1,13 +1,24 @@
 //! The nodes of a cone by their levels, highest first.
 
-ghost use Rattle.std.specs.Prelude.{◌≡◌, ◌-◌, ◌^◌, OnOk};
-ghost use Rattle.std.specs.List.Sorted.{IsNonDecreasingBy};
+ghost use Rattle.std.specs.Prelude.{◌≡◌, ◌-◌, ◌^◌, [], map, nat_eq, IfOk};
+ghost use Rattle.std.specs.List.Sorted.{IsNonDecreasingBy, IsPermutation};
+ghost use Rattle.indexmap.specs.IndexSet.{insert_all};
 ghost use Rattle.pin_graph.specs.Graphs.{level_at};
-ghost use Rattle.path_cones.specs.Reaching.{depth_at, AreReached, AreOnce};
+ghost use Rattle.path_cones.specs.Reaching.{depth_at, depth_of, leveled_at, node_of, AreReached, AreOrdered};
 
+use crate::reaching::add_node;
 use indexmap::IndexSet;
 use pin_graph::Graph;
 use sta_units::Memory;
+use std::alloc::Global;
+use timing_defs::Items;
+
+/// A node, with how far its level is below the greatest number.
+#[derive(Debug, Clone, Copy, Drop)]
+pub(crate) struct Leveled {
+    pub(crate) depth: u32,
+    pub(crate) node: u32,
+}
 
 /// How far a node's level is below the greatest number; 0 of a number that is of no node.
 fn depth(graph: &Graph, node: u32) -> u32
@@ -20,22 +31,57 @@ fn depth(graph: &Graph, node: u32) -> u32
     }
 }
 
+/// Some nodes with their depths.
+fn with_depths(alloc: Global, graph: &Graph, nodes: &[u32]) -> Result<Items<Leveled>, Memory>
+    ensures { IfOk result (λ made. made ≡ map (leveled_at graph.now) nodes.now) }
+{
+    let mut made = Items::with_room(alloc, nodes.len())?;
+    for node in nodes {
+        made.push(Leveled {
+            depth: depth(graph, *node),
+            node: *node,
+        })?;
+    }
+    Ok(made)
+}
+
 /// Puts nodes of higher levels before those of lower ones.
-#[tactic(auto, using(crate::proofs::Growing::reached_again, crate::proofs::Growing::apart_by))]
-pub(crate) fn sort_by_level(
+fn sort_leveled(nodes: &mut Vec<Leveled>)
+    ensures same { IsPermutation nodes.old.items nodes.new.items }
+    ensures falling { IsNonDecreasingBy depth_of nodes.new.items }
+{
+    nodes.sort_unstable_by_key(
+        |node: &Leveled| -> u32
+            ensures { result ≡ depth_of node.now }
+        { node.depth },
+    );
+}
+
+/// The set of some nodes, in their order.
+fn set_of(alloc: Global, nodes: &[Leveled]) -> Result<IndexSet<u32>, Memory>
+    ensures { IfOk result (λ made. made.keys ≡ insert_all nat_eq [] (map node_of nodes.now)) }
+{
+    let mut made = IndexSet::with_capacity(alloc, nodes.len())?;
+    for leveled in nodes {
+        add_node(&mut made, leveled.node)?;
+    }
+    Ok(made)
+}
+
+/// The nodes of a cone, those of higher levels before those of lower ones. The level of each is looked up
+/// once.
+pub(crate) fn by_level(
+    alloc: Global,
     graph: &Graph,
     ends: &[u32],
-    nodes: &mut IndexSet<u32>,
-) -> Result<(), Memory>
-    requires { AreReached graph.now ends.now nodes.old.keys }
-    ensures reached { OnOk result (AreReached graph.now ends.now nodes.new.keys) }
-    ensures apart { OnOk result (AreOnce nodes.new.keys) }
-    ensures falling { OnOk result (IsNonDecreasingBy (depth_at graph.now) nodes.new.keys) }
+    nodes: &IndexSet<u32>,
+) -> Result<IndexSet<u32>, Memory>
+    requires { AreReached graph.now ends.now nodes.now.keys }
+    ensures { IfOk result (λ ordered. AreOrdered graph.now ends.now ordered.keys) }
 {
-    nodes.sort_by_key(
-        |node: &u32| -> u32
-            ensures { result ≡ depth_at graph.entry.now node.now }
-        { depth(graph, *node) },
-    )?;
-    Ok(())
+    // The end nodes are asked for by the contract alone.
+    let _ = ends;
+    let mut leveled = with_depths(alloc, graph, nodes.as_slice())?.into_vec();
+    sort_leveled(&mut leveled);
+    set_of(alloc, leveled.as_slice())
 }

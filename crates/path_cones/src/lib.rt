@@ -12,4 +12,4 @@ mod leveling;
 mod listing;
 mod reaching;
 
-pub use fans::{FanIn, fan_in};
+pub use fans::{FanIn, FanIns, fan_in, fan_ins};

@@ -1,6 +1,6 @@
 //! The arcs into each node of a cone, by the places of nodes.
 
-ghost use Rattle.std.specs.Prelude.{◌≡◌, ◌++◌, ◌<◌, ◌^◌, All, length, IfOk, OnOk};
+ghost use Rattle.std.specs.Prelude.{◌≡◌, ◌++◌, ◌∷◌, ◌<◌, ◌^◌, [], All, length, nat_eq, position, IfOk, OnOk};
 ghost use Rattle.std.specs.Option.{option_to_list};
 ghost use Rattle.std.specs.List.{filter_map};
 ghost use Rattle.pin_graph.specs.Nodes.{node_bound};
@@ -19,26 +19,42 @@ use std::alloc::Global;
 use timing_defs::{Items, Kind};
 use worst_walks::WalkArc;
 
-/// Where the arcs of a cone and their delays are, and for which tests the delays are.
+/// Where the arcs of a cone and their delays are.
 #[derive(Clone, Copy, Drop)]
 pub(crate) struct Sources<'a> {
     pub(crate) graph: &'a Graph,
     pub(crate) delays: &'a ArcDelays,
-    pub(crate) kind: Kind,
 }
 
-/// An arc by the places of nodes, where it has a delay.
-fn walk_arc(sources: &Sources<'_>, nodes: &IndexSet<u32>, arc: GraphArc) -> Option<WalkArc>
-    requires delays { AreDelays sources.now.graph.now.stored sources.now.delays.now }
-    requires few { length nodes.now.keys < 2 ^ 22 }
-    requires arc { IsArc sources.now.graph.now.stored arc }
-    ensures { result ≡ walk_arc sources.now.graph.now.stored sources.now.kind nodes.now.keys arc }
+/// The place of the node from which an arc leads.
+fn from_place(nodes: &IndexSet<u32>, arc: GraphArc) -> Option<u32>
+    requires { length nodes.now.keys < 2 ^ 22 }
+    ensures { result ≡ position (λ n. nat_eq arc.from n) nodes.now.keys }
 {
-    let delay = delay_along(sources.graph, sources.delays, sources.kind, &arc)?;
-    let from = nodes.get_index_of(&arc.from)?;
+    let place = nodes.get_index_of(&arc.from)?;
+    Some(place as u32)
+}
+
+/// An arc from a place, where there is one and the arc has a delay.
+fn walk_arc(
+    sources: &Sources<'_>,
+    kind: Kind,
+    nodes: &IndexSet<u32>,
+    arc: GraphArc,
+    place: Option<u32>,
+) -> Option<WalkArc>
+    requires delays { AreDelays sources.now.graph.now.stored sources.now.delays.now }
+    requires arc { IsArc sources.now.graph.now.stored arc }
+    requires place { place ≡ position (λ n. nat_eq arc.from n) nodes.now.keys }
+    ensures { result ≡ walk_arc sources.now.graph.now.stored kind nodes.now.keys arc }
+{
+    // The nodes are asked for by the contract alone.
+    let _ = nodes;
+    let delay = delay_along(sources.graph, sources.delays, kind, &arc)?;
+    let from = place?;
     Some(WalkArc {
-        from: from as u32,
-        delay: signed(sources.kind, delay),
+        from,
+        delay: signed(kind, delay),
     })
 }
 
@@ -52,21 +68,27 @@ fn add_arc(arcs: &mut Items<WalkArc>, arc: Option<WalkArc>) -> Result<(), Memory
     }
 }
 
-/// Adds these arcs, by the places of nodes.
+/// Adds these arcs, by the places of nodes, to those of each kind.
 #[tactic(auto, using(crate::proofs::PartLaws::walked_more))]
 fn add_arcs(
     sources: &Sources<'_>,
     nodes: &IndexSet<u32>,
-    arcs: &mut Items<WalkArc>,
+    setup: &mut Items<WalkArc>,
+    hold: &mut Items<WalkArc>,
     into: &[GraphArc],
 ) -> Result<(), Memory>
     requires delays { AreDelays sources.now.graph.now.stored sources.now.delays.now }
     requires few { length nodes.now.keys < 2 ^ 22 }
     requires into { All (IsArc sources.now.graph.now.stored) into.now }
-    ensures { OnOk result (arcs.new ≡ arcs.old ++ filter_map (walk_arc sources.now.graph.now.stored sources.now.kind nodes.now.keys) into.now) }
+    ensures setup { OnOk result (setup.new ≡ setup.old ++ filter_map (walk_arc sources.now.graph.now.stored Kind.Setup nodes.now.keys) into.now) }
+    ensures hold { OnOk result (hold.new ≡ hold.old ++ filter_map (walk_arc sources.now.graph.now.stored Kind.Hold nodes.now.keys) into.now) }
 {
     for arc in into {
-        add_arc(arcs, walk_arc(sources, nodes, *arc))?;
+        let place = from_place(nodes, *arc);
+        let late = walk_arc(sources, Kind::Setup, nodes, *arc, place);
+        let early = walk_arc(sources, Kind::Hold, nodes, *arc, place);
+        add_arc(setup, late)?;
+        add_arc(hold, early)?;
     }
     Ok(())
 }
@@ -78,6 +100,13 @@ pub(crate) struct Listed {
     pub(crate) arcs: Items<WalkArc>,
 }
 
+/// The same for tests of both kinds.
+#[derive(Drop)]
+pub(crate) struct BothListed {
+    pub(crate) setup: Listed,
+    pub(crate) hold: Listed,
+}
+
 /// The number of arcs so far. Fails where it does not fit.
 fn start_after(arcs: &Items<WalkArc>) -> Result<u32, Memory>
     ensures { IfOk result (λ start. start ≡ length arcs.now) }
@@ -85,26 +114,57 @@ fn start_after(arcs: &Items<WalkArc>) -> Result<u32, Memory>
     u32::try_from(arcs.len()).map_err(|_| Memory)
 }
 
-/// Lists the arcs into each node of a cone, in time of the arcs. Fails for want of memory, and where
-/// there are `2^32` arcs or more.
-#[tactic(auto, using(crate::proofs::PartLaws::parts_none))]
+/// Ends the part of a node.
+fn end_part(starts: &mut Items<u32>, arcs: &Items<WalkArc>) -> Result<(), Memory>
+    ensures { OnOk result (starts.new ≡ starts.old ++ length arcs.now ∷ []) }
+{
+    starts.push(start_after(arcs)?)
+}
+
+/// A list of starts before the first part, with room for those of some nodes.
+fn first_start(alloc: Global, count: usize) -> Result<Items<u32>, Memory>
+    requires { count < 2 ^ 22 }
+    ensures { IfOk result (λ starts. starts ≡ 0 ∷ []) }
+{
+    let mut starts = Items::with_room(alloc, count + 1)?;
+    starts.push(0)?;
+    Ok(starts)
+}
+
+/// Lists the arcs into each node of a cone, in time of the arcs. The place of a node from which an arc
+/// leads is looked up once for both kinds. Fails for want of memory, and where there are `2^32` arcs or
+/// more.
 pub(crate) fn list_arcs(
     alloc: Global,
     sources: &Sources<'_>,
     nodes: &IndexSet<u32>,
-) -> Result<Listed, Memory>
+) -> Result<BothListed, Memory>
     requires delays { AreDelays sources.now.graph.now.stored sources.now.delays.now }
     requires few { length nodes.now.keys < 2 ^ 22 }
     requires below { All (λ n. n < node_bound sources.now.graph.now.stored) nodes.now.keys }
-    ensures { IfOk result (λ l. AreParts (length nodes.now.keys) (arcs_placed sources.now.graph.now sources.now.kind nodes.now.keys) l.starts l.arcs) }
+    ensures setup { IfOk result (λ l. AreParts (length nodes.now.keys) (arcs_placed sources.now.graph.now Kind.Setup nodes.now.keys) l.setup.starts l.setup.arcs) }
+    ensures hold { IfOk result (λ l. AreParts (length nodes.now.keys) (arcs_placed sources.now.graph.now Kind.Hold nodes.now.keys) l.hold.starts l.hold.arcs) }
 {
     sources.graph.laws();
-    let mut starts = Items::new(alloc);
-    let mut arcs = Items::new(alloc);
-    starts.push(0)?;
+    let count = nodes.len();
+    let mut late_starts = first_start(alloc, count)?;
+    let mut early_starts = first_start(alloc, count)?;
+    let mut late = Items::with_room(alloc, 2 * count)?;
+    let mut early = Items::with_room(alloc, 2 * count)?;
     for node in nodes.as_slice() {
-        add_arcs(sources, nodes, &mut arcs, followed(sources.graph, *node))?;
-        starts.push(start_after(&arcs)?)?;
+        let into = followed(sources.graph, *node);
+        add_arcs(sources, nodes, &mut late, &mut early, into)?;
+        end_part(&mut late_starts, &late)?;
+        end_part(&mut early_starts, &early)?;
     }
-    Ok(Listed { starts, arcs })
+    Ok(BothListed {
+        setup: Listed {
+            starts: late_starts,
+            arcs: late,
+        },
+        hold: Listed {
+            starts: early_starts,
+            arcs: early,
+        },
+    })
 }

@@ -12,7 +12,7 @@ use sta_units::Memory;
 use std::alloc::Global;
 
 /// Adds a node, where it is not there.
-fn add_node(found: &mut IndexSet<u32>, node: u32) -> Result<(), Memory>
+pub(crate) fn add_node(found: &mut IndexSet<u32>, node: u32) -> Result<(), Memory>
     ensures { OnOk result (found.new.keys ≡ insert_key nat_eq found.old.keys node) }
 {
     match found.insert(node) {
@@ -31,11 +31,14 @@ fn add_sources(found: &mut IndexSet<u32>, arcs: &[GraphArc]) -> Result<(), Memor
     Ok(())
 }
 
+/// Room for the nodes of most cones.
+const ROOM: usize = 1024;
+
 /// Some end nodes, each once.
 fn ends_found(alloc: Global, ends: &[u32]) -> Result<IndexSet<u32>, Memory>
     ensures { IfOk result (λ found. found.keys ≡ insert_all nat_eq [] ends.now) }
 {
-    let mut found = IndexSet::new(alloc);
+    let mut found = IndexSet::with_capacity(alloc, ROOM)?;
     for end in ends {
         add_node(&mut found, *end)?;
     }

@@ -1,6 +1,6 @@
 -- Laws of graphs for a store of which the graph is, as functions have them.
 
-use Rattle.std.proofs.Common.{◌≡◌, ℕ, ◌<◌, ℤ, Bool, true, false, List, ◌∷◌, Option, None, Some, Result, Ok, Err, refl, sym, ap, subst, ◌∙◌}
+use Rattle.std.proofs.Common.{◌≡◌, ℕ, ◌<◌, ◌≤◌, ℤ, Bool, true, false, List, [], ◌∷◌, length, arith, Option, None, Some, Result, Ok, Err, refl, sym, ap, subst, ◌∙◌}
 use Rattle.std.specs.Prelude.{Contains, All, IfOk, IfSome, if◌then◌else◌, option_map, option_and_then}
 use Rattle.timing_defs.specs.declared.kinds.Split.{Split}
 use Rattle.timing_defs.specs.declared.kinds.Kind.{Kind}
@@ -125,6 +125,19 @@ module _ (g : Graphed) (s : Stored) (same : g.stored ≡ s) (num : IsNumbered s)
   pub no_launch : (split : Split) (number : ℕ) → ((node : Node) → node_at s number ≡ Some node → IsLaunchTime s.design split node None) → MayLaunch g split number None
   no_launch split number =
       subst (λ (z : Stored). ((node : Node) → node_at z number ≡ Some node → IsLaunchTime z.design split node None) → MayLaunch g split number None) same (λ h. h)
+
+  -- a node outside the clock network to which an arc leads launches nothing
+  pub passed_over : (number : ℕ) → network_at g number ≡ false → (arcs : List GraphArc) → arcs ≡ fan_at g.ins number → 1 ≤ length arcs
+      → (split : Split) → MayLaunch g split number None
+  passed_over number out arcs into some split =
+      no_launch split number
+      (none_launched split number None refl
+      (start_edge split number out (row_numbered s number) None
+      (by arcs some ∙ ap (λ (xs : List GraphArc). start_told xs (times_in split (row_numbered s number))) into) refl))
+    where
+      by : (xs : List GraphArc) → 1 ≤ length xs → None ≡ start_told xs (times_in split (row_numbered s number))
+      by [] h = absurd (omega (arith, h))
+      by (x ∷ xs) h = refl
 
   pub one_launch : (split : Split) (number : ℕ) (at : LaunchTime) (names : PinNames) (place : Option ℕ) → place ≡ place_at g number → (told : LaunchNode)
       → told.launch ≡ (λ (x : Launch). x) (record { pin = names.pin; cell = names.cell; clock = at.edge.clock }) → told.tran ≡ at.edge.tran → told.time ≡ at.time → told.place ≡ place

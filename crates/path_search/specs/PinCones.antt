@@ -23,6 +23,7 @@ use Rattle.worst_walks.specs.declared.cones.Cone.{Cone}
 use Rattle.worst_walks.specs.Walks.{count_of, delay_between, walk_sum, IsCone, IsOrdered}
 use Rattle.path_cones.specs.declared.fans.FanIn.{FanIn}
 use Rattle.path_cones.specs.FanIns.{IsFanIn}
+use Rattle.path_search.specs.declared.cones.EndNodes.{EndNodes}
 use Rattle.path_search.specs.declared.cones.PinCone.{PinCone}
 use Rattle.path_search.specs.declared.counted.Counted.{Counted}
 use Rattle.path_search.specs.Counts.{counted_edge}
@@ -38,6 +39,15 @@ pub record IsNamedNode (s : Stored) (name : Named) (k : ℕ) : Type 0 where
   pub node : Node
   pub its : node_at s k ≡ Some node
   pub is : named node ≡ name
+
+-- the numbers of a pin's two nodes, which are there
+pub record AreEndNodes (s : Stored) (pin : List ℕ) (ends : EndNodes) : Type 0 where
+  pub rise : IsNamedNode s (pin, Rise) ends.rise
+  pub rise_below : ends.rise < node_bound s
+  pub rise_there : is_number s.pins (pin_under ends.rise) ≡ true
+  pub fall : IsNamedNode s (pin, Fall) ends.fall
+  pub fall_below : ends.fall < node_bound s
+  pub fall_there : is_number s.pins (pin_under ends.fall) ≡ true
 
 -- an end of a cone at the place of a node, with its launches
 pub record IsEndOf (s : Stored) (kind : Kind) (nodes : List ℕ) (node : Node) (end : WalkEnd) : Type 0 where

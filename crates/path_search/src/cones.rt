@@ -7,9 +7,12 @@ ghost use Rattle.timing_defs.specs.Reports.{endpoints};
 ghost use Rattle.pin_graph.specs.Nodes.{node_at, node_bound, pin_under};
 ghost use Rattle.path_cones.specs.Reaching.{is_among};
 ghost use Rattle.path_search.specs.Sources.{AreSources};
-ghost use Rattle.path_search.specs.PinCones.{cone_of, IsNamedNode, IsEndOf, IsPinCone};
+ghost use Rattle.timing_defs.specs.Paths.{named};
+ghost use Rattle.path_cones.specs.FanIns.{IsFanIn};
+ghost use Rattle.path_search.specs.Offers.{AreOffers};
+ghost use Rattle.path_search.specs.PinCones.{cone_of, AreEndNodes, IsNamedNode, IsEndOf, IsPinCone};
 
-use crate::offers::offers;
+use crate::offers::{PinOffers, offers};
 use crate::sources::Sources;
 use arc_delays::Delayed;
 use netlist_store::Store;
@@ -17,8 +20,8 @@ use path_cones::{FanIn, fan_in};
 use pin_graph::Graph;
 use sta_units::Memory;
 use std::alloc::Global;
-use timing_defs::{Items, Name, Rows, Tran};
-use worst_walks::{Cone, WalkEnd};
+use timing_defs::{Items, Kind, Name, Rows, Tran};
+use worst_walks::{Cone, Launch, WalkEnd};
 
 /// The cone of a pin's two nodes with the launches of the paths to each, and the graph's numbers of its
 /// nodes by their places.
@@ -26,6 +29,13 @@ use worst_walks::{Cone, WalkEnd};
 pub(crate) struct PinCone {
     pub(crate) nodes: Items<u32>,
     pub(crate) cone: Cone,
+}
+
+/// The numbers of an endpoint's two nodes.
+#[derive(Debug, Clone, Copy, Drop)]
+pub(crate) struct EndNodes {
+    pub(crate) rise: u32,
+    pub(crate) fall: u32,
 }
 
 /// The number of a node of an endpoint.
@@ -40,6 +50,18 @@ fn end_node(store: &Store, graph: &Graph, endpoint: &Name, tran: Tran) -> u32
     match graph.node(endpoint, tran) {
         Some(node) => node,
         None => unreachable!(),
+    }
+}
+
+/// The numbers of the nodes of an endpoint.
+pub(crate) fn end_nodes(store: &Store, graph: &Graph, endpoint: &Name) -> EndNodes
+    requires graph { graph.now.stored ≡ store.now }
+    requires endpoint { Contains (endpoints store.now.design) endpoint.now }
+    ensures { AreEndNodes store.now endpoint.now result }
+{
+    EndNodes {
+        rise: end_node(store, graph, endpoint, Tran::Rise),
+        fall: end_node(store, graph, endpoint, Tran::Fall),
     }
 }
 
@@ -64,25 +86,19 @@ fn place_of(nodes: &[u32], node: u32) -> u32
 }
 
 /// An end node of a fan-in, with the launches of the paths to it.
-fn walk_end<A: Rows + Delayed>(
-    alloc: Global,
-    sources: &Sources<'_, A>,
-    nodes: &[u32],
-    end: u32,
-) -> Result<WalkEnd, Memory>
-    requires sources { AreSources sources.now.store.now sources.now.graph.now (A.rows sources.now.arrivals.now) (A.delays sources.now.arrivals.now) sources.now.tree.now }
-    requires nodes { All (λ n. n < node_bound sources.now.store.now) nodes.now }
-    requires end { end < node_bound sources.now.store.now }
-    requires there { is_number sources.now.store.now.pins (pin_under end) ≡ true }
+fn walk_end(store: &Store, kind: Kind, nodes: &[u32], end: u32, launches: Items<Launch>) -> WalkEnd
     requires among { is_among nodes.now end ≡ true }
     requires few { length nodes.now < 2 ^ 22 }
-    ensures { IfOk result (λ made. (node : Node) → node_at sources.now.store.now end ≡ Some node → IsEndOf sources.now.store.now sources.now.kind nodes.now node made) }
+    requires launches { (node : Node) → node_at store.now end ≡ Some node → AreOffers store.now kind nodes.now (named node) launches }
+    ensures { (node : Node) → node_at store.now end ≡ Some node → IsEndOf store.now kind nodes.now node result }
 {
-    let launches = offers(alloc, sources, nodes, end)?;
-    Ok(WalkEnd {
+    // What the launches are is asked for by the contract alone.
+    let _ = store;
+    let _ = kind;
+    WalkEnd {
         node: place_of(nodes, end),
         launches,
-    })
+    }
 }
 
 /// The cone of a fan-in and two end nodes.
@@ -111,6 +127,28 @@ fn cone_with(alloc: Global, fan: FanIn, rise: WalkEnd, fall: WalkEnd) -> Result<
     })
 }
 
+/// The cone in which the paths to an endpoint are searched, over the fan-in of its nodes.
+pub(crate) fn cone_over<A: Rows + Delayed>(
+    alloc: Global,
+    sources: &Sources<'_, A>,
+    endpoint: &Name,
+    ends: EndNodes,
+    fan: FanIn,
+) -> Result<PinCone, Memory>
+    requires sources { AreSources sources.now.store.now sources.now.graph.now (A.rows sources.now.arrivals.now) (A.delays sources.now.arrivals.now) sources.now.tree.now }
+    requires ends { AreEndNodes sources.now.store.now endpoint.now ends }
+    requires fan { IsFanIn sources.now.graph.now sources.now.kind (ends.rise ∷ ends.fall ∷ []) fan }
+    ensures { IfOk result (IsPinCone sources.now.graph.now sources.now.kind endpoint.now) }
+{
+    // The endpoint is asked for by the contract alone.
+    let _ = endpoint;
+    let nodes = fan.nodes.as_slice();
+    let PinOffers { rise, fall } = offers(alloc, sources, nodes, ends.rise, ends.fall)?;
+    let first = walk_end(sources.store, sources.kind, nodes, ends.rise, rise);
+    let second = walk_end(sources.store, sources.kind, nodes, ends.fall, fall);
+    cone_with(alloc, fan, first, second)
+}
+
 /// The cone in which the paths to an endpoint are searched. Takes the time of the cone's arcs and of
 /// sorting its nodes.
 pub(crate) fn pin_cone<A: Rows + Delayed>(
@@ -122,17 +160,14 @@ pub(crate) fn pin_cone<A: Rows + Delayed>(
     requires endpoint { Contains (endpoints sources.now.store.now.design) endpoint.now }
     ensures { IfOk result (IsPinCone sources.now.graph.now sources.now.kind endpoint.now) }
 {
-    let rise = end_node(sources.store, sources.graph, endpoint, Tran::Rise);
-    let fall = end_node(sources.store, sources.graph, endpoint, Tran::Fall);
+    let ends = end_nodes(sources.store, sources.graph, endpoint);
     let fan = fan_in(
         alloc,
         sources.store,
         sources.graph,
         sources.arrivals.delays(),
-        &[rise, fall],
+        &[ends.rise, ends.fall],
         sources.kind,
     )?;
-    let first = walk_end(alloc, sources, fan.nodes.as_slice(), rise)?;
-    let second = walk_end(alloc, sources, fan.nodes.as_slice(), fall)?;
-    cone_with(alloc, fan, first, second)
+    cone_over(alloc, sources, endpoint, ends, fan)
 }

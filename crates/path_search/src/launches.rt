@@ -1,6 +1,6 @@
 //! The launch nodes of paths: nodes of the clock network, and nodes at which paths start.
 
-ghost use Rattle.std.specs.Prelude.{◌≡◌, ◌<◌, Some, option_map, IfOk};
+ghost use Rattle.std.specs.Prelude.{◌≡◌, ◌<◌, None, Some, option_map, IfOk, IsTrue};
 ghost use Rattle.timing_defs.specs.Netlist.{Node};
 ghost use Rattle.timing_defs.specs.Tests.{data_split};
 ghost use Rattle.timing_defs.specs.Paths.{named};
@@ -117,6 +117,24 @@ fn launch_time(
     Some(LaunchTime { edge, time })
 }
 
+/// Whether a node is seen to launch no path by the graph alone: outside the clock network, with arcs that
+/// lead to it.
+fn is_passed(store: &Store, graph: &Graph, node: u32) -> bool
+    requires graph { graph.now.stored ≡ store.now }
+    requires node { node < node_bound store.now }
+    ensures { IsTrue result → (split : Split) → MayLaunch graph.now split node None }
+{
+    store.laws();
+    graph.laws();
+    if graph.is_network(node) {
+        return false;
+    }
+    match graph.arcs_in(node) {
+        [] => false,
+        [_, ..] => true,
+    }
+}
+
 /// The launch node of a number; none where the node launches no path of the kind.
 pub(crate) fn launch_node<A: Rows>(
     alloc: Global,
@@ -134,6 +152,9 @@ pub(crate) fn launch_node<A: Rows>(
 {
     store.laws();
     graph.laws();
+    if is_passed(store, graph, node) {
+        return Ok(None);
+    }
     let Some(pin) = graph.pin_of(node) else {
         return Ok(None);
     };

@@ -23,5 +23,5 @@ mod test_slacks;
 mod trees;
 
 pub use edges::LaunchEdge;
-pub use searching::{worst_path, worst_slack};
+pub use searching::{EndpointSlacks, worst_path, worst_slack, worst_slacks};
 pub use trees::clock_tree;

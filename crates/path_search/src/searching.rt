@@ -1,30 +1,39 @@
 //! The worst path to an endpoint, and its slack.
 
-ghost use Rattle.std.specs.Prelude.{◌≡◌, Contains, Some, None, option_map, IfOk};
+ghost use Rattle.std.specs.Prelude.{◌≡◌, ◌∷◌, [], Contains, Some, None, option_map, IfOk};
 ghost use Rattle.timing_defs.specs.Checks.{IsSound};
 ghost use Rattle.timing_defs.specs.Range.{NoOrigin};
 ghost use Rattle.timing_defs.specs.Reports.{endpoints};
 ghost use Rattle.timing_defs.specs.Paths.{IsSlack, IsShown};
 ghost use Rattle.arc_delays.specs.Delays.{AreDelays};
 ghost use Rattle.pin_graph.specs.RowTables.{AreRows};
+ghost use Rattle.path_cones.specs.FanIns.{IsFanIn};
 ghost use Rattle.path_search.specs.Sources.{AreSources};
 ghost use Rattle.path_search.specs.Trees.{IsClockTree};
 ghost use Rattle.worst_walks.specs.Walks.{IsLeastSlack, IsWorst};
 ghost use Rattle.path_search.specs.Ranks.{place_rank, places_before};
-ghost use Rattle.path_search.specs.PinCones.{IsPinCone, IsSearchFine, IsWalkPath};
+ghost use Rattle.path_search.specs.PinCones.{AreEndNodes, IsPinCone, IsSearchFine, IsWalkPath};
 
-use crate::cones::{PinCone, pin_cone};
+use crate::cones::{EndNodes, PinCone, cone_over, end_nodes, pin_cone};
 use crate::orders::ByName;
 use crate::shown::path_of;
 use crate::sources::Sources;
 use arc_delays::Delayed;
 use netlist_store::Store;
+use path_cones::{FanIn, FanIns, fan_ins};
 use pessimism_credit::ClockTree;
 use pin_graph::Graph;
 use sta_units::{Fs, Memory};
 use std::alloc::Global;
 use timing_defs::{Kind, Name, Path, Rows};
 use worst_walks::{Walk, least_slack, worst_walk};
+
+/// The slacks of an endpoint in fs; none of a kind of which no path to it is tested.
+#[derive(Debug, Clone, Copy, PartialEq, Eq, Drop)]
+pub struct EndpointSlacks {
+    pub setup: Option<Fs>,
+    pub hold: Option<Fs>,
+}
 
 /// What a search of a pin's cone asks for; the call does nothing.
 fn search_laws(store: &Store, graph: &Graph, kind: Kind, endpoint: &Name, search: &PinCone)
@@ -220,6 +229,77 @@ pub fn worst_slack<A: Rows + Delayed>(
     };
     let search = pin_cone(alloc, &sources, endpoint)?;
     slack_in(alloc, store, graph, kind, endpoint, &search)
+}
+
+/// The slack of an endpoint for a kind of tests, over the fan-in of its nodes.
+fn slack_over<A: Rows + Delayed>(
+    alloc: Global,
+    sources: &Sources<'_, A>,
+    endpoint: &Name,
+    ends: EndNodes,
+    fan: FanIn,
+) -> Result<Option<Fs>, Memory>
+    requires sources { AreSources sources.now.store.now sources.now.graph.now (A.rows sources.now.arrivals.now) (A.delays sources.now.arrivals.now) sources.now.tree.now }
+    requires ends { AreEndNodes sources.now.store.now endpoint.now ends }
+    requires fan { IsFanIn sources.now.graph.now sources.now.kind (ends.rise ∷ ends.fall ∷ []) fan }
+    ensures { IfOk result (λ slack. IsSlack sources.now.store.now.design sources.now.kind endpoint.now (option_map (λ s. s.0) slack)) }
+{
+    let search = cone_over(alloc, sources, endpoint, ends, fan)?;
+    slack_in(
+        alloc,
+        sources.store,
+        sources.graph,
+        sources.kind,
+        endpoint,
+        &search,
+    )
+}
+
+/// The slacks of an endpoint for tests of both kinds, each as `worst_slack` has it. The fan-in is searched
+/// once. The one error is want of memory.
+pub fn worst_slacks<A: Rows + Delayed>(
+    alloc: Global,
+    store: &Store,
+    graph: &Graph,
+    arrivals: &A,
+    tree: &ClockTree,
+    endpoint: &Name,
+) -> Result<EndpointSlacks, Memory>
+    requires graph { graph.now.stored ≡ store.now }
+    requires sound { IsSound store.now.design }
+    requires none { NoOrigin store.now.design }
+    requires rows { AreRows store.now (A.rows arrivals.now) }
+    requires delays { AreDelays store.now (A.delays arrivals.now) }
+    requires tree { IsClockTree graph.now tree.now }
+    requires endpoint { Contains (endpoints store.now.design) endpoint.now }
+    ensures setup { IfOk result (λ slacks. IsSlack store.now.design Kind.Setup endpoint.now (option_map (λ s. s.0) slacks.setup)) }
+    ensures hold { IfOk result (λ slacks. IsSlack store.now.design Kind.Hold endpoint.now (option_map (λ s. s.0) slacks.hold)) }
+{
+    let ends = end_nodes(store, graph, endpoint);
+    let FanIns { setup, hold } = fan_ins(
+        alloc,
+        store,
+        graph,
+        arrivals.delays(),
+        &[ends.rise, ends.fall],
+    )?;
+    let late = Sources {
+        store,
+        graph,
+        arrivals,
+        tree,
+        kind: Kind::Setup,
+    };
+    let early = Sources {
+        store,
+        graph,
+        arrivals,
+        tree,
+        kind: Kind::Hold,
+    };
+    let setup = slack_over(alloc, &late, endpoint, ends, setup)?;
+    let hold = slack_over(alloc, &early, endpoint, ends, hold)?;
+    Ok(EndpointSlacks { setup, hold })
 }
 
 /// The worst path to an endpoint for a kind of tests: of least slack over all paths to it that are
