@@ -377,7 +377,27 @@ fn is_whole(rt: &HostRuntime) -> bool {
     }
 }
 
-/// The milliseconds of a whole analysis.
+/// The milliseconds from a start to the end of a whole analysis with a graph.
+fn analysed<H: Threads + Sync>(
+    rt: &HostRuntime,
+    threads: &H,
+    store: &Store,
+    graph: Graph,
+    workers: u32,
+    start: &Instant,
+) -> Result<u128, Trouble>
+    requires some { 1 ≤ workers }
+    requires most { workers ≤ 32 }
+    requires sound { IsSound store.now.design }
+    requires graph { graph.stored ≡ store.now }
+{
+    match Analysis::full(threads, rt.alloc(), store, graph, workers, &NoGate) {
+        Ok(_) => Ok(since(rt, start)),
+        Err(fault) => Err(Trouble::Design(fault)),
+    }
+}
+
+/// The milliseconds of a whole analysis with a graph.
 fn whole<H: Threads + Sync>(
     rt: &HostRuntime,
     threads: &H,
@@ -390,12 +410,9 @@ fn whole<H: Threads + Sync>(
     requires sound { IsSound store.now.design }
     requires graph { graph.stored ≡ store.now }
 {
-    let start = Instant::now(rt)?;
-    let analysis = Analysis::full(threads, rt.alloc(), store, graph, workers, &NoGate);
-    let taken = since(rt, &start);
-    match analysis {
-        Ok(_) => Ok(taken),
-        Err(fault) => Err(Trouble::Design(fault)),
+    match Instant::now(rt) {
+        Ok(start) => analysed(rt, threads, store, graph, workers, &start),
+        Err(_) => Err(Trouble::Outside),
     }
 }
 
@@ -403,25 +420,21 @@ fn told<H: Threads + Sync>(
     rt: &HostRuntime,
     threads: &H,
     store: &Store,
-    graph: Graph,
+    graph: &Graph,
     workers: u32,
 ) -> Result<(), Trouble>
     requires some { 1 ≤ workers }
     requires most { workers ≤ 32 }
     requires sound { IsSound store.now.design }
-    requires graph { graph.stored ≡ store.now }
+    requires graph { graph.now.stored ≡ store.now }
 {
-    let (forward, both) = timed(rt, threads, store, &graph, workers)?;
+    let (forward, both) = timed(rt, threads, store, graph, workers)?;
     let back = both.saturating_sub(forward);
     println!(rt; "{workers} workers: arrivals {forward} ms, required times {back} ms")?;
-    if is_whole(rt) {
-        let all = whole(rt, threads, store, graph, workers)?;
-        println!(rt; "{workers} workers: analysis {all} ms")?;
-    }
     Ok(())
 }
 
-fn graphed<H: Threads + Sync>(
+fn told_levels<H: Threads + Sync>(
     rt: &HostRuntime,
     threads: &H,
     store: &Store,
@@ -431,16 +444,49 @@ fn graphed<H: Threads + Sync>(
     requires most { workers ≤ 32 }
 {
     match sound_graph(rt.alloc(), store) {
-        Ok(graph) => told(rt, threads, store, graph, workers),
+        Ok(graph) => told(rt, threads, store, &graph, workers),
         Err(fault) => Err(Trouble::Design(fault)),
     }
+}
+
+/// The milliseconds of a whole analysis of a design.
+fn whole_of<H: Threads + Sync>(
+    rt: &HostRuntime,
+    threads: &H,
+    store: &Store,
+    workers: u32,
+) -> Result<u128, Trouble>
+    requires some { 1 ≤ workers }
+    requires most { workers ≤ 32 }
+{
+    match sound_graph(rt.alloc(), store) {
+        Ok(graph) => whole(rt, threads, store, graph, workers),
+        Err(fault) => Err(Trouble::Design(fault)),
+    }
+}
+
+fn told_all<H: Threads + Sync>(
+    rt: &HostRuntime,
+    threads: &H,
+    store: &Store,
+    workers: u32,
+) -> Result<(), Trouble>
+    requires some { 1 ≤ workers }
+    requires most { workers ≤ 32 }
+{
+    told_levels(rt, threads, store, workers)?;
+    if is_whole(rt) {
+        let all = whole_of(rt, threads, store, workers)?;
+        println!(rt; "{workers} workers: analysis {all} ms")?;
+    }
+    Ok(())
 }
 
 fn run<H: Threads + Sync>(rt: &HostRuntime, threads: &H) -> Result<(), Trouble> {
     let store = design(rt)?;
     println!(rt; "{} pins", store.pin_bound())?;
     for workers in [1, 2, 4, 1, 2, 4] {
-        graphed(rt, threads, &store, workers)?;
+        told_all(rt, threads, &store, workers)?;
     }
     Ok(())
 }
