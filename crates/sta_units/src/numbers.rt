@@ -1,6 +1,7 @@
 //! Rounded division and whole square roots.
 
 ghost use Rattle.std.specs.Prelude.{◌≡◌, ◌+◌, ◌*◌, ◌^◌, ◌<◌, ◌≤◌, pos, ◌≤ℤ◌, unsigned_abs};
+ghost use Rattle.std.specs.Int.{int_div_euclid};
 ghost use Rattle.sta_units.specs.Numbers.{rounded, root_of};
 
 /// The greatest absolute value of a computed quantity, in its own unit.
@@ -15,7 +16,18 @@ pub fn rnd(n: i128, d: i128) -> i128
     ensures value { result ≡ rounded n d }
     ensures bound { unsigned_abs result ≤ unsigned_abs n }
 {
-    (2 * n + d).div_euclid(2 * d)
+    quotient(2 * n + d, 2 * d)
+}
+
+/// The whole quotient below, in 64 bits where both numbers fit in them.
+fn quotient(n: i128, d: i128) -> i128
+    requires { pos 1 ≤ℤ d }
+    ensures { result ≡ int_div_euclid n d }
+{
+    match (i64::try_from(n), i64::try_from(d)) {
+        (Ok(narrow), Ok(by)) => i128::from(narrow.div_euclid(by)),
+        _ => n.div_euclid(d),
+    }
 }
 
 /// The greatest `r` with `r * r <= n`, in a step for each binary digit of `r`. Takes no memory.

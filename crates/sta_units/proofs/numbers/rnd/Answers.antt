@@ -14,8 +14,8 @@ returns-clause-value c =
     let double-n : FitsSigned w128 (pos 2 *ℤ c.args.n) = search (rules, ints) in
     let double-d : FitsSigned w128 (pos 2 *ℤ c.args.d) = search (rules, ints) in
     let shifted : FitsSigned w128 (pos 2 *ℤ c.args.n +ℤ c.args.d) = search (rules, ints) in
-    let answer-fits : FitsSigned w128 c.div_euclid.result = search (rules, ints) in
-    simp to_z-of_z (simp to_z-of_z at c.div_euclid.ensures)
+    let answer-fits : FitsSigned w128 c.quotient.result = search (rules, ints) in
+    simp to_z-of_z (simp to_z-of_z at c.quotient.ensures)
 
 pub returns-clause-bound : goal.returns-clause-bound
 returns-clause-bound c =
