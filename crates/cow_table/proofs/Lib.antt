@@ -1,1 +1,4 @@
+pub mod Full
 pub mod Places
+pub mod Writing
+pub mod Parts

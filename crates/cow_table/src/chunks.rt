@@ -1,6 +1,6 @@
 //! The pieces that the copies of a table share.
 
-ghost use Rattle.std.specs.Prelude.{◌≡◌, ◌<◌, [], ◌∷◌, ◌++◌, length, slice_get, slice_set, IfOk, OnOk, OnErr};
+ghost use Rattle.std.specs.Prelude.{◌≡◌, ◌<◌, [], ◌∷◌, ◌++◌, length, replicate, slice_get, slice_set, IfOk, OnOk, OnErr};
 ghost use Rattle.std.specs.Arc.{arc_value};
 
 use sta_units::{Again, Memory};
@@ -62,6 +62,20 @@ impl<T: Drop> Chunk<T> {
         ensures err { OnErr result (self.new ≡ self.old) }
     {
         self.items.push(value).map_err(|_| Memory)
+    }
+}
+
+impl<T: Again + Drop> Chunk<T> {
+    /// A full chunk of copies of an item.
+    pub fn filled(alloc: Global, item: &T) -> Result<Chunk<T>, Memory>
+        ensures { IfOk result (λ chunk. chunk ≡ replicate 256 item.now) }
+    {
+        let mut items = Vec::with_capacity(alloc, CHUNK)?;
+        for at in 0..CHUNK {
+            let _ = at;
+            items.push(item.again(alloc)?).map_err(|_| Memory)?;
+        }
+        Ok(Chunk { items })
     }
 }
 

@@ -2,6 +2,8 @@
 #![tactic(auto)]
 
 mod chunks;
+mod filled;
 mod tables;
+mod writes;
 
 pub use tables::CowTable;

@@ -1,14 +1,18 @@
 //! A list in chunks, which a table shares with its copies.
 
-ghost use Rattle.std.specs.Prelude.{◌≡◌, ◌<◌, ◌≤◌, ◌*◌, ◌/◌, [], ◌∷◌, ◌++◌, length, slice_get, slice_set, IfOk, OnOk, OnErr, flat_map};
+ghost use Rattle.std.specs.Prelude.{◌≡◌, ◌<◌, ◌≤◌, ◌*◌, ◌/◌, [], ◌∷◌, ◌++◌, length, replicate, slice_get, slice_set, IfOk, OnOk, OnErr, flat_map};
 ghost use Rattle.std.specs.Arc.{arc_value};
 ghost use Rattle.cow_table.specs.Pieces.{IsCut};
+ghost use Rattle.cow_table.specs.Writes.{written};
 
 use crate::chunks::{CHUNK, Chunk, push_in, set_in};
+use crate::filled::full_chunks;
+use crate::writes::put_parts;
 use sta_units::{Again, Memory};
 use std::alloc::Global;
 use std::marker::Model;
 use std::sync::Arc;
+use std::thread::Threads;
 
 /// A list whose copies share what they have in common: a copy costs one step for each 256 items,
 /// and the first write to a chunk that is shared copies that chunk alone.
@@ -102,6 +106,54 @@ impl<T: Again + Drop> CowTable<T> {
     }
 }
 
+impl<T: Again + Send + Sync + Drop> CowTable<T> {
+    /// A table of that many copies of an item, made by up to that many threads.
+    pub fn filled<H: Threads + Sync>(
+        rt: &H,
+        alloc: Global,
+        workers: u32,
+        count: usize,
+        item: &T,
+    ) -> Result<CowTable<T>, Memory>
+        ensures { IfOk result (λ table. table ≡ replicate count item.now) }
+    {
+        let full = count / CHUNK;
+        let parts = (workers as usize).min(full / 4 + 1);
+        let chunks = full_chunks(rt, alloc, parts, full, full + 1, item)?;
+        let mut table = CowTable {
+            chunks,
+            len: full * CHUNK,
+            alloc,
+        };
+        for at in full * CHUNK..count {
+            let _ = at;
+            table.push(item.again(alloc)?)?;
+        }
+        Ok(table)
+    }
+
+    /// Writes a copy of each value that is there at its place, in order, by up to that many threads:
+    /// each of them writes some chunks that stand side by side. A place that is not below the number of
+    /// items is passed by. Where memory is wanting some values are written. No copy of the table changes.
+    pub fn put_all<H: Threads + Sync, E: Sync>(
+        &mut self,
+        rt: &H,
+        workers: u32,
+        places: &[u32],
+        values: &[Result<T, E>],
+    ) -> Result<(), Memory>
+        requires { length places.now ≡ length values.now }
+        ensures len { length self.new ≡ length self.old }
+        ensures ok { OnOk result (self.new ≡ written 0 self.old places.now values.now) }
+    {
+        let parts = (workers as usize).min(places.len() / CHUNK + 1).max(1);
+        let chunks = self.chunks.as_mut_slice();
+        put_parts(
+            rt, self.alloc, parts, parts, self.len, places, values, chunks,
+        )
+    }
+}
+
 impl<T: Drop> Again for CowTable<T> {
     fn again(&self, _alloc: Global) -> Result<CowTable<T>, Memory> {
         self.copy()
@@ -128,7 +180,11 @@ fn item_in<T>(chunks: &[Arc<Chunk<T>>], i: usize) -> &T
 }
 
 /// Writes `value` at `i` of the chunks; a refusal leaves the items as they were.
-fn set_at<T: Again + Drop>(chunks: &mut [Arc<Chunk<T>>], i: usize, value: T) -> Result<(), Memory>
+pub(crate) fn set_at<T: Again + Drop>(
+    chunks: &mut [Arc<Chunk<T>>],
+    i: usize,
+    value: T,
+) -> Result<(), Memory>
     requires cut { IsCut arc_value chunks.old }
     requires within { i < length (flat_map arc_value chunks.old) }
     ensures cut { IsCut arc_value chunks.new }
@@ -220,6 +276,22 @@ mod tests {
         }
     }
 
+    /// The places below `count`, and a value for each of them: its own number.
+    fn every_place(
+        alloc: Global,
+        count: u32,
+    ) -> Result<(Vec<u32>, Vec<Result<u64, Memory>>), Memory>
+        ensures { IfOk result (λ all. length all.0.items ≡ length all.1.items) }
+    {
+        let mut places = Vec::new(alloc);
+        let mut values = Vec::new(alloc);
+        for i in 0..count {
+            places.push(i).map_err(|_| Memory)?;
+            values.push(Ok(u64::from(i))).map_err(|_| Memory)?;
+        }
+        Ok((places, values))
+    }
+
     #[test]
     fn a_copy_of_3000_items_is_set_alone(rt: HostRuntime) -> Result<(), Memory> {
         let original = counted(rt.alloc(), 3_000)?;
@@ -241,6 +313,23 @@ mod tests {
             assert_eq!(rt; (original.len(), copy.len()), (count, count + 1));
             assert_counted(&rt, &original, count - 1, 8);
             assert_counted(&rt, &copy, count, 7);
+        }
+        Ok(())
+    }
+
+    #[test]
+    fn threads_fill_a_table_and_write_it(rt: HostRuntime) -> Result<(), Memory> {
+        for (count, workers) in [(0, 4), (255, 1), (3_000, 3), (20_000, 4)] {
+            let len = count as usize;
+            let mut table = CowTable::filled(&rt, rt.alloc(), workers, len, &0)?;
+            assert_eq!(rt; table.len(), len);
+            let before = table.copy()?;
+            let (places, values) = every_place(rt.alloc(), count)?;
+            table.put_all(&rt, workers, places.as_slice(), values.as_slice())?;
+            assert_counted(&rt, &table, len, 0);
+            for i in 0..before.len() {
+                assert_eq!(rt; *before.get(i), 0, "at {i}");
+            }
         }
         Ok(())
     }
