@@ -18,7 +18,7 @@ pub same_self : (a : List ℕ) → bytes_eq a a ≡ true
 same_self a = (bytes_eq-Decides a a).1 refl
 
 pub put_shard : (inside now after : List (List (List ℕ × ℕ))) (name : List ℕ) (place : ℕ) (w : Option ℕ) (old new : List (List ℕ × ℕ))
-    → inside ≡ now → length inside ≡ 16381 → place ≡ shard_of name → place < 16381 → slice_get inside place ≡ Some old
+    → inside ≡ now → length inside ≡ 131101 → place ≡ shard_of name → place < 131101 → slice_get inside place ≡ Some old
     → ((q : List ℕ) → lookup (bytes_eq q) new ≡ cond (bytes_eq name q) w (lookup (bytes_eq q) old))
     → after ≡ set inside place new → (q : List ℕ) → number_under after q ≡ cond (bytes_eq name q) w (number_under now q)
 put_shard inside now after name place w old new view long here low held put written q =

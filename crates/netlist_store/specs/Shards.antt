@@ -8,7 +8,7 @@ use Rattle.timing_defs.specs.Names.{is_name}
 -- the shard of a name: a polynomial of its bytes, by a prime
 abbrev pub shard_from : ℕ → List ℕ → ℕ
 shard_from place [] = place
-shard_from place (byte ∷ bytes) = shard_from ((place * 257 + byte) % 16381) bytes
+shard_from place (byte ∷ bytes) = shard_from ((place * 257 + byte) % 131101) bytes
 
 unfoldable pub shard_of : List ℕ → ℕ
 shard_of name = shard_from 0 name

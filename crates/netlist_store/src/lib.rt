@@ -11,7 +11,7 @@
 //! - `Frame`: libraries, ports and constraints, which no edit changes, behind one `Arc`. `Cells` is
 //!   a library with an `IndexMap` from names to places.
 //! - `Numbering`, one for each kind: the name of each number, in a `CowTable`, and a `NameMap` back.
-//!   A `NameMap` is an `IndexMap` cut into 16,381 shards by a hash of the name. Versions share the
+//!   A `NameMap` is an `IndexMap` cut into 131,101 shards by a hash of the name. Versions share the
 //!   shards, and an edit copies the few that it changes; a resize copies none. A number whose
 //!   name goes waits until the ECO ends, and a name that comes back within it gets its old number:
 //!   thus a number of the base never stands for another name in the edited store. Then the number
@@ -50,7 +50,7 @@
 //! # Costs
 //!
 //! A store is made in time of the design's pins, nets and parasitics; but each name that comes copies
-//! its shard, which has one name in 16,381 (some 12 of 200,000 pins).
+//! its shard, which has one name in 131,101 (some 2 of 200,000 pins).
 //! Each look-up is one or two steps (a hash of the name, or a place in a table) and takes no memory;
 //! `net_pins` gives a slice. A copy of a store shares all chunks: one count for each 256 rows. An
 //! edit of an instance or a net makes its row anew, in time of its connections; nothing goes over

@@ -15,7 +15,7 @@ use std::marker::Model;
 use timing_defs::Name;
 
 /// The number of shards: a prime, so that names spread over them.
-const SHARDS: usize = 16_381;
+const SHARDS: usize = 131_101;
 
 /// The numbers of some names. Contracts see the pairs.
 #[derive(Debug, Drop)]
@@ -89,7 +89,7 @@ impl Shard {
 #[tactic(auto, unfolding(crate::specs::Shards::shard_of))]
 fn shard_of(name: &[u8]) -> usize
     ensures value { result ≡ shard_of name.now }
-    ensures within { result < 16381 }
+    ensures within { result < 131101 }
 {
     let mut place = 0;
     for byte in name {
@@ -113,13 +113,13 @@ impl Model for NameMap {
 
     ghost view = { λ m. m.shards };
 
-    ghost invariant = { λ m. length m.shards ≡ 16381 };
+    ghost invariant = { λ m. length m.shards ≡ 131101 };
 }
 
 /// As many empty shards as a map has, all one.
 fn empty_shards(alloc: Global) -> Result<CowTable<Held<Shard>>, Memory>
     ensures none { IfOk result (λ shards. (q : List ℕ) → number_under shards q ≡ None) }
-    ensures len { IfOk result (λ shards. length shards ≡ 16381) }
+    ensures len { IfOk result (λ shards. length shards ≡ 131101) }
 {
     let empty = Held::of(alloc, Shard::new(alloc))?;
     let mut shards = CowTable::new(alloc);
