@@ -40,9 +40,9 @@ fn joined<R: Drop>(front: Items<R>, back: Items<R>) -> Result<Items<R>, Memory>
     Ok(Items::from_vec(all))
 }
 
-/// The results of some items in that many pieces, in a list with that much room. The pieces are halved at
-/// each step and the first half goes to a new thread, so the stack grows as the logarithm of their number.
-/// The list of the first piece has room for those that are put after it.
+/// The results of some items in that many pieces, in a list with that much room. The last piece goes to a
+/// new thread, and the caller's takes the first: its list has room for the others, so that each of their
+/// results is moved once.
 #[cycle(pieces)]
 fn map_pieces<
     H: Threads + Sync,
@@ -70,17 +70,17 @@ fn map_pieces<
         });
         return map_piece(alloc, items, room, f);
     }
-    let (low, high) = pieces.halves();
-    let (front, back) = items.split_at(low.share(items.len(), pieces.count));
+    let (others, last) = pieces.but_last();
+    let (front, back) = items.split_at(others.share(items.len(), pieces.count));
     let theirs = move || -> Result<Items<R>, Memory>
-        requires { IsSync H.row × IsSync I.row × IsSend R.row × IsSync F.row × IsSync G.row × (low.first + low.count < 2 ^ 32) × F.IsAlwaysCallable f.now }
-        ensures { IfOk result (IsMap (λ x r. FnReturnsAt F.Fn f.entry.now x (Ok r)) front.entry.now) }
-    { map_pieces(rt, alloc, low, front, room, f, gate) };
-    let ours = move || -> Result<Items<R>, Memory>
-        requires { IsSync H.row × IsSync I.row × IsSend R.row × IsSync F.row × IsSync G.row × (high.first + high.count < 2 ^ 32) × F.IsAlwaysCallable f.now }
+        requires { IsSync H.row × IsSync I.row × IsSend R.row × IsSync F.row × IsSync G.row × (last.first + last.count < 2 ^ 32) × F.IsAlwaysCallable f.now }
         ensures { IfOk result (IsMap (λ x r. FnReturnsAt F.Fn f.entry.now x (Ok r)) back.entry.now) }
-    { map_pieces(rt, alloc, high, back, back.len(), f, gate) };
-    let (found, more) = join(rt, theirs, ours);
+    { map_pieces(rt, alloc, last, back, back.len(), f, gate) };
+    let ours = move || -> Result<Items<R>, Memory>
+        requires { IsSync H.row × IsSync I.row × IsSend R.row × IsSync F.row × IsSync G.row × (others.first + others.count < 2 ^ 32) × F.IsAlwaysCallable f.now }
+        ensures { IfOk result (IsMap (λ x r. FnReturnsAt F.Fn f.entry.now x (Ok r)) front.entry.now) }
+    { map_pieces(rt, alloc, others, front, room, f, gate) };
+    let (more, found) = join(rt, theirs, ours);
     let found = found?;
     let more = more?;
     joined(found, more)

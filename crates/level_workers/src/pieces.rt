@@ -1,6 +1,6 @@
 //! Pieces of a level: runs of items that a thread maps one after another.
 
-ghost use Rattle.std.specs.Prelude.{◌≡◌, ◌+◌, ◌/◌, ◌<◌, ◌≤◌, ◌^◌};
+ghost use Rattle.std.specs.Prelude.{◌≡◌, ◌+◌, ◌<◌, ◌≤◌, ◌^◌};
 
 /// Some pieces of a level that follow each other, by the number of the first.
 #[derive(Debug, Clone, Copy, PartialEq, Eq, Drop)]
@@ -11,19 +11,23 @@ pub(crate) struct Pieces {
 }
 
 impl Pieces {
-    /// The first half of the pieces, and the rest.
-    pub(crate) fn halves(self) -> (Pieces, Pieces)
-        requires { self.first + self.count < 2 ^ 32 }
+    /// The pieces but the last, and the last one.
+    pub(crate) fn but_last(self) -> (Pieces, Pieces)
+        requires some { 1 ≤ self.count }
+        requires numbers { self.first + self.count < 2 ^ 32 }
         ensures front_first { result.0.first ≡ self.first }
-        ensures front_count { result.0.count ≡ self.count / 2 }
-        ensures back_first { result.1.first ≡ self.first + self.count / 2 }
-        ensures back_count { result.1.count + self.count / 2 ≡ self.count }
+        ensures front_count { result.0.count + 1 ≡ self.count }
+        ensures back_first { result.1.first + 1 ≡ self.first + self.count }
+        ensures back_count { result.1.count ≡ 1 }
     {
-        let low = self.count / 2;
-        let front = Pieces { count: low, ..self };
+        let others = self.count - 1;
+        let front = Pieces {
+            count: others,
+            ..self
+        };
         let back = Pieces {
-            first: self.first + low,
-            count: self.count - low,
+            first: self.first + others,
+            count: 1,
             ..self
         };
         (front, back)

@@ -5,7 +5,7 @@ abbrev pub decreases-map_pieces : goal.decreases-map_pieces
 decreases-map_pieces g l = 2 * l.pieces.count
 
 abbrev pub decreases-theirs : goal.decreases-theirs
-decreases-theirs g l = 2 * l.low.count + 1
+decreases-theirs g l = 2 * l.last.count + 1
 
 abbrev pub decreases-ours : goal.decreases-ours
-decreases-ours g l = 2 * l.high.count + 1
+decreases-ours g l = 2 * l.others.count + 1
