@@ -357,16 +357,16 @@ fn net_answers<H: Threads + Sync>(
     answers_of(rt, alloc, store, ports, workers, nets.as_slice())
 }
 
-/// A table without wires, of that many pins.
-fn no_wires(alloc: Global, pins: u32) -> Result<CowTable<Option<PinWire>>, Memory>
+/// A table without wires, of that many pins, made by several threads.
+fn no_wires<H: Threads + Sync>(
+    rt: &H,
+    alloc: Global,
+    workers: u32,
+    pins: u32,
+) -> Result<CowTable<Option<PinWire>>, Memory>
     ensures { IfOk result (λ wires. wires ≡ replicate pins None) }
 {
-    let mut wires = CowTable::new(alloc);
-    for at in 0..pins {
-        let _ = at;
-        wires.push(None)?;
-    }
-    Ok(wires)
+    CowTable::filled(rt, alloc, workers, pins as usize, &None)
 }
 
 /// The fault of a net: it is too large, or memory is wanting.
@@ -429,7 +429,7 @@ impl Wires {
         let answers = found.as_slice();
         let mut wires = Wires {
             loads: CowTable::new(alloc),
-            pins: no_wires(alloc, store.pin_bound())?,
+            pins: no_wires(rt, alloc, workers, store.pin_bound())?,
         };
         for net in 0..store.net_bound() {
             put_answer(alloc, store, &mut wires, net, &answers[net as usize])?;
