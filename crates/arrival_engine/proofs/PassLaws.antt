@@ -1,12 +1,13 @@
--- One level of the pass: where the rows below it are the definition's, the rows of its nodes are put, one by
--- one; and at the end all rows are.
+-- One level of the pass: where the rows below it are the definition's, so are those of its nodes once they are
+-- put; and at the end all rows are.
 
-use Rattle.std.proofs.Common.{◌≡◌, ◌≢◌, ◌⊎◌, ℕ, zero, suc, ◌+◌, ◌<◌, ◌≤◌, false, List, [], ◌∷◌, map, length, Some, Result, Ok, Err, refl, sym, ap, subst, ◌∙◌, inl, inr, arith}
-use Rattle.std.specs.Prelude.{Contains, slice_get, slice_set, IfOk, IfErr}
+use Rattle.std.proofs.Common.{◌≡◌, ◌≢◌, ◌⊎◌, ℕ, zero, suc, ◌+◌, ◌<◌, ◌≤◌, true, false, List, [], ◌∷◌, map, length, Some, Result, Ok, Err, refl, sym, ap, subst, ◌∙◌, inl, inr, arith}
+use Rattle.std.specs.Prelude.{◌-◌, nat_le, if◌then◌else◌, Contains, slice_get, slice_set, is_ok, IfOk, IfErr}
+use Rattle.std.specs.List.{list_all}
 use Rattle.std.specs.Arc.{arc_value}
 use Rattle.std.specs.Option.{option_map_or}
 use Rattle.std.proofs.Math.Nat.{le-max_left, le-max_right}
-use Rattle.std.proofs.lemmas.Bool.{cases_eq, cases_lt}
+use Rattle.std.proofs.lemmas.Bool.{false≢true, cases_eq, cases_lt}
 use Rattle.std.proofs.lemmas.List.{length-set}
 use Rattle.timing_defs.specs.declared.design.Design.{Design}
 use Rattle.timing_defs.specs.declared.faults.Fault.{Fault}
@@ -17,6 +18,7 @@ use Rattle.timing_defs.specs.Netlist.{Pin, Node, pins, both_nodes}
 use Rattle.timing_defs.specs.Range.{is_net_origin}
 use Rattle.netlist_store.specs.Linked.{IsLinked}
 use Rattle.netlist_store.specs.Numbering.{Stored, number_of, IsNumbered}
+use Rattle.cow_table.specs.Writes.{put_at, written}
 use Rattle.level_workers.specs.Mapped.{IsMap}
 use Rattle.levelizer.specs.Levels.{greatest}
 use Rattle.node_rows.specs.declared.pin_wires.Wires.{Wires}
@@ -29,14 +31,13 @@ use Rattle.pin_graph.specs.declared.arcs.GraphArc.{GraphArc}
 use Rattle.pin_graph.specs.Nodes.{node_bound, node_number}
 use Rattle.pin_graph.specs.Graphs.{Graphed, IsGraph, fan_at, level_at}
 use Rattle.pin_graph.specs.RowTables.{AreRows, AreRowsFine, IsRangeFault}
-use Rattle.pin_graph.proofs.Members.{none_in, in_cases, in_map, in_flat_map_back}
+use Rattle.pin_graph.proofs.Members.{none_in, first_in, later_in, in_cases, in_map, in_flat_map_back}
 use Rattle.pin_graph.proofs.PinLaws.{there, told_at, pin_told}
 use Rattle.pin_graph.proofs.NodeLaws.{HasNode, node_told, node_below, has_node}
 use Rattle.arrival_engine.specs.declared.tables.Arrivals.{Arrivals}
-use Rattle.arrival_engine.specs.declared.passes.Evaluated.{Evaluated}
-use Rattle.arrival_engine.specs.Analysed.{IsNodeRow, IsNodeFault, IsDone, AreReady, AreDoneBelow, AreOfLevel, IsAnswer, IsEvaluated, IsPlan, AreTables}
+use Rattle.arrival_engine.specs.Analysed.{IsNodeRow, IsNodeFault, IsDone, AreReady, AreDoneBelow, AreOfLevel, IsAnswer, IsLevelAnswer, IsPlan, AreTables}
 use Rattle.arrival_engine.specs.Leveled.{nodes_of, AreLevels}
-use Rattle.arrival_engine.proofs.BeforeLaws.{mapped, mapped_from}
+use Rattle.arrival_engine.proofs.BeforeLaws.{mapped_from}
 
 -- a write to a list, and what stands there afterwards
 pub set_here : {X : Type 0} (xs : List X) (i : ℕ) (x : X) → i < length xs → slice_get (slice_set xs i x) i ≡ Some x
@@ -136,83 +137,93 @@ plan_of setting g s a e f h t same = record {
   same = same ∙ sym e;
 }
 
--- while the rows of a level are put: those that are left, and the nodes of the level that are done
-pub record IsPutting (g : Graphed) (level : ℕ) (rows : List NodeRow) (rest : List Evaluated) : Type 0 where
-  pub below : AreDoneBelow g rows level
-  pub sound : (e : Evaluated) → Contains rest e → (e.node < node_bound g.stored) × ((level_at g e.node ≡ level) × IsAnswer g.stored e.node e.row)
-  pub all : (k : ℕ) → k < node_bound g.stored → level_at g k ≡ level → IsDone g.stored rows k ⊎ ((e : Evaluated) × (Contains rest e × (e.node ≡ k)))
+-- of some answers those that are left: each of all is a row where each of these is, and their faults are among all
+abbrev pub AreLeft : {R F : Type 0} → List (Result R F) → List (Result R F) → Type 0
+AreLeft {F = F} all rest = (list_all is_ok rest ≡ list_all is_ok all) × ((f : F) → Contains rest (Err f) → Contains all (Err f))
+
+pub left_more : {R F : Type 0} (all rest left : List (Result R F)) (answer : Result R F) (row : R) → rest ≡ answer ∷ left → answer ≡ Ok row
+    → AreLeft all rest → AreLeft all left
+left_more {R} {F} all rest left answer row first ok are = (
+  ap (list_all is_ok) (ap (λ (r : Result R F). r ∷ left) (sym ok) ∙ sym first) ∙ are.0,
+  λ f c. are.1 f (subst (λ (rs : List (Result R F)). Contains rs (Err f)) (sym first) (later_in answer left (Err f) c)),
+)
+
+-- where the items are those from place 0 on, a row is put at its place
+put_first : {R : Type 0} (F : Type 0) (rows : List R) (node : ℕ) (told : R) → slice_set rows node told ≡ put_at {E = F} 0 rows node (Ok told)
+unfolding put_at
+put_first F rows node told =
+    let low : true ≡ nat_le 0 node = grind arith in
+    let bare : node ≡ node - 0 = omega arith in
+    ap (λ i. slice_set rows i told) bare ∙ ap (λ b. if b then slice_set rows (node - 0) told else rows) low
+
+-- a row is written that is the definition's, of a node that is fine: it is there, and those that were stay
+module _ (s : Stored) (rows : List NodeRow) (node : ℕ) (told : NodeRow) (low : node < length rows) (is : IsNodeRow s node told) where
+  row_put : IsDone s (slice_set rows node told) node
+  row_put = record { row = set_here rows node told low ∙ ap Some is.row; fine = is.fine }
+
+  row_kept : (k : ℕ) → IsDone s rows k → IsDone s (slice_set rows node told) k
+  row_kept k done = elim (cases_eq k node) [
+    | inl same ↦ subst (λ (n : ℕ). IsDone s (slice_set rows node told) n) (sym same) row_put
+    | inr other ↦ record { row = set_there rows node k told other ∙ done.row; fine = done.fine }
+  ]
+
+-- as many results as items
+pub map_length : {I R : Type 0} (gives : I → R → Type 0) (xs : List I) (rs : List R) → IsMap gives xs rs → length xs ≡ length rs
+map_length gives [] [] m = refl
+map_length gives [] (r ∷ rs) m = absurd m
+map_length gives (x ∷ xs) [] m = absurd m
+map_length gives (x ∷ xs) (r ∷ rs) m = ap suc (map_length gives xs rs m.1)
 
 module _ (g : Graphed) (level : ℕ) where
-  pub putting_starts : (rows : List NodeRow) (items : List ℕ) (answers : List Evaluated) → AreOfLevel g level items → IsMap (IsEvaluated g level) items answers
-      → AreDoneBelow g rows level → IsPutting g level rows answers
-  putting_starts rows items answers of are done = record {
-    below = done;
-    sound = λ e c.
-        (let m = mapped_from (IsEvaluated g level) items answers are e c in
-        let s = of.sound m.0 m.1.0 in
-        let same : m.0 ≡ e.node = sym m.1.1.node in
-        (subst (λ (k : ℕ). k < node_bound g.stored) same s.0, (ap (level_at g) (sym same) ∙ s.1, subst (λ (k : ℕ). IsAnswer g.stored k e.row) same (m.1.1.answer s.0 s.1))));
-    all = λ k low here.
-        (let m = mapped (IsEvaluated g level) items answers are k (of.all k low here) in
-        inr (m.0, (m.1.0, m.1.1.node)));
-  }
-
-  module _ (rows : List NodeRow) (rest left : List Evaluated) (e : Evaluated) (putting : IsPutting g level rows rest) (first : rest ≡ e ∷ left) where
-    own : (e.node < node_bound g.stored) × ((level_at g e.node ≡ level) × IsAnswer g.stored e.node e.row)
-    own = putting.sound e (subst (λ (xs : List Evaluated). Contains xs e) (sym first) (0, omega arith, refl))
-
-    pub in_table : e.node < length rows
-    in_table = let low = own.0 in let c = putting.below.count in omega (arith, low, c)
-
-    pub putting_fails : (f : Fault) → e.row ≡ Err f → IsRangeFault g.stored.design f
-    putting_fails f failed = subst (λ (r : Result NodeRow Fault). IsAnswer g.stored e.node r) failed own.1.1
-
-    module _ (told : NodeRow) (found : e.row ≡ Ok told) where
-      node_row : IsNodeRow g.stored e.node told
-      node_row = subst (λ (r : Result NodeRow Fault). IsAnswer g.stored e.node r) found own.1.1
-
-      here : IsDone g.stored (slice_set rows e.node told) e.node
-      here = record { row = set_here rows e.node told in_table ∙ ap Some node_row.row; fine = node_row.fine }
-
-      kept : (k : ℕ) → IsDone g.stored rows k → IsDone g.stored (slice_set rows e.node told) k
-      kept k done = elim (cases_eq k e.node) [
-        | inl same ↦ subst (λ (n : ℕ). IsDone g.stored (slice_set rows e.node told) n) (sym same) here
-        | inr other ↦ record { row = set_there rows e.node k told other ∙ done.row; fine = done.fine }
-      ]
-
-      pub putting_more : IsPutting g level (slice_set rows e.node told) left
-      putting_more = record {
-        below = record {
-          count = length-set rows e.node told ∙ putting.below.count;
-          done = λ k low under. kept k (putting.below.done k low under);
-        };
-        sound = λ a c. putting.sound a (subst (λ (xs : List Evaluated). Contains xs a) (sym first) (later a c));
-        all = λ k low at. elim (putting.all k low at) [
-          | inl done ↦ inl (kept k done)
-          | inr more ↦ elim (in_cases e left more.0 (subst (λ (xs : List Evaluated). Contains xs more.0) first more.1.0)) [
-            | inl same ↦ inl (subst (λ (n : ℕ). IsDone g.stored (slice_set rows e.node told) n) (ap (λ (a : Evaluated). a.node) same ∙ more.1.1) here)
-            | inr c ↦ inr (more.0, (c, more.1.1))
-          ]
-        ];
-      }
-        where
-          later : (a : Evaluated) → Contains left a → Contains (e ∷ left) a
-          later a (i, low, at) = (suc i, omega (arith, low), at)
-
-  pub putting_ends : (rows : List NodeRow) (rest : List Evaluated) → IsPutting g level rows rest → length rest ≡ 0 → AreDoneBelow g rows (level + 1)
-  putting_ends rows rest putting none = record {
-    count = putting.below.count;
-    done = λ k low under. elim (cases_eq (level_at g k) level) [
-      | inl same ↦ elim (putting.all k low same) [
-        | inl done ↦ done
-        | inr more ↦ absurd (let some = more.1.0.1 in omega (arith, some, none))
-      ]
-      | inr other ↦ putting.below.done k low (lower (level_at g k) other under)
-    ];
-  }
+  -- where each answer is a row, the rows of the nodes that are written are done, and those that were stay so
+  rows_put : (rows : List NodeRow) (nodes : List ℕ) (answers : List (Result NodeRow Fault)) → IsMap (IsLevelAnswer g level) nodes answers
+      → ((n : ℕ) → Contains nodes n → (n < node_bound g.stored) × (level_at g n ≡ level)) → list_all is_ok answers ≡ true → length rows ≡ node_bound g.stored
+      → (k : ℕ) → Contains nodes k ⊎ IsDone g.stored rows k → IsDone g.stored (written 0 rows nodes answers) k
+  unfolding put_at written
+  rows_put rows [] [] are of rowed count k (inl c) = absurd (none_in k c)
+  rows_put rows [] [] are of rowed count k (inr done) = done
+  rows_put rows [] (r ∷ rs) are of rowed count k d = absurd are
+  rows_put rows (n ∷ ns) [] are of rowed count k d = absurd are
+  rows_put rows (n ∷ ns) (Err f ∷ rs) are of rowed count k d = absurd (false≢true rowed)
+  rows_put rows (n ∷ ns) (Ok told ∷ rs) are of rowed count k d =
+      let own = of n (first_in n ns) in
+      let row : IsNodeRow g.stored n told = are.0 own.0 own.1 in
+      let low : n < length rows = let under = own.0 in omega (arith, under, count) in
+      subst (λ (xs : List NodeRow). IsDone g.stored (written 0 xs ns rs) k) (put_first Fault rows n told)
+      (rows_put (slice_set rows n told) ns rs are.1 (λ m c. of m (later_in n ns m c)) rowed (length-set rows n told ∙ count) k (after low row d))
     where
-      lower : (n : ℕ) → n ≢ level → n < level + 1 → n < level
-      lower n other under = elim (cases_lt n level) [ inl l ↦ l | inr m ↦ absurd (other (omega (arith, m, under))) ]
+      after : (low : n < length rows) (row : IsNodeRow g.stored n told) → Contains (n ∷ ns) k ⊎ IsDone g.stored rows k
+          → Contains ns k ⊎ IsDone g.stored (slice_set rows n told) k
+      after low row (inl c) = elim (in_cases n ns k c) [
+        | inl same ↦ inr (subst (λ (m : ℕ). IsDone g.stored (slice_set rows n told) m) same (row_put g.stored rows n told low row))
+        | inr more ↦ inl more
+      ]
+      after low row (inr done) = inr (row_kept g.stored rows n told low row k done)
+
+  module _ (nodes : List ℕ) (answers : List (Result NodeRow Fault)) (of : AreOfLevel g level nodes) (are : IsMap (IsLevelAnswer g level) nodes answers) where
+    -- the rows below the next level, after each answer was written
+    pub level_put : (rows new : List NodeRow) → AreDoneBelow g rows level → list_all is_ok answers ≡ true → length new ≡ length rows
+        → new ≡ written 0 rows nodes answers → AreDoneBelow g new (level + 1)
+    level_put rows new done rowed same is = record {
+      count = same ∙ done.count;
+      done = λ k low under.
+          subst (λ (xs : List NodeRow). IsDone g.stored xs k) (sym is)
+          (rows_put rows nodes answers are of.sound rowed done.count k
+          (elim (cases_eq (level_at g k) level) [
+            | inl here ↦ inl (of.all k low here)
+            | inr other ↦ inr (done.done k low (lower (level_at g k) other under))
+          ]));
+    }
+      where
+        lower : (n : ℕ) → n ≢ level → n < level + 1 → n < level
+        lower n other under = elim (cases_lt n level) [ inl l ↦ l | inr m ↦ absurd (other (omega (arith, m, under))) ]
+
+    -- a fault among the answers
+    pub level_fails : (f : Fault) → Contains answers (Err f) → IsRangeFault g.stored.design f
+    level_fails f c =
+        let m = mapped_from (IsLevelAnswer g level) nodes answers are (Err f) c in
+        let s = of.sound m.0 m.1.0 in
+        m.1.1 s.0 s.1
 
 both_pin : (pin : Pin) (node : Node) → Contains (both_nodes pin) node → node.pin ≡ pin
 both_pin pin node (zero, low, at) = ap (λ (n : Node). n.pin) (sym at)

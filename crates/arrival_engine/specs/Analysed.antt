@@ -26,7 +26,6 @@ use Rattle.pin_graph.specs.Nodes.{node_at, node_bound, pin_under, tran_under}
 use Rattle.pin_graph.specs.Graphs.{Graphed, fan_at, level_at, network_at}
 use Rattle.pin_graph.specs.RowTables.{row_numbered, IsRangeFault}
 use Rattle.arrival_engine.specs.declared.tables.Arrivals.{Arrivals}
-use Rattle.arrival_engine.specs.declared.passes.Evaluated.{Evaluated}
 
 -- the tables of an analysis are those of the store, and no quantity of a net leaves its limit
 pub record AreTables (s : Stored) (a : Arrivals) : Type 0 where
@@ -93,10 +92,9 @@ abbrev pub IsAnswer : Stored → ℕ → Result NodeRow Fault → Type 0
 IsAnswer s node (Ok told) = IsNodeRow s node told
 IsAnswer s node (Err fault) = IsRangeFault s.design fault
 
--- the answer for a number of a level
-pub record IsEvaluated (g : Graphed) (level k : ℕ) (e : Evaluated) : Type 0 where
-  pub node : e.node ≡ k
-  pub answer : k < node_bound g.stored → level_at g k ≡ level → IsAnswer g.stored k e.row
+-- what is answered for a number of a level; nothing is asked of other numbers
+abbrev pub IsLevelAnswer : Graphed → ℕ → ℕ → Result NodeRow Fault → Type 0
+IsLevelAnswer g level node answer = node < node_bound g.stored → level_at g node ≡ level → IsAnswer g.stored node answer
 
 -- the nodes of a level, and no others
 pub record AreOfLevel (g : Graphed) (level : ℕ) (items : List ℕ) : Type 0 where

@@ -1,16 +1,15 @@
 //! The pass over the levels of a graph.
 
-ghost use Rattle.std.specs.Prelude.{ℕ, ◌≡◌, ◌+◌, ◌<◌, ◌≤◌, ◌^◌, ⊤, length, IfOk, IfErr, OnOk};
+ghost use Rattle.std.specs.Prelude.{ℕ, ◌≡◌, ◌+◌, ◌<◌, ◌≤◌, ◌^◌, ⊤, true, length, is_ok, Contains, Err, IfOk, IfErr, OnOk};
+ghost use Rattle.std.specs.List.{list_all};
 ghost use Rattle.level_workers.specs.Mapped.{IsMap};
 ghost use Rattle.pin_graph.specs.Nodes.{node_bound};
-ghost use Rattle.pin_graph.specs.Graphs.{level_at};
 ghost use Rattle.pin_graph.specs.RowTables.{AreRows, AreRowsFine, IsRangeFault};
-ghost use Rattle.arrival_engine.specs.Analysed.{IsPlan, AreDoneBelow, AreOfLevel, IsAnswer, IsEvaluated};
+ghost use Rattle.arrival_engine.specs.Analysed.{IsPlan, AreDoneBelow, AreOfLevel, IsLevelAnswer};
 ghost use Rattle.arrival_engine.specs.Leveled.{AreLevels};
 
 use crate::nodes::{empty_row, evaluated};
 use crate::ordering::by_level;
-use crate::tables::lengthen;
 use cow_table::CowTable;
 use level_workers::map_level;
 use node_rows::Setting;
@@ -20,13 +19,6 @@ use sta_units::Memory;
 use std::alloc::Global;
 use std::thread::Threads;
 use timing_defs::{Fault, Items, NodeRow};
-
-/// What is found for a node: its row, or why it has none.
-#[derive(Debug, Drop)]
-pub(crate) struct Evaluated {
-    pub(crate) node: u32,
-    pub(crate) row: Result<NodeRow, Fault>,
-}
 
 /// The row of a node of a level, over the rows of the lower ones. Nothing is asked of other numbers.
 fn level_answer(
@@ -39,7 +31,7 @@ fn level_answer(
 ) -> Result<NodeRow, Fault>
     requires plan { IsPlan setting.now graph.now }
     requires done { AreDoneBelow graph.now rows.now level }
-    ensures { node < node_bound graph.now.stored → level_at graph.now node ≡ level → IsAnswer graph.now.stored node result }
+    ensures { IsLevelAnswer graph.now level node result }
 {
     setting.store.laws();
     graph.laws();
@@ -52,24 +44,7 @@ fn level_answer(
     evaluated(alloc, setting, graph, rows, node)
 }
 
-/// What is found for a node of a level.
-fn level_row(
-    alloc: Global,
-    setting: &Setting<'_>,
-    graph: &Graph,
-    rows: &CowTable<NodeRow>,
-    level: u32,
-    node: u32,
-) -> Evaluated
-    requires plan { IsPlan setting.now graph.now }
-    requires done { AreDoneBelow graph.now rows.now level }
-    ensures { IsEvaluated graph.now level node result }
-{
-    let row = level_answer(alloc, setting, graph, rows, level, node);
-    Evaluated { node, row }
-}
-
-/// What is found for the nodes of a level, by several threads.
+/// The answers for the nodes of a level, in their order, by several threads.
 fn level_rows<H: Threads + Sync, G: Gate>(
     rt: &H,
     alloc: Global,
@@ -80,43 +55,53 @@ fn level_rows<H: Threads + Sync, G: Gate>(
     level: u32,
     nodes: &[u32],
     gate: &G,
-) -> Result<Items<Evaluated>, Memory>
+) -> Result<Items<Result<NodeRow, Fault>>, Memory>
     requires some { 1 ≤ workers }
     requires most { workers ≤ 32 }
     requires plan { IsPlan setting.now graph.now }
     requires done { AreDoneBelow graph.now rows.now level }
-    ensures { IfOk result (IsMap (IsEvaluated graph.now level) nodes.now) }
+    ensures { IfOk result (IsMap (IsLevelAnswer graph.now level) nodes.now) }
 {
-    let evaluate = |node: &u32| -> Result<Evaluated, Memory>
+    let evaluate = |node: &u32| -> Result<Result<NodeRow, Fault>, Memory>
         requires { IsPlan setting.now graph.now × AreDoneBelow graph.now rows.now level }
-        ensures { IfOk result (IsEvaluated graph.entry.now level node.now) }
-    { Ok(level_row(alloc, setting, graph, rows, level, *node)) };
+        ensures { IfOk result (IsLevelAnswer graph.entry.now level node.now) }
+    { Ok(level_answer(alloc, setting, graph, rows, level, *node)) };
     map_level(rt, alloc, workers, level, nodes, &evaluate, gate)
 }
 
-/// Writes the rows of the nodes of a level.
-fn put_rows(
+/// Refuses with the first fault among some answers, where there is one.
+fn first_fault(found: Items<Result<NodeRow, Fault>>) -> Result<(), Fault>
+    ensures ok { OnOk result (list_all is_ok found ≡ true) }
+    ensures err { IfErr result (λ fault. Contains found (Err fault)) }
+{
+    for answer in found.into_vec() {
+        let _ = answer?;
+    }
+    Ok(())
+}
+
+/// Writes the rows of the nodes of a level by several threads; refuses with the first fault among the
+/// answers.
+fn put_rows<H: Threads + Sync>(
+    rt: &H,
     graph: &Graph,
     rows: &mut CowTable<NodeRow>,
+    workers: u32,
     level: u32,
     nodes: &[u32],
-    found: Vec<Evaluated>,
+    found: Items<Result<NodeRow, Fault>>,
 ) -> Result<(), Fault>
     requires nodes { AreOfLevel graph.now level nodes.now }
-    requires found { IsMap (IsEvaluated graph.now level) nodes.now found.items }
+    requires found { IsMap (IsLevelAnswer graph.now level) nodes.now found }
     requires done { AreDoneBelow graph.now rows.old level }
     ensures done { OnOk result (AreDoneBelow graph.now rows.new (level + 1)) }
     ensures err { IfErr result (IsRangeFault graph.now.stored.design) }
 {
-    // The graph, the level and its nodes are asked for by the contract alone.
+    // The graph and the level are asked for by the contract alone.
     let _ = graph;
     let _ = level;
-    let _ = nodes;
-    for evaluated in found {
-        let Evaluated { node, row } = evaluated;
-        rows.set(node as usize, row?)?;
-    }
-    Ok(())
+    rows.put_all(rt, workers, nodes, found.as_slice())?;
+    first_fault(found)
 }
 
 /// Evaluates the nodes of each level in turn, over the rows of the lower ones.
@@ -143,7 +128,7 @@ pub(crate) fn all_levels<H: Threads + Sync, G: Gate>(
         let level = at as u32;
         let nodes = items.as_slice();
         let found = level_rows(rt, alloc, setting, graph, rows, workers, level, nodes, gate)?;
-        put_rows(graph, rows, level, nodes, found.into_vec())?;
+        put_rows(rt, graph, rows, workers, level, nodes, found)?;
     }
     Ok(())
 }
@@ -166,8 +151,8 @@ pub(crate) fn full_rows<H: Threads + Sync, G: Gate>(
 {
     setting.store.laws();
     let levels = by_level(alloc, graph)?;
-    let mut rows = CowTable::new(alloc);
-    lengthen(alloc, &mut rows, graph.count() as usize)?;
+    let count = graph.count() as usize;
+    let mut rows = CowTable::filled(rt, alloc, workers, count, &empty_row(alloc))?;
     let nodes = levels.as_slice();
     all_levels(rt, alloc, setting, graph, &mut rows, workers, nodes, gate)?;
     Ok(rows)

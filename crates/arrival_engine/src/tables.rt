@@ -36,14 +36,9 @@ pub struct Arrivals {
 }
 
 /// Adds empty rows up to that many.
-pub(crate) fn lengthen(
-    alloc: Global,
-    rows: &mut CowTable<NodeRow>,
-    count: usize,
-) -> Result<(), Memory>
+fn lengthen(alloc: Global, rows: &mut CowTable<NodeRow>, count: usize) -> Result<(), Memory>
     requires { length rows.old ≤ count }
-    ensures rows { OnOk result (rows.new ≡ sized_rows rows.old count) }
-    ensures count { OnOk result (length rows.new ≡ count) }
+    ensures { OnOk result (rows.new ≡ sized_rows rows.old count) }
 {
     for at in rows.len()..count {
         let _ = at;
