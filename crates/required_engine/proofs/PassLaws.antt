@@ -1,13 +1,14 @@
--- One level of the pass: where the rows of the higher levels are the definition's, those of its nodes are put, one by one; and at
--- the end all rows are.
+-- One level of the pass: where the rows of the higher levels are the definition's, those of its nodes are written; and at the end
+-- all rows are.
 
-use Rattle.std.proofs.Common.{◌≡◌, ◌≢◌, ◌⊎◌, ℕ, zero, suc, ◌+◌, ◌<◌, ◌≤◌, true, List, [], ◌∷◌, map, length, Option, None, Some, Result, Ok, Err, refl, sym, ap, subst, ◌∙◌, inl, inr, arith}
-use Rattle.std.specs.Prelude.{Contains, slice_get, slice_set, IfOk, IfErr}
+use Rattle.std.proofs.Common.{◌≡◌, ◌≢◌, ◌⊎◌, ℕ, zero, suc, ◌+◌, ◌-◌, ◌<◌, ◌≤◌, Bool, true, List, [], ◌∷◌, map, length, Option, None, Some, Result, Ok, Err, refl, sym, ap, subst, ◌∙◌, inl, inr, arith}
+use Rattle.std.specs.Prelude.{All, Contains, slice_get, slice_set, IfOk, IfErr, IsOk, is_ok, if◌then◌else◌, nat_le}
 use Rattle.std.proofs.Math.Nat.{le-max_left, le-max_right}
 use Rattle.std.specs.List.{list_all}
 use Rattle.std.specs.Option.{option_map_or}
-use Rattle.std.proofs.lemmas.Bool.{cases_eq, cases_lt, and_from}
+use Rattle.std.proofs.lemmas.Bool.{cases_eq, cases_lt, and_from, false≢true}
 use Rattle.std.proofs.lemmas.List.{length-set}
+use Rattle.std.proofs.lemmas.List.Elements.{All-nil, All-cons, All-head, All-tail}
 use Rattle.std.proofs.lemmas.Option.{slice_get_within}
 use Rattle.timing_defs.specs.declared.kinds.Split.TheVariants.{Early, Late}
 use Rattle.timing_defs.specs.declared.faults.Fault.{Fault}
@@ -17,6 +18,7 @@ use Rattle.timing_defs.specs.Netlist.{Pin, Node, pins, both_nodes}
 use Rattle.timing_defs.specs.Required.{back_row, empty_back}
 use Rattle.netlist_store.specs.Linked.{IsLinked}
 use Rattle.netlist_store.specs.Numbering.{Stored, IsNumbered}
+use Rattle.cow_table.specs.Writes.{put_at, written}
 use Rattle.level_workers.specs.Mapped.{IsMap}
 use Rattle.levelizer.specs.Levels.{greatest}
 use Rattle.pin_graph.specs.declared.arcs.GraphArc.{GraphArc}
@@ -26,8 +28,7 @@ use Rattle.pin_graph.specs.RowTables.{back_numbered, AreBackRows, AreBacksFine, 
 use Rattle.pin_graph.proofs.Members.{some_is, none_in, first_in, later_in, in_cases, in_map, in_flat_map_back}
 use Rattle.pin_graph.proofs.PinLaws.{pin_told}
 use Rattle.pin_graph.proofs.NodeLaws.{HasNode, node_told, node_below, has_node}
-use Rattle.required_engine.specs.declared.passes.Evaluated.{Evaluated}
-use Rattle.required_engine.specs.Worked.{is_back_within, AreBacksWithin, IsBackRow, IsBackFault, IsDone, AreReady, AreDoneFrom, AreOfLevel, IsAnswer, IsEvaluated}
+use Rattle.required_engine.specs.Worked.{is_back_within, AreBacksWithin, IsBackRow, IsBackFault, IsDone, AreReady, AreDoneFrom, AreOfLevel, IsAnswer, IsAnswerAt}
 use Rattle.required_engine.specs.Leveled.{nodes_of, AreLevels}
 use Rattle.required_engine.proofs.TimeLaws.{is_near}
 use Rattle.required_engine.proofs.BackLaws.{times_near}
@@ -45,16 +46,20 @@ set_there (y ∷ ys) zero (suc j) x other = refl
 set_there (y ∷ ys) (suc i) zero x other = refl
 set_there (y ∷ ys) (suc i) (suc j) x other = set_there ys i j x (λ e. other (ap suc e))
 
--- members of a list and of its map
+put_first : (rows : List BackRow) (place : ℕ) (told : BackRow) → put_at {E = Fault} 0 rows place (Ok told) ≡ slice_set rows place told
+unfolding put_at
+put_first rows place told =
+    let yes : nat_le 0 place ≡ true = grind arith in
+    let same : place - 0 ≡ place = omega arith in
+    ap (λ (b : Bool). if b then slice_set rows (place - 0) told else rows) yes ∙ ap (λ (n : ℕ). slice_set rows n told) same
+
+-- a list's map has as many members, and where each is from
 module _ {I R : Type 0} (gives : I → R → Type 0) where
-  mapped : (xs : List I) (rs : List R) → IsMap gives xs rs → (x : I) → Contains xs x → (r : R) × (Contains rs r × gives x r)
-  mapped [] [] m x c = absurd (none_in x c)
-  mapped [] (r ∷ rs) m x c = absurd m
-  mapped (y ∷ ys) [] m x c = absurd m
-  mapped (y ∷ ys) (r ∷ rs) m x c = elim (in_cases y ys x c) [
-    | inl e ↦ (r, (first_in r rs, subst (λ (z : I). gives z r) e m.0))
-    | inr d ↦ let k = mapped ys rs m.1 x d in (k.0, (later_in r rs k.0 k.1.0, k.1.1))
-  ]
+  pub as_many : (xs : List I) (rs : List R) → IsMap gives xs rs → length xs ≡ length rs
+  as_many [] [] m = refl
+  as_many [] (r ∷ rs) m = absurd m
+  as_many (x ∷ xs) [] m = absurd m
+  as_many (x ∷ xs) (r ∷ rs) m = let rest = as_many xs rs m.1 in omega (arith, rest)
 
   mapped_from : (xs : List I) (rs : List R) → IsMap gives xs rs → (r : R) → Contains rs r → (x : I) × (Contains xs x × gives x r)
   mapped_from [] [] m r c = absurd (none_in r c)
@@ -122,76 +127,77 @@ pub ready_there : (g : Graphed) (s : Stored) → g.stored ≡ s → IsNumbered s
 ready_there g s same num linked is =
     ready g (subst (λ (x : Stored). IsNumbered x) (sym same) num) (subst (λ (x : Stored). IsLinked x.design) (sym same) linked) is
 
--- while the rows of a level are put: those that are left, and the nodes of the level that are done
-pub record IsPutting (g : Graphed) (level : ℕ) (rows : List BackRow) (rest : List Evaluated) : Type 0 where
-  pub above : AreDoneFrom g rows (level + 1)
-  pub sound : (e : Evaluated) → Contains rest e → (e.node < node_bound g.stored) × ((level_at g e.node ≡ level) × IsAnswer g.stored e.node e.row)
-  pub all : (k : ℕ) → k < node_bound g.stored → level_at g k ≡ level → IsDone g.stored rows k ⊎ ((e : Evaluated) × (Contains rest e × (e.node ≡ k)))
+-- the answers that are left, while the first fault is looked for: they are among those that are found, and all that were passed are
+-- without a fault
+pub record AreLeft (found left : List (Result BackRow Fault)) : Type 0 where
+  pub among : (r : Result BackRow Fault) → Contains left r → Contains found r
+  pub passed : All IsOk left → All IsOk found
 
-module _ (g : Graphed) (level : ℕ) where
-  pub putting_starts : (rows : List BackRow) (items : List ℕ) (answers : List Evaluated) → AreOfLevel g level items → IsMap (IsEvaluated g level) items answers
-      → AreDoneFrom g rows (level + 1) → IsPutting g level rows answers
-  putting_starts rows items answers of are done = record {
-    above = done;
-    sound = λ e c.
-        (let m = mapped_from (IsEvaluated g level) items answers are e c in
-        let s = of.sound m.0 m.1.0 in
-        let same : m.0 ≡ e.node = sym m.1.1.node in
-        (subst (λ (k : ℕ). k < node_bound g.stored) same s.0, (ap (level_at g) (sym same) ∙ s.1, subst (λ (k : ℕ). IsAnswer g.stored k e.row) same (m.1.1.answer s.0 s.1))));
-    all = λ k low here.
-        (let m = mapped (IsEvaluated g level) items answers are k (of.all k low here) in
-        inr (m.0, (m.1.0, m.1.1.node)));
+pub left_at_first : (found : List (Result BackRow Fault)) → AreLeft found found
+left_at_first found = record { among = λ r c. c; passed = λ h. h }
+
+module _ (found left rest : List (Result BackRow Fault)) (r : Result BackRow Fault) (are : AreLeft found left) (first : left ≡ r ∷ rest) where
+  pub left_fewer : (row : BackRow) → r ≡ Ok row → AreLeft found rest
+  left_fewer row e = record {
+    among = λ x c. are.among x (subst (λ (xs : List (Result BackRow Fault)). Contains xs x) (sym first) (later_in r rest x c));
+    passed = λ h. are.passed (subst (λ (xs : List (Result BackRow Fault)). All IsOk xs) (sym first) (All-cons IsOk r rest (ap is_ok e) h));
   }
 
-  module _ (rows : List BackRow) (rest left : List Evaluated) (e : Evaluated) (putting : IsPutting g level rows rest) (first : rest ≡ e ∷ left) where
-    own : (e.node < node_bound g.stored) × ((level_at g e.node ≡ level) × IsAnswer g.stored e.node e.row)
-    own = putting.sound e (subst (λ (xs : List Evaluated). Contains xs e) (sym first) (0, omega arith, refl))
+pub none_left : (found left : List (Result BackRow Fault)) → AreLeft found left → length left ≡ 0 → All IsOk found
+none_left found [] are none = are.passed (All-nil IsOk)
+none_left found (r ∷ rest) are none = absurd (omega (arith, none))
 
-    pub in_table : e.node < length rows
+-- while the rows of a level are written: places that are left and their answers, and the nodes of the level that are done
+pub record IsPutting (g : Graphed) (level : ℕ) (rows : List BackRow) (places : List ℕ) (answers : List (Result BackRow Fault)) : Type 0 where
+  pub above : AreDoneFrom g rows (level + 1)
+  pub sound : (k : ℕ) → Contains places k → (k < node_bound g.stored) × (level_at g k ≡ level)
+  pub given : IsMap (IsAnswerAt g level) places answers
+  pub all : (k : ℕ) → k < node_bound g.stored → level_at g k ≡ level → IsDone g.stored rows k ⊎ Contains places k
+
+module _ (g : Graphed) (level : ℕ) where
+  module _ (rows : List BackRow) (place : ℕ) (places : List ℕ) (told : BackRow) (answers : List (Result BackRow Fault)) (putting : IsPutting g level rows (place ∷ places) (Ok told ∷ answers)) where
+    own : (place < node_bound g.stored) × (level_at g place ≡ level)
+    own = putting.sound place (first_in place places)
+
+    in_table : place < length rows
     in_table = let low = own.0 in let c = putting.above.count in omega (arith, low, c)
 
-    pub putting_fails : (f : Fault) → e.row ≡ Err f → IsRangeFault g.stored.design f
-    putting_fails f failed = subst (λ (r : Result BackRow Fault). IsAnswer g.stored e.node r) failed own.1.1
+    back_row_is : IsBackRow g.stored place told
+    back_row_is = putting.given.0 own.0 own.1
 
-    module _ (told : BackRow) (found : e.row ≡ Ok told) where
-      back_row_is : IsBackRow g.stored e.node told
-      back_row_is = subst (λ (r : Result BackRow Fault). IsAnswer g.stored e.node r) found own.1.1
+    here : IsDone g.stored (slice_set rows place told) place
+    here = record { row = set_here rows place told in_table ∙ ap Some back_row_is.row; fine = back_row_is.fine }
 
-      here : IsDone g.stored (slice_set rows e.node told) e.node
-      here = record { row = set_here rows e.node told in_table ∙ ap Some back_row_is.row; fine = back_row_is.fine }
+    kept : (k : ℕ) → IsDone g.stored rows k → IsDone g.stored (slice_set rows place told) k
+    kept k done = elim (cases_eq k place) [
+      | inl same ↦ subst (λ (n : ℕ). IsDone g.stored (slice_set rows place told) n) (sym same) here
+      | inr other ↦ record { row = set_there rows place k told other ∙ done.row; fine = done.fine }
+    ]
 
-      kept : (k : ℕ) → IsDone g.stored rows k → IsDone g.stored (slice_set rows e.node told) k
-      kept k done = elim (cases_eq k e.node) [
-        | inl same ↦ subst (λ (n : ℕ). IsDone g.stored (slice_set rows e.node told) n) (sym same) here
-        | inr other ↦ record { row = set_there rows e.node k told other ∙ done.row; fine = done.fine }
-      ]
+    putting_more : IsPutting g level (slice_set rows place told) places answers
+    putting_more = record {
+      above = record {
+        count = length-set rows place told ∙ putting.above.count;
+        done = λ k low over. kept k (putting.above.done k low over);
+      };
+      sound = λ k c. putting.sound k (later_in place places k c);
+      given = putting.given.1;
+      all = λ k low at. elim (putting.all k low at) [
+        | inl done ↦ inl (kept k done)
+        | inr c ↦ elim (in_cases place places k c) [
+          | inl same ↦ inl (subst (λ (n : ℕ). IsDone g.stored (slice_set rows place told) n) same here)
+          | inr d ↦ inr d
+        ]
+      ];
+    }
 
-      pub putting_more : IsPutting g level (slice_set rows e.node told) left
-      putting_more = record {
-        above = record {
-          count = length-set rows e.node told ∙ putting.above.count;
-          done = λ k low over. kept k (putting.above.done k low over);
-        };
-        sound = λ a c. putting.sound a (subst (λ (xs : List Evaluated). Contains xs a) (sym first) (later a c));
-        all = λ k low at. elim (putting.all k low at) [
-          | inl done ↦ inl (kept k done)
-          | inr more ↦ elim (in_cases e left more.0 (subst (λ (xs : List Evaluated). Contains xs more.0) first more.1.0)) [
-            | inl same ↦ inl (subst (λ (n : ℕ). IsDone g.stored (slice_set rows e.node told) n) (ap (λ (a : Evaluated). a.node) same ∙ more.1.1) here)
-            | inr c ↦ inr (more.0, (c, more.1.1))
-          ]
-        ];
-      }
-        where
-          later : (a : Evaluated) → Contains left a → Contains (e ∷ left) a
-          later a (i, low, at) = (suc i, omega (arith, low), at)
-
-  pub putting_ends : (rows : List BackRow) (rest : List Evaluated) → IsPutting g level rows rest → length rest ≡ 0 → AreDoneFrom g rows level
-  putting_ends rows rest putting none = record {
+  putting_ends : (rows : List BackRow) → IsPutting g level rows [] [] → AreDoneFrom g rows level
+  putting_ends rows putting = record {
     count = putting.above.count;
     done = λ k low over. elim (cases_eq (level_at g k) level) [
       | inl same ↦ elim (putting.all k low same) [
         | inl done ↦ done
-        | inr more ↦ absurd (let some = more.1.0.1 in omega (arith, some, none))
+        | inr c ↦ absurd (none_in k c)
       ]
       | inr other ↦ putting.above.done k low (higher (level_at g k) other over)
     ];
@@ -199,6 +205,33 @@ module _ (g : Graphed) (level : ℕ) where
     where
       higher : (n : ℕ) → n ≢ level → level ≤ n → level + 1 ≤ n
       higher n other over = elim (cases_lt level n) [ inl l ↦ omega (arith, l) | inr m ↦ absurd (other (omega (arith, m, over))) ]
+
+  -- all answers are written, where none is a fault
+  putting_all : (rows : List BackRow) (places : List ℕ) (answers : List (Result BackRow Fault)) → All IsOk answers → IsPutting g level rows places answers
+      → AreDoneFrom g (written 0 rows places answers) level
+  unfolding written
+  putting_all rows [] [] none putting = putting_ends rows putting
+  putting_all rows [] (r ∷ rs) none putting = absurd putting.given
+  putting_all rows (place ∷ places) [] none putting = absurd putting.given
+  putting_all rows (place ∷ places) (Err f ∷ rs) none putting = absurd (false≢true (All-head IsOk (Err f) rs none))
+  putting_all rows (place ∷ places) (Ok told ∷ rs) none putting =
+      subst (λ (xs : List BackRow). AreDoneFrom g (written 0 xs places rs) level) (sym (put_first rows place told))
+      (putting_all (slice_set rows place told) places rs (All-tail IsOk (Ok told) rs none) (putting_more rows place places told rs putting))
+
+  pub level_written : (rows new : List BackRow) (places : List ℕ) (answers shown : List (Result BackRow Fault)) → AreOfLevel g level places
+      → IsMap (IsAnswerAt g level) places answers → AreDoneFrom g rows (level + 1) → shown ≡ answers → new ≡ written 0 rows places shown → All IsOk answers
+      → AreDoneFrom g new level
+  level_written rows new places answers shown of are done same is none =
+      subst (λ (xs : List BackRow). AreDoneFrom g xs level) (sym (is ∙ ap (written 0 rows places) same))
+      (putting_all rows places answers none (record { above = done; sound = of.sound; given = are; all = λ k low here. inr (of.all k low here) }))
+
+  -- a fault among the answers is an origin
+  pub fault_is_range : (places : List ℕ) (answers : List (Result BackRow Fault)) → AreOfLevel g level places → IsMap (IsAnswerAt g level) places answers
+      → (f : Fault) → Contains answers (Err f) → IsRangeFault g.stored.design f
+  fault_is_range places answers of are f c =
+      let m = mapped_from (IsAnswerAt g level) places answers are (Err f) c in
+      let s = of.sound m.0 m.1.0 in
+      m.1.1 s.0 s.1
 
 both_pin : (pin : Pin) (node : Node) → Contains (both_nodes pin) node → node.pin ≡ pin
 both_pin pin node (zero, low, at) = ap (λ (n : Node). n.pin) (sym at)

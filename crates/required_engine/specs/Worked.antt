@@ -29,7 +29,6 @@ use Rattle.arc_delays.specs.Delays.{AreDelays}
 use Rattle.required_engine.specs.declared.nodes.AskedNode.{AskedNode}
 use Rattle.required_engine.specs.declared.unfit.Unfit.{Unfit}
 use Rattle.required_engine.specs.declared.unfit.Unfit.TheVariants.{Range, Memory}
-use Rattle.required_engine.specs.declared.passes.Evaluated.{Evaluated}
 
 -- the slews and arrivals of all nodes, none of which leaves its limit, with the delays of all arcs
 pub record AreFound (s : Stored) (found : List NodeRow) (table : List (List ArcDelay)) : Type 0 where
@@ -100,10 +99,9 @@ abbrev pub IsAnswer : Stored → ℕ → Result BackRow Fault → Type 0
 IsAnswer s node (Ok told) = IsBackRow s node told
 IsAnswer s node (Err fault) = IsRangeFault s.design fault
 
--- the answer for a number of a level
-pub record IsEvaluated (g : Graphed) (level k : ℕ) (e : Evaluated) : Type 0 where
-  pub node : e.node ≡ k
-  pub answer : k < node_bound g.stored → level_at g k ≡ level → IsAnswer g.stored k e.row
+-- what is answered for a number, where it is of a level
+abbrev pub IsAnswerAt : Graphed → ℕ → ℕ → Result BackRow Fault → Type 0
+IsAnswerAt g level k r = k < node_bound g.stored → level_at g k ≡ level → IsAnswer g.stored k r
 
 -- the nodes of a level, and no others
 pub record AreOfLevel (g : Graphed) (level : ℕ) (items : List ℕ) : Type 0 where

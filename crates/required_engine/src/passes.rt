@@ -1,16 +1,14 @@
 //! The pass over the levels of a graph, the highest first.
 
-ghost use Rattle.std.specs.Prelude.{ℕ, ◌≡◌, ◌+◌, ◌<◌, ◌≤◌, ◌^◌, ⊤, length, IfOk, IfErr, OnOk};
+ghost use Rattle.std.specs.Prelude.{ℕ, ◌≡◌, ◌+◌, ◌≤◌, ◌^◌, All, Contains, Err, length, IfOk, IfErr, IsOk, OnOk};
 ghost use Rattle.level_workers.specs.Mapped.{IsMap};
 ghost use Rattle.pin_graph.specs.Nodes.{node_bound};
-ghost use Rattle.pin_graph.specs.Graphs.{level_at};
 ghost use Rattle.pin_graph.specs.RowTables.{AreBackRows, AreBacksFine, IsRangeFault};
-ghost use Rattle.required_engine.specs.Worked.{AreBacksWithin, AreFound, AreDoneFrom, AreOfLevel, IsAnswer, IsEvaluated};
+ghost use Rattle.required_engine.specs.Worked.{AreBacksWithin, AreFound, AreDoneFrom, AreOfLevel, IsAnswerAt};
 ghost use Rattle.required_engine.specs.Leveled.{AreLevels};
 
 use crate::nodes::{empty_back, evaluated};
 use crate::ordering::by_level;
-use crate::tables::lengthen;
 use arc_delays::Delayed;
 use cow_table::CowTable;
 use level_workers::map_level;
@@ -21,13 +19,6 @@ use sta_units::Memory;
 use std::alloc::Global;
 use std::thread::Threads;
 use timing_defs::{BackRow, Fault, Items, Rows};
-
-/// What is found for a node: its required times, or why it has none.
-#[derive(Debug, Drop)]
-pub(crate) struct Evaluated {
-    pub(crate) node: u32,
-    pub(crate) row: Result<BackRow, Fault>,
-}
 
 /// The required times of a node of a level, over those of the higher ones. Nothing is asked of other
 /// numbers.
@@ -43,7 +34,7 @@ fn level_answer<A: Rows + Delayed>(
     requires graph { graph.now.stored ≡ store.now }
     requires found { AreFound store.now (A.rows arrivals.now) (A.delays arrivals.now) }
     requires done { AreDoneFrom graph.now rows.now (level + 1) }
-    ensures { node < node_bound graph.now.stored → level_at graph.now node ≡ level → IsAnswer graph.now.stored node result }
+    ensures { IsAnswerAt graph.now level node result }
 {
     store.laws();
     graph.laws();
@@ -56,26 +47,7 @@ fn level_answer<A: Rows + Delayed>(
     evaluated(alloc, store, graph, arrivals, rows, node)
 }
 
-/// What is found for a node of a level.
-fn level_row<A: Rows + Delayed>(
-    alloc: Global,
-    store: &Store,
-    graph: &Graph,
-    arrivals: &A,
-    rows: &CowTable<BackRow>,
-    level: u32,
-    node: u32,
-) -> Evaluated
-    requires graph { graph.now.stored ≡ store.now }
-    requires found { AreFound store.now (A.rows arrivals.now) (A.delays arrivals.now) }
-    requires done { AreDoneFrom graph.now rows.now (level + 1) }
-    ensures { IsEvaluated graph.now level node result }
-{
-    let row = level_answer(alloc, store, graph, arrivals, rows, level, node);
-    Evaluated { node, row }
-}
-
-/// What is found for the nodes of a level, by several threads.
+/// The required times of the nodes of a level, in their order, by several threads.
 fn level_rows<H: Threads + Sync, A: Rows + Delayed + Sync, G: Gate>(
     rt: &H,
     alloc: Global,
@@ -87,44 +59,53 @@ fn level_rows<H: Threads + Sync, A: Rows + Delayed + Sync, G: Gate>(
     level: u32,
     nodes: &[u32],
     gate: &G,
-) -> Result<Items<Evaluated>, Memory>
+) -> Result<Items<Result<BackRow, Fault>>, Memory>
     requires some { 1 ≤ workers }
     requires most { workers ≤ 32 }
     requires graph { graph.now.stored ≡ store.now }
     requires found { AreFound store.now (A.rows arrivals.now) (A.delays arrivals.now) }
     requires done { AreDoneFrom graph.now rows.now (level + 1) }
-    ensures { IfOk result (IsMap (IsEvaluated graph.now level) nodes.now) }
+    ensures { IfOk result (IsMap (IsAnswerAt graph.now level) nodes.now) }
 {
-    let evaluate = |node: &u32| -> Result<Evaluated, Memory>
+    let answer = |node: &u32| -> Result<Result<BackRow, Fault>, Memory>
         requires { (graph.now.stored ≡ store.now) × AreFound store.now (A.rows arrivals.now) (A.delays arrivals.now) × AreDoneFrom graph.now rows.now (level + 1) }
-        ensures { IfOk result (IsEvaluated graph.entry.now level node.now) }
-    { Ok(level_row(alloc, store, graph, arrivals, rows, level, *node)) };
-    map_level(rt, alloc, workers, level, nodes, &evaluate, gate)
+        ensures { IfOk result (IsAnswerAt graph.entry.now level node.now) }
+    { Ok(level_answer(alloc, store, graph, arrivals, rows, level, *node)) };
+    map_level(rt, alloc, workers, level, nodes, &answer, gate)
 }
 
-/// Writes the rows of the nodes of a level.
-fn put_rows(
+/// Fails with the first fault among some answers.
+fn first_fault(found: Items<Result<BackRow, Fault>>) -> Result<(), Fault>
+    ensures ok { OnOk result (All IsOk found) }
+    ensures err { IfErr result (λ fault. Contains found (Err fault)) }
+{
+    for answer in found.into_vec() {
+        let _ = answer?;
+    }
+    Ok(())
+}
+
+/// Writes the rows of the nodes of a level, by several threads.
+fn put_rows<H: Threads + Sync>(
+    rt: &H,
     graph: &Graph,
     rows: &mut CowTable<BackRow>,
+    workers: u32,
     level: u32,
     nodes: &[u32],
-    found: Vec<Evaluated>,
+    found: Items<Result<BackRow, Fault>>,
 ) -> Result<(), Fault>
     requires nodes { AreOfLevel graph.now level nodes.now }
-    requires found { IsMap (IsEvaluated graph.now level) nodes.now found.items }
+    requires found { IsMap (IsAnswerAt graph.now level) nodes.now found }
     requires done { AreDoneFrom graph.now rows.old (level + 1) }
     ensures done { OnOk result (AreDoneFrom graph.now rows.new level) }
     ensures err { IfErr result (IsRangeFault graph.now.stored.design) }
 {
-    // The graph, the level and its nodes are asked for by the contract alone.
+    // The graph and the level are asked for by the contract alone.
     let _ = graph;
     let _ = level;
-    let _ = nodes;
-    for evaluated in found {
-        let Evaluated { node, row } = evaluated;
-        rows.set(node as usize, row?)?;
-    }
-    Ok(())
+    rows.put_all(rt, workers, nodes, found.as_slice())?;
+    first_fault(found)
 }
 
 /// Evaluates the nodes of each level in turn, from the highest down, over the rows of the higher ones.
@@ -157,7 +138,7 @@ fn all_levels<H: Threads + Sync, A: Rows + Delayed + Sync, G: Gate>(
         let found = level_rows(
             rt, alloc, store, graph, arrivals, rows, workers, level, nodes, gate,
         )?;
-        put_rows(graph, rows, level, nodes, found.into_vec())?;
+        put_rows(rt, graph, rows, workers, level, nodes, found)?;
     }
     Ok(())
 }
@@ -184,8 +165,8 @@ pub(crate) fn full_rows<H: Threads + Sync, A: Rows + Delayed + Sync, G: Gate>(
     store.laws();
     graph.laws();
     let levels = by_level(alloc, graph)?;
-    let mut rows = CowTable::new(alloc);
-    lengthen(alloc, &mut rows, graph.count() as usize)?;
+    let empty = empty_back(alloc);
+    let mut rows = CowTable::filled(rt, alloc, workers, graph.count() as usize, &empty)?;
     let nodes = levels.as_slice();
     all_levels(
         rt, alloc, store, graph, arrivals, &mut rows, workers, nodes, gate,

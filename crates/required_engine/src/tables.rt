@@ -25,11 +25,7 @@ pub struct Required {
 }
 
 /// Adds empty rows up to that many.
-pub(crate) fn lengthen(
-    alloc: Global,
-    rows: &mut CowTable<BackRow>,
-    count: usize,
-) -> Result<(), Memory>
+fn lengthen(alloc: Global, rows: &mut CowTable<BackRow>, count: usize) -> Result<(), Memory>
     requires { length rows.old ≤ count }
     ensures rows { OnOk result (rows.new ≡ sized_rows rows.old count) }
     ensures count { OnOk result (length rows.new ≡ count) }
@@ -72,7 +68,8 @@ fn sized(alloc: Global, rows: &CowTable<BackRow>, count: usize) -> Result<CowTab
 impl Required {
     /// The required times of all nodes of a store, from nothing, over the slews and arrivals of all nodes:
     /// level by level from the highest down, each level's nodes shared between that many threads, the gate
-    /// called as each piece of a level begins. The rows are the same whatever the number of workers.
+    /// called as each piece of a level begins, and then the writes of their rows. The rows are the same
+    /// whatever the number of workers.
     /// `OutOfRange` at a pin where a setup or hold time or a required time, in fs, leaves its limit. Takes
     /// time of the nodes, and for each launch edge at a node of its tests, or of the arcs into the nodes
     /// after it and of the launch edges there: in all, of the square of each node's arcs in.

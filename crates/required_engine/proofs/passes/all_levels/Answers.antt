@@ -4,7 +4,7 @@ use Rattle.required_engine.proofs.PassLaws.{of_level}
 use Rattle.required_engine.proofs.passes.all_levels.Goals as goal
 
 pub put_rows-requires-clause-nodes : goal.put_rows-requires-clause-nodes
-put_rows-requires-clause-nodes g c =
+put_rows-requires-clause-nodes g c κs within =
     let some = c.loop-left-test.true in
     let most = c.loop-left.invariant.1 in
     let low : c.loop-left.left - 1 < length c.args.levels.now = omega (arith, some, most) in

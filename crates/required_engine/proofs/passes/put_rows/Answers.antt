@@ -1,34 +1,27 @@
-use Rattle.std.proofs.Common.{rules, ◌≡◌, List, length, sym, subst}
+use Rattle.std.proofs.Common.{rules, ◌≡◌, Err, length, sym, ap, ◌∙◌}
+use Rattle.std.specs.Prelude.{Contains}
+use Rattle.std.proofs.lemmas.Result.{on_ok_weaker, IfErr-weaker}
+use Rattle.timing_defs.specs.declared.faults.Fault.{Fault}
 use Rattle.pin_graph.specs.RowTables.{IsRangeFault}
-use Rattle.required_engine.specs.declared.passes.Evaluated.{Evaluated}
-use Rattle.required_engine.proofs.PassLaws.{IsPutting, putting_starts, in_table, putting_fails, putting_more, putting_ends}
+use Rattle.required_engine.specs.Worked.{IsAnswerAt}
+use Rattle.required_engine.proofs.PassLaws.{as_many, level_written, fault_is_range}
 use Rattle.required_engine.proofs.passes.put_rows.Goals as goal
 
-pub loop-evaluated-init : goal.loop-evaluated-init
-loop-evaluated-init c =
-    let all : c.into_iter-evaluated-iterator.result.rest.items ≡ c.args.found.items = search rules in
-    subst (λ (xs : List Evaluated). IsPutting c.args.graph.now c.args.level c.args.rows.now xs) (sym all)
-    (putting_starts c.args.graph.now c.args.level c.args.rows.now c.args.nodes.now c.args.found.items c.requires.nodes c.requires.found c.requires.done)
-
-pub returns-in_err-row-clause-err : goal.returns-in_err-row-clause-err
-returns-in_err-row-clause-err c =
-    let bad : IsRangeFault c.args.graph.now.stored.design c.in_err-row.field-0.0 =
-    putting_fails c.args.graph.now c.args.level c.loop-evaluated.rows c.loop-evaluated.evaluated-iterator.rest.items c.next.new.self.rest.items
-    c.in-Some.evaluated c.loop-evaluated.invariant c.in-Some.ensures.steps.0 c.in_err-row.field-0.0 c.in_err-row.was in
-    search rules
-
-pub set-requires : goal.set-requires
-set-requires c =
-    in_table c.args.graph.now c.args.level c.loop-evaluated.rows c.loop-evaluated.evaluated-iterator.rest.items c.next.new.self.rest.items
-    c.in-Some.evaluated c.loop-evaluated.invariant c.in-Some.ensures.steps.0
-
-pub loop-evaluated-preserved : goal.loop-evaluated-preserved
-loop-evaluated-preserved c =
-    subst (λ rows. IsPutting c.args.graph.now c.args.level rows c.next.new.self.rest.items) (sym c.in_ok-set.ensures.ok)
-    (putting_more c.args.graph.now c.args.level c.loop-evaluated.rows c.loop-evaluated.evaluated-iterator.rest.items c.next.new.self.rest.items
-    c.in-Some.evaluated c.loop-evaluated.invariant c.in-Some.ensures.steps.0 c.in_ok-row.field-0 c.in_ok-row.was)
+pub put_all-requires-after_bounds : goal.put_all-requires-after_bounds
+put_all-requires-after_bounds g c κs within =
+    let shown : c.as_slice.result.now ≡ c.args.found = search rules in
+    as_many (IsAnswerAt c.args.graph.now c.args.level) c.args.nodes.now c.args.found c.requires.found ∙ ap length (sym shown)
 
 pub returns-clause-done : goal.returns-clause-done
-returns-clause-done c =
-    let none : length c.loop-evaluated.evaluated-iterator.rest.items ≡ 0 = search rules in
-    putting_ends c.args.graph.now c.args.level c.loop-evaluated.rows c.loop-evaluated.evaluated-iterator.rest.items c.loop-evaluated.invariant none
+returns-clause-done g c =
+    let shown : c.as_slice.result.now ≡ c.args.found = search rules in
+    on_ok_weaker c.first_fault.result
+    (level_written c.args.graph.now c.args.level c.args.rows.now c.put_all.new.self c.args.nodes.now c.args.found c.as_slice.result.now c.requires.nodes
+    c.requires.found c.requires.done shown c.in_ok-put_all.ensures.ok)
+    c.first_fault.ensures.ok
+
+pub returns-clause-err : goal.returns-clause-err
+returns-clause-err g c =
+    IfErr-weaker c.first_fault.result (λ (f : Fault). Contains c.args.found (Err f)) (IsRangeFault c.args.graph.now.stored.design)
+    (fault_is_range c.args.graph.now c.args.level c.args.nodes.now c.args.found c.requires.nodes c.requires.found)
+    c.first_fault.ensures.err
