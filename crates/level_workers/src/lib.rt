@@ -3,6 +3,7 @@
 
 mod mapping;
 mod pieces;
+mod runs;
 #[cfg(test)]
 mod tests;
 

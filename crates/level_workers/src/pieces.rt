@@ -1,4 +1,4 @@
-//! Pieces of a level: runs of items that a thread maps one after another.
+//! Pieces of a level, one for each thread, and how the items are cut into them and into blocks.
 
 ghost use Rattle.std.specs.Prelude.{◌≡◌, ◌+◌, ◌<◌, ◌≤◌, ◌^◌};
 
@@ -32,16 +32,41 @@ impl Pieces {
         };
         (front, back)
     }
+}
 
-    /// How many of `len` items fall to these pieces, of `count` pieces that share them evenly.
-    pub(crate) fn share(self, len: usize, count: u32) -> usize
-        requires some { 0 < count }
-        requires part { self.count ≤ count }
+/// The most blocks of a piece.
+const MOST: usize = 8;
+
+/// How the items of a level are cut, in order and evenly: into pieces, and these into blocks.
+#[derive(Debug, Clone, Copy, PartialEq, Eq, Drop)]
+pub(crate) struct Cut {
+    blocks: usize,
+    each: usize,
+    ghost some: { 0 < blocks },
+}
+
+impl Cut {
+    /// The cut of so many items into so many pieces.
+    pub(crate) fn of(len: usize, pieces: u32) -> Cut {
+        let pieces = (pieces as usize).max(1);
+        let each = (len / pieces).clamp(1, MOST);
+        Cut {
+            blocks: pieces * each,
+            each,
+        }
+    }
+
+    /// How many blocks a piece has.
+    pub(crate) fn each(self) -> usize {
+        self.each
+    }
+
+    /// The place, of so many items, at which a block of a piece begins.
+    pub(crate) fn start(self, len: usize, piece: usize, block: usize) -> usize
         ensures { result ≤ len }
     {
-        let each = len / count as usize;
-        let more = len % count as usize;
-        let own = self.count as usize;
-        own * each + own.min(more)
+        let before = piece.saturating_mul(self.each).saturating_add(block);
+        let before = before.min(self.blocks);
+        before * (len / self.blocks) + before.min(len % self.blocks)
     }
 }

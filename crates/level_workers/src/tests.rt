@@ -40,6 +40,27 @@ impl Gate for BothBegin {
     }
 }
 
+/// Holds piece 1 of level 8 until five items are mapped, or until it has waited for all its turns.
+#[derive(Drop)]
+struct HoldsOne {
+    mapped: AtomicU64,
+    given_up: AtomicU64,
+}
+
+impl Gate for HoldsOne {
+    fn at(&self, point: Point) {
+        if point != (Point::Piece { level: 8, piece: 1 }) {
+            return;
+        }
+        for _ in 0..TURNS {
+            if self.mapped.load(Ordering::SeqCst) == 5 {
+                return;
+            }
+        }
+        self.given_up.fetch_add(1, Ordering::SeqCst);
+    }
+}
+
 fn doubled(x: &u32) -> Result<u32, Memory> {
     Ok(x.wrapping_mul(2))
 }
@@ -69,6 +90,23 @@ fn gates_pieces(rt: HostRuntime) -> Result<(), Fail> {
     assert_eq!(rt; found.as_slice(), [2, 4, 6, 8, 10].as_slice());
     assert_eq!(rt; gate.begun.load(Ordering::SeqCst), (1 << 32) + 1);
     assert_eq!(rt; gate.other.load(Ordering::SeqCst), 0);
+    assert_eq!(rt; gate.given_up.load(Ordering::SeqCst), 0);
+    Ok(())
+}
+
+#[test]
+fn blocks_of_a_piece_that_is_held_are_taken_over(rt: HostRuntime) -> Result<(), Fail> {
+    let gate = HoldsOne {
+        mapped: AtomicU64::new(0),
+        given_up: AtomicU64::new(0),
+    };
+    let count = |x: &u32| -> Result<u32, Memory> {
+        gate.mapped.fetch_add(1, Ordering::SeqCst);
+        doubled(x)
+    };
+    let found = map_level(&rt, rt.alloc(), 2, 8, &[1, 2, 3, 4, 5], &count, &gate)?;
+    assert_eq!(rt; found.as_slice(), [2, 4, 6, 8, 10].as_slice());
+    assert_eq!(rt; gate.mapped.load(Ordering::SeqCst), 5);
     assert_eq!(rt; gate.given_up.load(Ordering::SeqCst), 0);
     Ok(())
 }
