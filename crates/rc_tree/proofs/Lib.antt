@@ -2,6 +2,7 @@ pub mod Routes
 pub mod Forest
 pub mod Moments
 pub mod Listing
+pub mod Keeping
 pub mod Growing
 pub mod Bridge
 pub mod Passes

@@ -1,6 +1,7 @@
 -- Nodes by their numbers: what an insertion adds, what a look-up finds, and that no node has two numbers.
-use Rattle.std.proofs.Common.{◌≡◌, ℕ, zero, suc, ◌+◌, ◌<◌, ◌≤◌, ◌-◌, ◌==◌, nat_eq, Bool, true, false, ◌||◌, if◌then◌else◌, List, [], ◌∷◌, ◌++◌, map, length, get_or, position, take, Option, None, Some, is_some, refl, ap, sym, subst, ◌∙◌, arith, inl, inr, append_assoc, append-nil, ◌⊎◌}
+use Rattle.std.proofs.Common.{Result, Ok, Err, ◌≡◌, ℕ, zero, suc, ◌+◌, ◌<◌, ◌≤◌, ◌-◌, ◌==◌, nat_eq, Bool, true, false, ◌||◌, if◌then◌else◌, List, [], ◌∷◌, ◌++◌, map, length, get_or, position, take, Option, None, Some, is_some, refl, ap, sym, subst, ◌∙◌, arith, inl, inr, append_assoc, append-nil, ◌⊎◌}
 use Rattle.std.specs.List.{AllByRecursion, list_any, IsDistinct, flat_map}
+use Rattle.std.specs.Result.{OnOk}
 use Rattle.std.specs.Str.{bytes_eq}
 use Rattle.std.proofs.lemmas.Bool.{false≢true, cases_lt, eqb-true, eq-eqb}
 use Rattle.std.proofs.lemmas.List.{take_more, map-append, length-map, length-append, get_or_append_left, get_or-append_right, get_or-map}
@@ -235,6 +236,21 @@ inner_joined ps is is' k e =
     by : (b : Bool) → list_any (nat_eq k) is ≡ b → length ps + (if list_any (nat_eq k) is then length is else suc (length is)) ≡ (if is_node (joined ps is) (rc_inner k) then length (joined ps is) else suc (length (joined ps is)))
     by true b = (let h : is_node (joined ps is) (rc_inner k) ≡ true = inner_in ps is k ∙ b in rw (b, h) (sym (length_joined ps is)))
     by false b = (let h : is_node (joined ps is) (rc_inner k) ≡ false = inner_in ps is k ∙ b in let l = length_joined ps is in rw (b, h) (omega arith))
+
+-- a node that is there, and one that is added
+pub pin_there : (ps : List (List ℕ)) (is : List ℕ) (k : List ℕ) → list_any (bytes_eq k) ps ≡ true → IsJoined (joined ps is) (rc_pin k ∷ []) (joined ps is)
+pin_there ps is k e = pin_joined ps ps is k (sym (ap (λ b. if b then ps else ps ++ k ∷ []) e))
+
+pub pin_new : {E : Type 0} (ps ps' : List (List ℕ)) (is : List ℕ) (k copy : List ℕ) (r : Result (Unit {0}) E) → copy ≡ k → list_any (bytes_eq k) ps ≡ false → OnOk r (ps' ≡ ps ++ copy ∷ []) → OnOk r (IsJoined (joined ps is) (rc_pin k ∷ []) (joined ps' is))
+pin_new ps ps' is k copy (Ok x) q e h = pin_joined ps ps' is k (h ∙ ap (λ n. ps ++ n ∷ []) q ∙ sym (ap (λ b. if b then ps else ps ++ k ∷ []) e))
+pin_new ps ps' is k copy (Err x) q e h = h
+
+pub inner_there : (ps : List (List ℕ)) (is : List ℕ) (k : ℕ) → list_any (nat_eq k) is ≡ true → IsJoined (joined ps is) (rc_inner k ∷ []) (joined ps is)
+inner_there ps is k e = inner_joined ps is is k (sym (ap (λ b. if b then is else is ++ k ∷ []) e))
+
+pub inner_new : {E : Type 0} (ps : List (List ℕ)) (is is' : List ℕ) (k : ℕ) (r : Result (Unit {0}) E) → list_any (nat_eq k) is ≡ false → OnOk r (is' ≡ is ++ k ∷ []) → OnOk r (IsJoined (joined ps is) (rc_inner k ∷ []) (joined ps is'))
+inner_new ps is is' k (Ok x) e h = inner_joined ps is is' k (h ∙ sym (ap (λ b. if b then is else is ++ k ∷ []) e))
+inner_new ps is is' k (Err x) e h = h
 
 -- one list after another
 pub joined_none : (old : List RcNode) → IsJoined old [] old

@@ -8,7 +8,7 @@ use Rattle.rc_tree.specs.Trees.{is_node}
 use Rattle.rc_tree.specs.declared.nodes.Nodes.{Nodes}
 
 abbrev pub numbered : Nodes → List RcNode
-numbered n = map rc_pin n.pins.keys ++ map rc_inner n.inners.keys
+numbered n = map rc_pin n.pins ++ map rc_inner n.inners
 
 abbrev pub node_at : List RcNode → ℕ → RcNode
 node_at nodes i = get_or nodes i (rc_inner 0)

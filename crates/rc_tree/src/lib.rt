@@ -3,6 +3,7 @@
 
 mod faults;
 mod forests;
+mod keys;
 mod links;
 mod nodes;
 mod segments;

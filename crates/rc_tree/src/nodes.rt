@@ -1,13 +1,13 @@
 //! The nodes of a net by their numbers.
 
-ghost use Rattle.std.specs.Prelude.{◌≡◌, ◌<◌, [], ◌∷◌, ◌++◌, map, length, true, if◌then◌else◌, IfOk};
+ghost use Rattle.std.specs.Prelude.{◌≡◌, ◌<◌, [], ◌∷◌, ◌++◌, map, length, true, if◌then◌else◌, IfOk, OnOk};
 ghost use Rattle.std.specs.List.{flat_map};
 ghost use Rattle.timing_defs.specs.declared.parasitics.RcNode.TheVariants.{Pin as rc_pin, Inner as rc_inner};
 ghost use Rattle.timing_defs.specs.Wires.{is_lumped};
 ghost use Rattle.rc_tree.specs.Trees.{is_node, tree_nodes};
 ghost use Rattle.rc_tree.specs.Numbering.{numbered, node_at, AreApart, IsNumberOf, IsJoined};
 
-use indexmap::IndexSet;
+use crate::keys::Keys;
 use sta_units::Memory;
 use std::alloc::Global;
 use timing_defs::{Name, NetRc, PinCap, RcCap, RcNode, RcRes};
@@ -16,8 +16,8 @@ use timing_defs::{Name, NetRc, PinCap, RcCap, RcNode, RcRes};
 /// count the pins first.
 #[derive(Drop)]
 pub(crate) struct Nodes {
-    pins: IndexSet<Name>,
-    inners: IndexSet<u32>,
+    pins: Keys<Name>,
+    inners: Keys<u32>,
 }
 
 impl Nodes {
@@ -26,36 +26,34 @@ impl Nodes {
         ensures { numbered result ≡ [] }
     {
         Nodes {
-            pins: IndexSet::new(alloc),
-            inners: IndexSet::new(alloc),
+            pins: Keys::new(alloc),
+            inners: Keys::new(alloc),
         }
     }
 
     /// Adds a pin, if it is not there.
-    pub(crate) fn insert_pin(self, alloc: Global, pin: &Name) -> Result<Nodes, Memory>
-        ensures { IfOk result (λ more. IsJoined (numbered self) (rc_pin pin.now ∷ []) (numbered more)) }
+    pub(crate) fn insert_pin(&mut self, alloc: Global, pin: &Name) -> Result<(), Memory>
+        ensures { OnOk result (IsJoined (numbered self.old) (rc_pin pin.now ∷ []) (numbered self.new)) }
     {
-        let Nodes { mut pins, inners } = self;
-        match pins.insert(pin.copied(alloc)?) {
-            Ok(_) => Ok(Nodes { pins, inners }),
-            Err(_) => Err(Memory),
+        match self.pins.place(pin) {
+            Some(_) => Ok(()),
+            None => self.pins.push(pin.copied(alloc)?),
         }
     }
 
     /// Adds an inner node, if it is not there.
-    fn insert_inner(self, inner: u32) -> Result<Nodes, Memory>
-        ensures { IfOk result (λ more. IsJoined (numbered self) (rc_inner inner ∷ []) (numbered more)) }
+    fn insert_inner(&mut self, inner: u32) -> Result<(), Memory>
+        ensures { OnOk result (IsJoined (numbered self.old) (rc_inner inner ∷ []) (numbered self.new)) }
     {
-        let Nodes { pins, mut inners } = self;
-        match inners.insert(inner) {
-            Ok(_) => Ok(Nodes { pins, inners }),
-            Err(_) => Err(Memory),
+        match self.inners.place(&inner) {
+            Some(_) => Ok(()),
+            None => self.inners.push(inner),
         }
     }
 
     /// Adds a node, if it is not there.
-    pub(crate) fn insert(self, alloc: Global, node: &RcNode) -> Result<Nodes, Memory>
-        ensures { IfOk result (λ more. IsJoined (numbered self) (node.now ∷ []) (numbered more)) }
+    pub(crate) fn insert(&mut self, alloc: Global, node: &RcNode) -> Result<(), Memory>
+        ensures { OnOk result (IsJoined (numbered self.old) (node.now ∷ []) (numbered self.new)) }
     {
         match node {
             RcNode::Pin(pin) => self.insert_pin(alloc, pin),
@@ -75,14 +73,14 @@ impl Nodes {
     pub(crate) fn pin_number(&self, pin: &Name) -> Option<usize>
         ensures { IsNumberOf (numbered self.now) (rc_pin pin.now) result }
     {
-        self.pins.get_index_of(pin)
+        self.pins.place(pin)
     }
 
     /// The number of an inner node.
     fn inner_number(&self, inner: u32) -> Option<usize>
         ensures { IsNumberOf (numbered self.now) (rc_inner inner) result }
     {
-        match self.inners.get_index_of(&inner) {
+        match self.inners.place(&inner) {
             Some(place) => {
                 let inners = self.inners.len();
                 prove!(place < inners);
@@ -116,55 +114,52 @@ impl Nodes {
 }
 
 /// Adds pins.
-fn add_pins(alloc: Global, nodes: Nodes, pins: &[PinCap]) -> Result<Nodes, Memory>
-    ensures { IfOk result (λ more. IsJoined (numbered nodes) (map (λ p. rc_pin p.pin) pins.now) (numbered more)) }
+fn add_pins(alloc: Global, nodes: &mut Nodes, pins: &[PinCap]) -> Result<(), Memory>
+    ensures { OnOk result (IsJoined (numbered nodes.old) (map (λ p. rc_pin p.pin) pins.now) (numbered nodes.new)) }
 {
-    let mut all = nodes;
     for pin in pins {
-        all = all.insert_pin(alloc, &pin.pin)?;
+        nodes.insert_pin(alloc, &pin.pin)?;
     }
-    Ok(all)
+    Ok(())
 }
 
 /// Adds the two ends of a resistor.
-fn add_ends(alloc: Global, nodes: Nodes, resistor: &RcRes) -> Result<Nodes, Memory>
-    ensures { IfOk result (λ more. IsJoined (numbered nodes) (resistor.now.a ∷ resistor.now.b ∷ []) (numbered more)) }
+fn add_ends(alloc: Global, nodes: &mut Nodes, resistor: &RcRes) -> Result<(), Memory>
+    ensures { OnOk result (IsJoined (numbered nodes.old) (resistor.now.a ∷ resistor.now.b ∷ []) (numbered nodes.new)) }
 {
-    let first = nodes.insert(alloc, &resistor.a)?;
-    let both = first.insert(alloc, &resistor.b)?;
-    Ok(both)
+    nodes.insert(alloc, &resistor.a)?;
+    nodes.insert(alloc, &resistor.b)?;
+    Ok(())
 }
 
 /// Adds the ends of resistors.
-fn add_resistors(alloc: Global, nodes: Nodes, resistors: &[RcRes]) -> Result<Nodes, Memory>
-    ensures { IfOk result (λ more. IsJoined (numbered nodes) (flat_map (λ r. r.a ∷ r.b ∷ []) resistors.now) (numbered more)) }
+fn add_resistors(alloc: Global, nodes: &mut Nodes, resistors: &[RcRes]) -> Result<(), Memory>
+    ensures { OnOk result (IsJoined (numbered nodes.old) (flat_map (λ r. r.a ∷ r.b ∷ []) resistors.now) (numbered nodes.new)) }
 {
-    let mut all = nodes;
     for resistor in resistors {
-        all = add_ends(alloc, all, resistor)?;
+        add_ends(alloc, nodes, resistor)?;
     }
-    Ok(all)
+    Ok(())
 }
 
 /// Adds the nodes of capacitances.
-fn add_caps(alloc: Global, nodes: Nodes, caps: &[RcCap]) -> Result<Nodes, Memory>
-    ensures { IfOk result (λ more. IsJoined (numbered nodes) (map (λ c. c.node) caps.now) (numbered more)) }
+fn add_caps(alloc: Global, nodes: &mut Nodes, caps: &[RcCap]) -> Result<(), Memory>
+    ensures { OnOk result (IsJoined (numbered nodes.old) (map (λ c. c.node) caps.now) (numbered nodes.new)) }
 {
-    let mut all = nodes;
     for cap in caps {
-        all = all.insert(alloc, &cap.node)?;
+        nodes.insert(alloc, &cap.node)?;
     }
-    Ok(all)
+    Ok(())
 }
 
 /// Adds the pins of a net, where it is lumped.
-fn add_lumped(alloc: Global, nodes: Nodes, net: &NetRc, pins: &[PinCap]) -> Result<Nodes, Memory>
-    ensures { IfOk result (λ more. IsJoined (numbered nodes) (if is_lumped net.now then map (λ p. rc_pin p.pin) pins.now else []) (numbered more)) }
+fn add_lumped(alloc: Global, nodes: &mut Nodes, net: &NetRc, pins: &[PinCap]) -> Result<(), Memory>
+    ensures { OnOk result (IsJoined (numbered nodes.old) (if is_lumped net.now then map (λ p. rc_pin p.pin) pins.now else []) (numbered nodes.new)) }
 {
     if net.ress.len() == 0 {
         return add_pins(alloc, nodes, pins);
     }
-    Ok(nodes)
+    Ok(())
 }
 
 /// The nodes of the tree of a net, its root first.
@@ -177,9 +172,10 @@ pub(crate) fn tree_nodes(
     ensures nodes { IfOk result (λ nodes. IsJoined [] (tree_nodes net.now root.now pins.now) (numbered nodes)) }
     ensures root { IfOk result (λ nodes. node_at (numbered nodes) 0 ≡ rc_pin root.now) }
 {
-    let first = Nodes::new(alloc).insert_pin(alloc, root)?;
-    let lumped = add_lumped(alloc, first, net, pins)?;
-    let ends = add_resistors(alloc, lumped, net.ress.as_slice())?;
-    let all = add_caps(alloc, ends, net.caps.as_slice())?;
-    Ok(all)
+    let mut nodes = Nodes::new(alloc);
+    nodes.insert_pin(alloc, root)?;
+    add_lumped(alloc, &mut nodes, net, pins)?;
+    add_resistors(alloc, &mut nodes, net.ress.as_slice())?;
+    add_caps(alloc, &mut nodes, net.caps.as_slice())?;
+    Ok(nodes)
 }

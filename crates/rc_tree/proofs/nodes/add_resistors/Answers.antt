@@ -5,5 +5,5 @@ use Rattle.rc_tree.proofs.nodes.add_resistors.Goals as goal
 
 pub loop-resistor-preserved : goal.loop-resistor-preserved
 loop-resistor-preserved c =
-    joined_flat (λ r. r.a ∷ r.b ∷ []) (numbered c.args.nodes) (numbered c.loop-resistor.all) (numbered c.in_ok-all.all) c.args.resistors.now c.loop-resistor.resistor-index c.resistor-item.result
-    c.loop-resistor-test.true c.resistor-item.is c.loop-resistor.invariant c.in_ok-all.ensures
+    joined_flat (λ r. r.a ∷ r.b ∷ []) (numbered c.args.nodes.now) (numbered c.loop-resistor.nodes) (numbered c.add_ends.new.nodes) c.args.resistors.now c.loop-resistor.resistor-index c.resistor-item.result
+    c.loop-resistor-test.true c.resistor-item.is c.loop-resistor.invariant c.in_ok-add_ends.ensures

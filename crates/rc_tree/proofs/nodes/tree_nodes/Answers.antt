@@ -8,15 +8,15 @@ use Rattle.rc_tree.proofs.nodes.tree_nodes.Goals as goal
 
 pub returns-clause-nodes : goal.returns-clause-nodes
 returns-clause-nodes c =
-    joined_tree c.args.net.now c.args.root.now c.args.pins.now (numbered c.new.result) (numbered c.in_ok-first.first) (numbered c.in_ok-lumped.lumped) (numbered c.in_ok-ends.ends) (numbered c.in_ok-all.all)
-    c.new.ensures c.in_ok-first.ensures c.in_ok-lumped.ensures
-    (subst (λ rs. IsJoined (numbered c.in_ok-lumped.lumped) (flat_map (λ r. r.a ∷ r.b ∷ []) rs) (numbered c.in_ok-ends.ends)) c.as_slice.ensures c.in_ok-ends.ensures)
-    (subst (λ cs. IsJoined (numbered c.in_ok-ends.ends) (map (λ x. x.node) cs) (numbered c.in_ok-all.all)) c.as_slice-2.ensures c.in_ok-all.ensures)
+    joined_tree c.args.net.now c.args.root.now c.args.pins.now (numbered c.new-nodes.result) (numbered c.insert_pin.new.self) (numbered c.add_lumped.new.nodes) (numbered c.add_resistors.new.nodes) (numbered c.add_caps.new.nodes)
+    c.new-nodes.ensures c.in_ok-insert_pin.ensures c.in_ok-add_lumped.ensures
+    (subst (λ rs. IsJoined (numbered c.add_lumped.new.nodes) (flat_map (λ r. r.a ∷ r.b ∷ []) rs) (numbered c.add_resistors.new.nodes)) c.as_slice.ensures c.in_ok-add_resistors.ensures)
+    (subst (λ cs. IsJoined (numbered c.add_resistors.new.nodes) (map (λ x. x.node) cs) (numbered c.add_caps.new.nodes)) c.as_slice-2.ensures c.in_ok-add_caps.ensures)
 
 pub returns-clause-root : goal.returns-clause-root
 returns-clause-root c =
     root_first c.args.root.now (if is_lumped c.args.net.now then map (λ p. rc_pin p.pin) c.args.pins.now else []) (flat_map (λ r. r.a ∷ r.b ∷ []) c.args.net.now.ress)
-    (numbered c.new.result) (numbered c.in_ok-first.first) (numbered c.in_ok-lumped.lumped) (numbered c.in_ok-ends.ends) (numbered c.in_ok-all.all) (map (λ x. x.node) c.args.net.now.caps)
-    c.new.ensures c.in_ok-first.ensures c.in_ok-lumped.ensures
-    (subst (λ rs. IsJoined (numbered c.in_ok-lumped.lumped) (flat_map (λ r. r.a ∷ r.b ∷ []) rs) (numbered c.in_ok-ends.ends)) c.as_slice.ensures c.in_ok-ends.ensures)
-    (subst (λ cs. IsJoined (numbered c.in_ok-ends.ends) (map (λ x. x.node) cs) (numbered c.in_ok-all.all)) c.as_slice-2.ensures c.in_ok-all.ensures)
+    (numbered c.new-nodes.result) (numbered c.insert_pin.new.self) (numbered c.add_lumped.new.nodes) (numbered c.add_resistors.new.nodes) (numbered c.add_caps.new.nodes) (map (λ x. x.node) c.args.net.now.caps)
+    c.new-nodes.ensures c.in_ok-insert_pin.ensures c.in_ok-add_lumped.ensures
+    (subst (λ rs. IsJoined (numbered c.add_lumped.new.nodes) (flat_map (λ r. r.a ∷ r.b ∷ []) rs) (numbered c.add_resistors.new.nodes)) c.as_slice.ensures c.in_ok-add_resistors.ensures)
+    (subst (λ cs. IsJoined (numbered c.add_resistors.new.nodes) (map (λ x. x.node) cs) (numbered c.add_caps.new.nodes)) c.as_slice-2.ensures c.in_ok-add_caps.ensures)

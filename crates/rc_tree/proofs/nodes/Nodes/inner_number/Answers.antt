@@ -6,7 +6,7 @@ use Rattle.rc_tree.proofs.nodes.Nodes.inner_number.Goals as goal
 
 pub returns-in-Some : goal.returns-in-Some
 returns-in-Some c = subst (λ n. (n + c.in-Some.place < length (numbered c.args.self.now)) × (node_at (numbered c.args.self.now) (n + c.in-Some.place) ≡ rc_inner c.args.inner)) (sym c.len.ensures.len)
-    (inner_some c.args.self.now.pins.keys c.args.self.now.inners.keys c.args.inner c.in-Some.place c.in-Some.ensures.index)
+    (inner_some c.args.self.now.pins c.args.self.now.inners c.args.inner c.in-Some.place c.in-Some.ensures.index)
 
 pub returns-in-None : goal.returns-in-None
-returns-in-None c = inner_none c.args.self.now.pins.keys c.args.self.now.inners.keys c.args.inner c.in-None.ensures.found
+returns-in-None c = inner_none c.args.self.now.pins c.args.self.now.inners c.args.inner c.in-None.ensures.found

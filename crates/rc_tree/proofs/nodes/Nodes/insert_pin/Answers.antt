@@ -1,8 +1,10 @@
-use Rattle.std.proofs.Common.{◌∙◌, ap}
-use Rattle.indexmap.specs.IndexSet.{insert_key}
-use Rattle.std.specs.Str.{bytes_eq}
-use Rattle.rc_tree.proofs.Listing.{pin_joined}
+use Rattle.std.proofs.Common.{sym}
+use Rattle.rc_tree.proofs.Listing.{pin_there, pin_new}
 use Rattle.rc_tree.proofs.nodes.Nodes.insert_pin.Goals as goal
 
-pub returns-in-Ok : goal.returns-in-Ok
-returns-in-Ok c = pin_joined c.args.self.pins.keys c.insert.new.self.keys c.args.self.inners.keys c.args.pin.now (c.in-Ok.ensures.keys ∙ ap (insert_key bytes_eq c.args.self.pins.keys) c.in_ok-copied.ensures)
+pub returns-in-Some : goal.returns-in-Some
+returns-in-Some c = pin_there c.args.self.now.pins c.args.self.now.inners c.args.pin.now (sym c.in-Some.ensures.found)
+
+pub returns-in_ok-copied-in-None : goal.returns-in_ok-copied-in-None
+returns-in_ok-copied-in-None c =
+    pin_new c.args.self.now.pins c.push.new.self c.args.self.now.inners c.args.pin.now c.in_ok-copied-in-None.field-0 c.push.result c.in_ok-copied-in-None.ensures (sym c.in-None.ensures.found) c.push.ensures
