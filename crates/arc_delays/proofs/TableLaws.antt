@@ -20,20 +20,22 @@ use Rattle.timing_defs.specs.Wires.{wire_delay}
 use Rattle.timing_defs.specs.Rows.{row, delay, delay_from, delay_along, raw_delay, scaled, slew_in, net_name, load_at, outermost, library_arcs}
 use Rattle.timing_defs.specs.Range.{within_some}
 use Rattle.netlist_store.specs.Linked.{IsLinked}
-use Rattle.netlist_store.specs.Numbering.{Stored, IsNumbered}
+use Rattle.netlist_store.specs.Numbering.{Stored, IsNumbered, is_number}
 use Rattle.level_workers.specs.Mapped.{IsMap}
 use Rattle.node_rows.specs.declared.settings.Setting.{Setting}
 use Rattle.node_rows.specs.Evaluation.{IsSetting, scaled_over, is_wide_looked, is_wide_scaled, is_wide_end, is_wide_along}
 use Rattle.node_rows.proofs.AlongLaws.{bound_of}
 use Rattle.pin_graph.specs.declared.arcs.GraphArc.{GraphArc}
-use Rattle.pin_graph.specs.Nodes.{node_at, node_bound}
+use Rattle.pin_graph.specs.Nodes.{node_at, node_bound, pin_under}
+use Rattle.pin_graph.specs.NodeArcs.{none_arc}
 use Rattle.pin_graph.specs.Graphs.{Graphed, IsGraph, IsArc, fan_at}
 use Rattle.pin_graph.specs.RowTables.{AreRows, AreRowsFine}
 use Rattle.pin_graph.proofs.Members.{first_in, later_in, none_in}
 use Rattle.pin_graph.proofs.NodeLaws.{node_below, has_node}
+use Rattle.arc_delays.specs.declared.along.Entered.{Entered}
 use Rattle.arc_delays.specs.declared.tables.ArcDelay.{ArcDelay}
-use Rattle.arc_delays.specs.Delays.{delay_numbered, delay_in, delay_told, arc_delay, AreDelays, AreInto, AreWithin, IsFound}
-use Rattle.arc_delays.proofs.DelayLaws.{narrow_arc}
+use Rattle.arc_delays.specs.Delays.{delay_numbered, delay_in, delay_told, arc_delay, AreDelays, AreInto, AreWithin, IsEntered, IsFound}
+use Rattle.arc_delays.proofs.DelayLaws.{narrow_arc, to_there}
 use Rattle.arc_delays.proofs.RangeLaws.{within}
 
 last : (a n j : ℕ) → a + n ≡ j → range_with_len a (suc n) ≡ range_with_len a n ++ j ∷ []
@@ -204,8 +206,22 @@ delays_more s arcs i x d before after low told had put =
     ∙ sym (ap (map (arc_delay s)) (take_more arcs i x low) ∙ map_push (arc_delay s) (take i arcs) (get_or arcs i x))
 
 -- the arcs into a node are those of the design
-pub arcs_sound : (g : Graphed) (n : ℕ) → IsGraph g → n < node_bound g.stored → All (IsArc g.stored) (fan_at g.ins n)
-arcs_sound g n is low = λ i d l. ((is.ins n low).sound (get_or (fan_at g.ins n) i d) (All-contains_itself (fan_at g.ins n) i d l)).0
+module _ (g : Graphed) (n : ℕ) (is : IsGraph g) (low : n < node_bound g.stored) where
+  into_node : (arc : GraphArc) → Contains (fan_at g.ins n) arc → IsArc g.stored arc × (arc.to ≡ n)
+  into_node = (is.ins n low).sound
+
+  -- its pin has a number where some arc leads to it
+  pub entered_there : (s : Stored) → g.stored ≡ s → IsNumbered s → IsLinked s.design → (rows : List NodeRow) → AreRows g.stored rows → AreWithin g.stored.design
+      → 0 < length (fan_at g.ins n) → is_number g.stored.pins (pin_under n) ≡ true
+  entered_there s same num linked rows are fine some =
+      let at = into_node (get_or (fan_at g.ins n) 0 none_arc) (All-contains_itself (fan_at g.ins n) 0 none_arc some) in
+      subst (λ (k : ℕ). is_number g.stored.pins (pin_under k) ≡ true) at.1
+      (to_there g s same num linked is rows are fine (get_or (fan_at g.ins n) 0 none_arc) at.0)
+
+  pub arcs_entered : (to : Entered) → IsEntered g n to → All (λ arc. IsArc g.stored arc × IsEntered g arc.to to) (fan_at g.ins n)
+  arcs_entered to e = λ i d l.
+      let at = into_node (get_or (fan_at g.ins n) i d) (All-contains_itself (fan_at g.ins n) i d l) in
+      (at.0, subst (λ (k : ℕ). IsEntered g k to) (sym at.1) e)
 
 -- what a call gives of each node
 pub map_weaker : {I R : Type 0} (p q : I → R → Type 0) → ((x : I) (r : R) → p x r → q x r) → (xs : List I) (rs : List R) → IsMap p xs rs → IsMap q xs rs

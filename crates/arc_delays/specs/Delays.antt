@@ -11,16 +11,24 @@ use Rattle.timing_defs.specs.Rows.{arcs_in, row, delay}
 use Rattle.netlist_store.specs.Numbering.{Stored}
 use Rattle.node_rows.specs.declared.settings.NodeAt.{NodeAt}
 use Rattle.node_rows.specs.declared.settings.Setting.{Setting}
+use Rattle.node_rows.specs.Entries.{IsEntry}
 use Rattle.node_rows.specs.Evaluation.{is_row_within, is_wide_along, IsSetting}
 use Rattle.pin_graph.specs.declared.arcs.GraphArc.{GraphArc}
 use Rattle.pin_graph.specs.Nodes.{node_at, node_bound, pin_under, tran_under}
 use Rattle.pin_graph.specs.Graphs.{Graphed, IsArc, fan_at, network_at}
 use Rattle.pin_graph.specs.RowTables.{AreRows}
+use Rattle.arc_delays.specs.declared.along.Entered.{Entered}
 use Rattle.arc_delays.specs.declared.tables.ArcDelay.{ArcDelay}
 
 -- a node by its pin's number
 abbrev pub node_told : Graphed → ℕ → NodeAt
 node_told g node = record { pin = pin_under node; tran = tran_under node; network = network_at g node }
+
+-- a node to which arcs lead, with how they enter it in each split
+pub record IsEntered (g : Graphed) (node : ℕ) (to : Entered) : Type 0 where
+  pub told : to.node ≡ node_told g node
+  pub early : IsEntry g.stored Early to.node.pin to.early
+  pub late : IsEntry g.stored Late to.node.pin to.late
 
 -- the delay from one node's number to another's
 abbrev pub delay_numbered : Stored → Split → ℕ → ℕ → Option ℤ

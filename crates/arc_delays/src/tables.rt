@@ -9,9 +9,9 @@ ghost use Rattle.node_rows.specs.Evaluation.{IsSetting};
 ghost use Rattle.pin_graph.specs.Nodes.{node_bound};
 ghost use Rattle.pin_graph.specs.Graphs.{fan_at, IsArc};
 ghost use Rattle.pin_graph.specs.RowTables.{AreRows, AreRowsFine};
-ghost use Rattle.arc_delays.specs.Delays.{delay_in, arc_delay, delay_told, AreInto, AreDelays, IsFound};
+ghost use Rattle.arc_delays.specs.Delays.{delay_in, arc_delay, delay_told, AreInto, AreDelays, IsEntered, IsFound};
 
-use crate::along::delays_along;
+use crate::along::{Entered, delays_along, entered_at};
 use cow_table::CowTable;
 use level_workers::map_level;
 use node_rows::Setting;
@@ -85,27 +85,27 @@ fn delay_from(delays: &[ArcDelay], split: Split, from: u32) -> Option<i64>
     }
 }
 
-/// The delays of some arcs.
+/// The delays of some arcs that lead to a node.
 fn arc_delays(
     alloc: Global,
     setting: &Setting<'_>,
     graph: &Graph,
     rows: &CowTable<NodeRow>,
+    to: &Entered<'_>,
     arcs: &[GraphArc],
 ) -> Result<Items<ArcDelay>, Memory>
     requires found { IsFound setting.now graph.now rows.now }
-    requires arcs { All (IsArc graph.now.stored) arcs.now }
+    requires arcs { All (λ arc. IsArc graph.now.stored arc × IsEntered graph.now arc.to to.now) arcs.now }
     ensures { IfOk result (λ delays. delays ≡ map (arc_delay graph.now.stored) arcs.now) }
 {
     let mut delays = Items::with_room(alloc, arcs.len())?;
     for arc in arcs {
-        delays.push(delays_along(setting, graph, rows, arc))?;
+        delays.push(delays_along(setting, graph, rows, to, arc))?;
     }
     Ok(delays)
 }
 
 /// The delays of the arcs into a node; nothing is asked of other numbers.
-#[tactic(auto, using(crate::proofs::TableLaws::arcs_sound))]
 fn delays_into(
     alloc: Global,
     setting: &Setting<'_>,
@@ -116,11 +116,17 @@ fn delays_into(
     requires found { IsFound setting.now graph.now rows.now }
     ensures { IfOk result (AreInto graph.now node) }
 {
+    setting.store.laws();
     graph.laws();
     if node >= graph.count() {
         return Ok(Items::new(alloc));
     }
-    arc_delays(alloc, setting, graph, rows, graph.arcs_in(node))
+    let arcs = graph.arcs_in(node);
+    if arcs.is_empty() {
+        return Ok(Items::new(alloc));
+    }
+    let to = entered_at(setting, graph, node);
+    arc_delays(alloc, setting, graph, rows, &to, arcs)
 }
 
 /// The numbers of all nodes.

@@ -1,7 +1,7 @@
 -- What an arc brings to a node, as the code looks it up.
 
 use Rattle.std.proofs.Common.{◌≡◌, ℕ, ◌≤◌, ◌^◌, ℤ, pos, unsigned_abs, ◌*ℤ◌, true, false, not, ◌&&◌, List, filter, Option, None, Some, refl, sym, ap, subst, ◌∙◌}
-use Rattle.std.specs.Prelude.{option_map, option_and_then}
+use Rattle.std.specs.Prelude.{is_some, option_map, option_and_then}
 use Rattle.std.specs.List.{list_all}
 use Rattle.std.proofs.lemmas.Bool.{and_from}
 use Rattle.sta_units.specs.Numbers.{limit, is_within, rounded}
@@ -22,7 +22,7 @@ use Rattle.node_rows.specs.declared.pin_wires.Wires.{Wires}
 use Rattle.node_rows.specs.Between.{is_between, is_looked, is_delay_looked, outer_delay, outer_values, no_values, are_within}
 use Rattle.node_rows.specs.WireTables.{IsWire, AreWires, wire_at, told_delay, told_slew}
 use Rattle.node_rows.specs.Evaluation.{IsJoined, IsAlong, told_values, told_wide, scaled_some, scaled_values}
-use Rattle.node_rows.proofs.AlongLaws.{looked_large, looked_low, delay_low, delay_scaled, cell_told, cell_fine, scaled_large, bound_of, pin_of_node, wired, wire_large, wire_scaled_low, wire_delay_told, wire_none, wire_told, end_large}
+use Rattle.node_rows.proofs.AlongLaws.{no_slew, no_inst, port_of, looked_large, looked_low, delay_low, delay_scaled, cell_told, cell_fine, scaled_large, bound_of, pin_of_node, wired, wire_large, wire_scaled_low, wire_delay_told, wire_none, wire_told, end_large}
 use Rattle.node_rows.proofs.Members.{some_is}
 use Rattle.node_rows.proofs.InstForms.{arcs_there}
 
@@ -107,3 +107,12 @@ module _ (s : Stored) (w : Wires) (are : AreWires s w) (split : Split) (at : Nod
     pub end_wrong : (x : ℤ) → slew_in split b.row.now ≡ Some x → is_within (told_slew split wire x) ≡ false → told_wide s split at b ≡ true
     end_wrong x has wrong =
         end_large s split at b j drives wire led (factor_of s.design.constraints.derates split false) refl (told_delay split wire) refl delay scaled fine x has wrong
+
+-- nothing leads to an input port
+pub port_along : (s : Stored) (split : Split) (at : NodeAt) (b : Before) → IsJoined s at b.node → option_map is_driver (pin_numbered s at.pin) ≡ Some true
+    → is_some (option_and_then (λ (p : Pin). p.owner) (pin_numbered s at.pin)) ≡ false → (no_values ≡ told_values s split at b) × (told_wide s split at b ≡ false)
+port_along s split at b j drives none = by (slew_in split b.row.now) refl
+  where
+    by : (o : Option ℤ) → slew_in split b.row.now ≡ o → (no_values ≡ told_values s split at b) × (told_wide s split at b ≡ false)
+    by None e = no_slew s split at b j drives e
+    by (Some x) e = no_inst s split at b j x e drives (port_of s split at b j none)

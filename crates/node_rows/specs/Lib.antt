@@ -1,4 +1,5 @@
 pub mod Between
+pub mod Entries
 pub mod Evaluation
 pub mod FoundNets
 pub mod NetPins

@@ -3,6 +3,7 @@
 #![tactic(auto)]
 
 mod arcs;
+mod entries;
 mod found_nets;
 mod loads;
 mod merges;
@@ -18,6 +19,7 @@ mod values;
 mod wire_tables;
 
 pub use arcs::{ArcEnds, ArcValues, arc_values, outer_some, same_tran};
+pub use entries::{DrivingCell, Entry, entry_of};
 pub use merges::{plus_some, time_on, times_in};
 pub use pin_wires::{NetLoad, PinWire, SinkWire, Wires};
 pub use ports::Ports;

@@ -12,6 +12,7 @@ ghost use Rattle.node_rows.specs.Between.{are_within};
 ghost use Rattle.node_rows.specs.Evaluation.{IsSetting, AreBefore, told_values, told_wide, is_row_within, node_of, IsUnfit, merged_over, told_start, arrival_over, times_on, are_wide_times, has_clock};
 
 use crate::arcs::{ArcValues, outer_some, same_tran};
+use crate::entries::entry_of;
 use crate::pins::drives;
 use crate::settings::{Before, NodeAt, Setting};
 use crate::unfit::Unfit;
@@ -37,8 +38,9 @@ pub(crate) fn all_values(
     ensures err { IfErr result (IsUnfit (list_any (told_wide setting.now.store.now split to) before.now)) }
 {
     let mut values = Items::with_room(alloc, before.len())?;
+    let entry = entry_of(setting, split, to.pin);
     for node in before {
-        let value = values_into(setting, split, to, node)?;
+        let value = values_into(setting, split, to, &entry, node)?;
         values.push(value)?;
     }
     Ok(values)
@@ -208,13 +210,22 @@ pub(crate) fn is_input_port(store: &Store, pin: u32) -> bool
     }
 }
 
-/// When a node starts on a launch edge, in fs; none where nothing starts there.
-fn start_at(setting: &Setting<'_>, split: Split, to: NodeAt, clock: u32, tran: Tran) -> Option<i64>
+/// When a node starts on a launch edge, in fs; none where nothing starts there. `port` tells whether its
+/// pin is an input port.
+fn start_at(
+    setting: &Setting<'_>,
+    split: Split,
+    to: NodeAt,
+    port: bool,
+    clock: u32,
+    tran: Tran,
+) -> Option<i64>
     requires setting { IsSetting setting.now }
     requires pin { is_number setting.now.store.now.pins to.pin ≡ true }
+    requires port { option_map is_input_port (pin_numbered setting.now.store.now to.pin) ≡ Some port }
     ensures { option_map (λ node. start_at setting.now.store.now.design split node (clock, tran)) (node_of setting.now.store.now to) ≡ Some result }
 {
-    if is_input_port(setting.store, to.pin) {
+    if port {
         port_start(setting, split, to, clock, tran)
     } else {
         None
@@ -226,6 +237,7 @@ fn arrival_on(
     setting: &Setting<'_>,
     split: Split,
     to: NodeAt,
+    port: bool,
     before: &[Before<'_>],
     values: &[ArcValues],
     clock: u32,
@@ -233,12 +245,13 @@ fn arrival_on(
 ) -> Option<i64>
     requires setting { IsSetting setting.now }
     requires pin { is_number setting.now.store.now.pins to.pin ≡ true }
+    requires port { option_map is_input_port (pin_numbered setting.now.store.now to.pin) ≡ Some port }
     requires len { length values.now ≡ length before.now }
     requires rows { list_all (λ b. is_row_within b.row.now) before.now ≡ true }
     requires values { list_all are_within values.now ≡ true }
     ensures { result ≡ arrival_over setting.now.store.now split to before.now values.now (clock, tran) }
 {
-    match start_at(setting, split, to, clock, tran) {
+    match start_at(setting, split, to, port, clock, tran) {
         Some(time) => Some(time),
         None => merged_arrival(split, before, values, clock, tran),
     }
@@ -271,12 +284,14 @@ fn add_clock(
     setting: &Setting<'_>,
     split: Split,
     to: NodeAt,
+    port: bool,
     before: &[Before<'_>],
     values: &[ArcValues],
     clock: u32,
 ) -> Result<(), Unfit>
     requires setting { IsSetting setting.now }
     requires pin { is_number setting.now.store.now.pins to.pin ≡ true }
+    requires port { option_map is_input_port (pin_numbered setting.now.store.now to.pin) ≡ Some port }
     requires len { length values.now ≡ length before.now }
     requires rows { list_all (λ b. is_row_within b.row.now) before.now ≡ true }
     requires values { list_all are_within values.now ≡ true }
@@ -284,9 +299,9 @@ fn add_clock(
     ensures fine { OnOk result (are_wide_times (arrival_over setting.now.store.now split to before.now values.now) ((clock, Tran.Rise) ∷ (clock, Tran.Fall) ∷ []) ≡ false) }
     ensures err { IfErr result (IsUnfit (are_wide_times (arrival_over setting.now.store.now split to before.now values.now) ((clock, Tran.Rise) ∷ (clock, Tran.Fall) ∷ []))) }
 {
-    let rise = arrival_on(setting, split, to, before, values, clock, Tran::Rise);
+    let rise = arrival_on(setting, split, to, port, before, values, clock, Tran::Rise);
     add_time(times, clock, Tran::Rise, rise)?;
-    let fall = arrival_on(setting, split, to, before, values, clock, Tran::Fall);
+    let fall = arrival_on(setting, split, to, port, before, values, clock, Tran::Fall);
     add_time(times, clock, Tran::Fall, fall)
 }
 
@@ -309,6 +324,7 @@ pub(crate) fn arrivals(
     ensures err { IfErr result (IsUnfit (are_wide_times (arrival_over setting.now.store.now split to before.now values.now) (launch_edges setting.now.store.now.design))) }
 {
     setting.store.laws();
+    let port = is_input_port(setting.store, to.pin);
     let mut times = EdgeTimes::new(alloc);
     for (at, _) in setting
         .store
@@ -318,7 +334,9 @@ pub(crate) fn arrivals(
         .iter()
         .enumerate()
     {
-        add_clock(&mut times, setting, split, to, before, values, at as u32)?;
+        add_clock(
+            &mut times, setting, split, to, port, before, values, at as u32,
+        )?;
     }
     Ok(times)
 }

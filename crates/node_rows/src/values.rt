@@ -3,16 +3,18 @@
 ghost use Rattle.std.specs.Prelude.{◌≡◌, ◌≤◌, ◌*ℤ◌, ◌^◌, ◌&&◌, pos, not, true, false, Some, unsigned_abs, option_map, option_and_then, MatchResult, IfOk, IfErr};
 ghost use Rattle.sta_units.specs.Numbers.{limit, rounded, is_within};
 ghost use Rattle.timing_defs.specs.Netlist.{is_driver};
-ghost use Rattle.timing_defs.specs.Rows.{slew_in, load_at, factor_of};
+ghost use Rattle.timing_defs.specs.Rows.{slew_in, factor_of};
 ghost use Rattle.timing_defs.specs.Range.{within_some};
-ghost use Rattle.netlist_store.specs.Numbering.{is_number, pin_numbered, owner_number};
+ghost use Rattle.netlist_store.specs.Numbering.{is_number, pin_numbered};
 ghost use Rattle.node_rows.specs.Between.{no_values, are_within};
+ghost use Rattle.node_rows.specs.Entries.{IsDriven, IsEntry};
 ghost use Rattle.node_rows.specs.WireTables.{root_slew, told_slew, told_delay, wire_at};
 ghost use Rattle.node_rows.specs.Evaluation.{IsJoined, IsSetting, IsAlong, told_values, told_wide, is_row_within, scaled_some, scaled_values};
 
 use crate::arcs::{ArcEnds, ArcValues, arc_delay, arc_values};
+use crate::entries::{DrivingCell, Entry};
 use crate::pin_wires::PinWire;
-use crate::pins::{drives, own_name};
+use crate::pins::own_name;
 use crate::scaling::{factor_of, scaled};
 use crate::settings::{Before, NodeAt, Setting};
 use netlist_store::Store;
@@ -40,20 +42,6 @@ pub fn slew_in(row: &NodeRow, split: Split) -> Option<i64>
     }
 }
 
-/// The load of the net of a pin, in aF; 0 where it is on none.
-fn load_at(setting: &Setting<'_>, split: Split, pin: u32) -> i64
-    requires setting { IsSetting setting.now }
-    requires pin { is_number setting.now.store.now.pins pin ≡ true }
-    ensures value { option_map (load_at setting.now.store.now.design split) (pin_numbered setting.now.store.now pin) ≡ Some result }
-    ensures bound { unsigned_abs result ≤ limit }
-{
-    setting.store.laws();
-    match setting.store.net_of(pin) {
-        Some(net) => setting.wires.load(net, split),
-        None => 0,
-    }
-}
-
 /// The values with the delay times a factor. `OutOfRange` exactly where that leaves its limit.
 fn scaled_values(values: ArcValues, factor: u32) -> Result<ArcValues, OutOfRange>
     requires within { are_within values ≡ true }
@@ -71,20 +59,19 @@ fn scaled_values(values: ArcValues, factor: u32) -> Result<ArcValues, OutOfRange
     }
 }
 
-/// The ends of an arc from one node to another.
-fn ends_between(store: &Store, from: NodeAt, to: NodeAt) -> ArcEnds<'_>
+/// The ends of an arc of a cell from one node to another, whose pin has that name in the cell.
+fn ends_between<'a>(store: &'a Store, from: NodeAt, to: NodeAt, own: &'a [u8]) -> ArcEnds<'a>
     requires from { is_number store.now.pins from.pin ≡ true }
-    requires to { is_number store.now.pins to.pin ≡ true }
     ensures from { option_map (λ p. p.own) (pin_numbered store.now from.pin) ≡ Some result.from.now }
     ensures from_tran { result.from_tran ≡ from.tran }
-    ensures to { option_map (λ p. p.own) (pin_numbered store.now to.pin) ≡ Some result.to.now }
+    ensures to { result.to.now ≡ own.now }
     ensures to_tran { result.to_tran ≡ to.tran }
     ensures registers { result.registers ≡ (from.network && not to.network) }
 {
     ArcEnds {
         from: own_name(store, from.pin),
         from_tran: from.tran,
-        to: own_name(store, to.pin),
+        to: own,
         to_tran: to.tran,
         registers: from.network && !to.network,
     }
@@ -98,62 +85,39 @@ fn inst_values(
     to: NodeAt,
     before: &Before<'_>,
     slew: i64,
-    inst: u32,
+    cell: &DrivingCell<'_>,
 ) -> Result<ArcValues, OutOfRange>
     requires setting { IsSetting setting.now }
     requires joined { IsJoined setting.now.store.now to before.now.node }
     requires row { is_row_within before.now.row.now ≡ true }
     requires drives { option_map is_driver (pin_numbered setting.now.store.now to.pin) ≡ Some true }
     requires slew { slew_in split before.now.row.now ≡ Some slew }
-    requires inst { owner_number setting.now.store.now to.pin ≡ Some inst }
+    requires cell { IsDriven setting.now.store.now split to.pin cell.now }
     ensures { MatchResult result (IsAlong setting.now.store.now split to before.now) (λ _. told_wide setting.now.store.now split to before.now ≡ true) }
 {
     setting.store.laws();
-    let ends = ends_between(setting.store, before.node, to);
-    let arcs = setting.store.cell_at(inst, split).arcs.as_slice();
-    let load = load_at(setting, split, to.pin);
-    let values = arc_values(split, arcs, &ends, slew, load)?;
-    let factor = factor_of(&setting.store.constraints().derates, split, true);
-    scaled_values(values, factor)
+    let ends = ends_between(setting.store, before.node, to, cell.own);
+    let values = arc_values(split, cell.arcs, &ends, slew, cell.load)?;
+    scaled_values(values, cell.factor)
 }
 
-/// What the arcs of a cell bring to an output pin, or to an input port, from a node with this slew.
-fn driver_values(
-    setting: &Setting<'_>,
-    split: Split,
-    to: NodeAt,
-    before: &Before<'_>,
-    slew: i64,
-) -> Result<ArcValues, OutOfRange>
-    requires setting { IsSetting setting.now }
-    requires joined { IsJoined setting.now.store.now to before.now.node }
-    requires row { is_row_within before.now.row.now ≡ true }
-    requires drives { option_map is_driver (pin_numbered setting.now.store.now to.pin) ≡ Some true }
-    requires slew { slew_in split before.now.row.now ≡ Some slew }
-    ensures { MatchResult result (IsAlong setting.now.store.now split to before.now) (λ _. told_wide setting.now.store.now split to before.now ≡ true) }
-{
-    setting.store.laws();
-    match setting.store.inst_of(to.pin) {
-        Some(inst) => inst_values(setting, split, to, before, slew, inst),
-        None => Ok(no_values()),
-    }
-}
-
-/// What the arcs of a cell bring to a pin that drives; nothing from a node without a slew.
+/// What the arcs of a cell bring to one of its output pins; nothing from a node without a slew.
 fn cell_values(
     setting: &Setting<'_>,
     split: Split,
     to: NodeAt,
     before: &Before<'_>,
+    cell: &DrivingCell<'_>,
 ) -> Result<ArcValues, OutOfRange>
     requires setting { IsSetting setting.now }
     requires joined { IsJoined setting.now.store.now to before.now.node }
     requires row { is_row_within before.now.row.now ≡ true }
     requires drives { option_map is_driver (pin_numbered setting.now.store.now to.pin) ≡ Some true }
+    requires cell { IsDriven setting.now.store.now split to.pin cell.now }
     ensures { MatchResult result (IsAlong setting.now.store.now split to before.now) (λ _. told_wide setting.now.store.now split to before.now ≡ true) }
 {
     match slew_in(before.row, split) {
-        Some(slew) => driver_values(setting, split, to, before, slew),
+        Some(slew) => inst_values(setting, split, to, before, slew, cell),
         None => Ok(no_values()),
     }
 }
@@ -259,17 +223,19 @@ pub(crate) fn values_into(
     setting: &Setting<'_>,
     split: Split,
     to: NodeAt,
+    entry: &Entry<'_>,
     before: &Before<'_>,
 ) -> Result<ArcValues, OutOfRange>
     requires setting { IsSetting setting.now }
     requires joined { IsJoined setting.now.store.now to before.now.node }
+    requires entry { IsEntry setting.now.store.now split to.pin entry.now }
     requires row { is_row_within before.now.row.now ≡ true }
     ensures { MatchResult result (IsAlong setting.now.store.now split to before.now) (λ _. told_wide setting.now.store.now split to before.now ≡ true) }
 {
-    if drives(setting.store, to.pin) {
-        cell_values(setting, split, to, before)
-    } else {
-        net_values(setting, split, to, before)
+    match entry {
+        Entry::Wire => net_values(setting, split, to, before),
+        Entry::Cell(cell) => cell_values(setting, split, to, before, cell),
+        Entry::Port => Ok(no_values()),
     }
 }
 
@@ -299,47 +265,27 @@ fn scaled_some(delay: Option<i64>, factor: u32) -> Option<i64>
     }
 }
 
-/// The delay that the arcs of a cell bring to one of its output pins, from a node with this slew.
-fn inst_delay(
+/// The delay that the arcs of a cell bring to one of its output pins; none from a node without a slew.
+fn cell_delay(
     setting: &Setting<'_>,
     split: Split,
     to: NodeAt,
     before: &Before<'_>,
-    slew: i64,
-    inst: u32,
+    cell: &DrivingCell<'_>,
 ) -> Option<i64>
     requires setting { IsSetting setting.now }
     requires joined { IsJoined setting.now.store.now to before.now.node }
     requires row { is_row_within before.now.row.now ≡ true }
     requires fine { told_wide setting.now.store.now split to before.now ≡ false }
     requires drives { option_map is_driver (pin_numbered setting.now.store.now to.pin) ≡ Some true }
-    requires slew { slew_in split before.now.row.now ≡ Some slew }
-    requires inst { owner_number setting.now.store.now to.pin ≡ Some inst }
-    ensures { result ≡ (told_values setting.now.store.now split to before.now).delay }
-{
-    setting.store.laws();
-    let ends = ends_between(setting.store, before.node, to);
-    let arcs = setting.store.cell_at(inst, split).arcs.as_slice();
-    let load = load_at(setting, split, to.pin);
-    let delay = arc_delay(split, arcs, &ends, slew, load);
-    let factor = factor_of(&setting.store.constraints().derates, split, true);
-    scaled_some(delay, factor)
-}
-
-/// The delay that the arcs of a cell bring to a pin that drives; none from a node without a slew, and
-/// none to an input port.
-fn cell_delay(setting: &Setting<'_>, split: Split, to: NodeAt, before: &Before<'_>) -> Option<i64>
-    requires setting { IsSetting setting.now }
-    requires joined { IsJoined setting.now.store.now to before.now.node }
-    requires row { is_row_within before.now.row.now ≡ true }
-    requires fine { told_wide setting.now.store.now split to before.now ≡ false }
-    requires drives { option_map is_driver (pin_numbered setting.now.store.now to.pin) ≡ Some true }
+    requires cell { IsDriven setting.now.store.now split to.pin cell.now }
     ensures { result ≡ (told_values setting.now.store.now split to before.now).delay }
 {
     setting.store.laws();
     let slew = slew_in(before.row, split)?;
-    let inst = setting.store.inst_of(to.pin)?;
-    inst_delay(setting, split, to, before, slew, inst)
+    let ends = ends_between(setting.store, before.node, to, cell.own);
+    let delay = arc_delay(split, cell.arcs, &ends, slew, cell.load);
+    scaled_some(delay, cell.factor)
 }
 
 /// The delay that the wire to a sink brings to it; none from a node without a slew.
@@ -358,23 +304,26 @@ fn net_delay(setting: &Setting<'_>, split: Split, to: NodeAt, before: &Before<'_
 }
 
 /// The delay that an arc brings to a node from another, where no quantity of the arc leaves its limit.
-/// Of the tables of arcs it looks up those of delays alone. Takes no memory.
+/// `entry` is how arcs enter the node's pin. Of the tables of arcs it looks up those of delays alone.
+/// Takes no memory.
 pub fn delay_into(
     setting: &Setting<'_>,
     split: Split,
     to: NodeAt,
+    entry: &Entry<'_>,
     before: &Before<'_>,
 ) -> Option<i64>
     requires setting { IsSetting setting.now }
     requires joined { IsJoined setting.now.store.now to before.now.node }
+    requires entry { IsEntry setting.now.store.now split to.pin entry.now }
     requires row { is_row_within before.now.row.now ≡ true }
     requires fine { told_wide setting.now.store.now split to before.now ≡ false }
     ensures value { result ≡ (told_values setting.now.store.now split to before.now).delay }
     ensures within { within_some result ≡ true }
 {
-    if drives(setting.store, to.pin) {
-        cell_delay(setting, split, to, before)
-    } else {
-        net_delay(setting, split, to, before)
+    match entry {
+        Entry::Wire => net_delay(setting, split, to, before),
+        Entry::Cell(cell) => cell_delay(setting, split, to, before, cell),
+        Entry::Port => None,
     }
 }

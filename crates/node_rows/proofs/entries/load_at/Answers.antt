@@ -1,7 +1,7 @@
 use Rattle.std.proofs.Common.{rules, FitsSigned, w64}
 use Rattle.std.proofs.lemmas.Int.{to_z-of_z}
 use Rattle.node_rows.proofs.LoadLaws.{net_low, loaded, unloaded}
-use Rattle.node_rows.proofs.values.load_at.Goals as goal
+use Rattle.node_rows.proofs.entries.load_at.Goals as goal
 
 pub load-requires : goal.load-requires
 load-requires c =
