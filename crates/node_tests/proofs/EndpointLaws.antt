@@ -1,6 +1,6 @@
 -- Endpoints by the numbers of pins.
 
-use Rattle.std.proofs.Common.{◌≡◌, ℕ, Bool, true, false, not, List, Option, None, Some, refl, sym, ap, ◌∙◌}
+use Rattle.std.proofs.Common.{◌≡◌, ℕ, Bool, true, false, not, List, [], Option, None, Some, refl, sym, ap, ◌∙◌}
 use Rattle.std.specs.Prelude.{is_some, option_map, option_and_then, ◌&&◌}
 use Rattle.std.specs.List.{list_any}
 use Rattle.std.specs.Option.{option_map_or}
@@ -35,21 +35,37 @@ port_end d (Some p) e free = by p.owner refl
         ap (λ b. Some (not b && option_map_or (tests_pin d p.own) p.owner true)) (some_is e) ∙ ap (λ w. Some (option_map_or (tests_pin d p.own) w true)) own
     by (Some i) own = absurd (false≢true (free ∙ ap is_some own))
 
+-- a cell without tests has none at its pin
+pub untested : (s : Stored) → IsNumbered s → IsLinked s.design → (pin : ℕ) → is_number s.pins pin ≡ true → (tests : List CellTest) → tests ≡ []
+    → option_map (λ (p : Pin). list_any (λ (test : CellTest). bytes_eq test.pin p.own) tests) (pin_numbered s pin) ≡ Some false
+untested s num linked pin is tests none =
+    let p = pin_at_number s num linked pin is in
+    ap (option_map (λ (q : Pin). list_any (λ (test : CellTest). bytes_eq test.pin q.own) tests)) p.1.pin
+    ∙ ap (λ ts. Some (list_any (λ (test : CellTest). bytes_eq test.pin p.0.own) ts)) none
+
+-- a test at the pin of that name
+pub tested : (o : Option Pin) (own : List ℕ) (tests : List CellTest) (r : Bool) → option_map (λ (p : Pin). p.own) o ≡ Some own
+    → r ≡ list_any (λ (test : CellTest). bytes_eq test.pin own) tests
+    → option_map (λ (p : Pin). list_any (λ (test : CellTest). bytes_eq test.pin p.own) tests) o ≡ Some r
+tested None own tests r named e = absurd (cc)
+tested (Some p) own tests r named e =
+    ap (λ w. Some (list_any (λ (test : CellTest). bytes_eq test.pin w) tests)) (some_is named) ∙ ap Some (sym e)
+
 -- a pin of an instance is one where a test of its cell stands there
-pub inst_end : (s : Stored) (num : IsNumbered s) (linked : IsLinked s.design) (pin : ℕ) → is_number s.pins pin ≡ true → (inst : ℕ) (own : List ℕ) (cell : Cell) (tests : List CellTest) (r : Bool)
-    → option_map is_driver (pin_numbered s pin) ≡ Some false → Some inst ≡ owner_number s pin → option_map (λ (p : Pin). p.own) (pin_numbered s pin) ≡ Some own
-    → option_and_then (cell_of s.design Late) (inst_numbered s inst) ≡ Some cell → tests ≡ cell.tests → r ≡ list_any (λ test. bytes_eq test.pin own) tests
+pub inst_end : (s : Stored) (num : IsNumbered s) (linked : IsLinked s.design) (pin : ℕ) → is_number s.pins pin ≡ true → (inst : ℕ) (cell : Cell) (tests : List CellTest) (r : Bool)
+    → option_map is_driver (pin_numbered s pin) ≡ Some false → Some inst ≡ owner_number s pin
+    → option_and_then (cell_of s.design Late) (inst_numbered s inst) ≡ Some cell → tests ≡ cell.tests
+    → option_map (λ (p : Pin). list_any (λ (test : CellTest). bytes_eq test.pin p.own) tests) (pin_numbered s pin) ≡ Some r
     → option_map (is_endpoint s.design) (pin_numbered s pin) ≡ Some r
-inst_end s num linked pin is inst own cell tests r sink owned named has same e =
+inst_end s num linked pin is inst cell tests r sink owned has same told =
     let p = pin_at_number s num linked pin is in
     let o = owner_told s num linked pin inst p.0 p.1.pin (sym owned) in
     let of_cell : cell_of s.design Late o.inst ≡ Some cell = sym (ap (option_and_then (cell_of s.design Late)) o.there.inst) ∙ has in
-    let word : p.0.own ≡ own = some_is (sym (ap (option_map (λ (q : Pin). q.own)) p.1.pin) ∙ named) in
     let free : is_driver p.0 ≡ false = some_is (sym (ap (option_map is_driver) p.1.pin) ∙ sink) in
     ap (option_map (is_endpoint s.design)) p.1.pin
     ∙ ap (λ b. Some (not b && option_map_or (tests_pin s.design p.0.own) p.0.owner true)) free
     ∙ ap (λ w. Some (option_map_or (tests_pin s.design p.0.own) w true)) o.owns
-    ∙ ap (λ w. Some (list_any (λ test. bytes_eq test.pin w) (cell_tests (cell_of s.design Late o.inst)))) word
-    ∙ ap (λ c. Some (list_any (λ test. bytes_eq test.pin own) (cell_tests c))) of_cell
-    ∙ ap (λ ts. Some (list_any (λ test. bytes_eq test.pin own) ts)) (sym same)
-    ∙ ap Some (sym e)
+    ∙ ap (λ c. Some (list_any (λ test. bytes_eq test.pin p.0.own) (cell_tests c))) of_cell
+    ∙ ap (λ ts. Some (list_any (λ test. bytes_eq test.pin p.0.own) ts)) (sym same)
+    ∙ sym (ap (option_map (λ (q : Pin). list_any (λ (test : CellTest). bytes_eq test.pin q.own) tests)) p.1.pin)
+    ∙ told

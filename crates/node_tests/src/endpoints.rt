@@ -24,6 +24,19 @@ fn has_test_at(tests: &[CellTest], own: &[u8]) -> bool
     tests.iter().any(|test| test.pin.as_bytes() == own)
 }
 
+/// Whether some of a cell's tests stands at its data pin of a number. The pin's name is looked for only
+/// where there are tests, so not in most cells.
+fn has_own_test(store: &Store, pin: u32, tests: &[CellTest]) -> bool
+    requires { is_number store.now.pins pin ≡ true }
+    ensures { option_map (λ p. list_any (λ test. bytes_eq test.pin p.own) tests.now) (pin_numbered store.now pin) ≡ Some result }
+{
+    store.laws();
+    if tests.is_empty() {
+        return false;
+    }
+    has_test_at(tests, own_name(store, pin))
+}
+
 /// Whether a pin is an endpoint: a data pin of a setup or hold test, or an output port. Takes no memory.
 pub fn is_endpoint(store: &Store, pin: u32) -> bool
     requires { is_number store.now.pins pin ≡ true }
@@ -34,9 +47,10 @@ pub fn is_endpoint(store: &Store, pin: u32) -> bool
         return false;
     }
     match store.inst_of(pin) {
-        Some(inst) => has_test_at(
+        Some(inst) => has_own_test(
+            store,
+            pin,
             store.cell_at(inst, Split::Late).tests.as_slice(),
-            own_name(store, pin),
         ),
         None => true,
     }

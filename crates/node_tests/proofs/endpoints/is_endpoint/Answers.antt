@@ -7,8 +7,8 @@ returns-then-drives c = driver_end c.args.store.now.design (pin_numbered c.args.
 
 pub returns-in-Some : goal.returns-in-Some
 returns-in-Some c =
-    inst_end c.args.store.now c.laws.ensures.numbered c.laws.ensures.linked c.args.pin c.requires c.in-Some.inst c.own_name.result.now c.cell_at.result.now c.as_slice.result.now c.has_test_at.result
-    c.if-drives.ensures c.in-Some.ensures.value c.own_name.ensures c.cell_at.ensures c.as_slice.ensures c.has_test_at.ensures
+    inst_end c.args.store.now c.laws.ensures.numbered c.laws.ensures.linked c.args.pin c.requires c.in-Some.inst c.cell_at.result.now c.as_slice.result.now c.has_own_test.result
+    c.if-drives.ensures c.in-Some.ensures.value c.cell_at.ensures c.as_slice.ensures c.has_own_test.ensures
 
 pub returns-in-None : goal.returns-in-None
 returns-in-None c = port_end c.args.store.now.design (pin_numbered c.args.store.now c.args.pin) c.if-drives.ensures c.in-None.ensures.none
