@@ -68,8 +68,9 @@ fn befores<'a>(
     requires arcs { All (IsThere graph.now rows.now) (fan_at graph.now.ins node) }
     ensures { IfOk result (λ found. IsMap (IsBefore graph.now rows.now) (fan_at graph.now.ins node) found.items) }
 {
-    let mut found = Vec::new(alloc);
-    for arc in graph.arcs_in(node) {
+    let arcs = graph.arcs_in(node);
+    let mut found = Vec::with_capacity(alloc, arcs.len()).map_err(|_| Memory)?;
+    for arc in arcs {
         found.push(before(graph, rows, arc)).map_err(|_| Memory)?;
     }
     Ok(found)

@@ -4,4 +4,4 @@ use Rattle.arrival_engine.specs.Analysed.{IsBefore}
 use Rattle.arrival_engine.proofs.nodes.befores.Given as goal
 
 abbrev pub invariant-loop-arc : goal.invariant-loop-arc
-invariant-loop-arc l = IsMap (IsBefore l.graph l.rows) (take l.arc-index l.arc-items) l.found.items
+invariant-loop-arc l = IsMap (IsBefore l.graph l.rows) (take l.arc-index l.arcs) l.found.items
