@@ -32,7 +32,7 @@ root_of_is n (suc r) low high =
     up_to_is n (suc r) n (omega (arith, mul-le (suc r) 1 (suc r) (suc r))) low (omega arith)
 
 -- where the binary logarithm of n is k, the search begins between two powers of two of half of it
-module _ (n k : ℕ) (low : 2 ^ k ≤ n) (high : n < 2 * 2 ^ k) (small : k < 128) where
+module _ (n k : ℕ) (low : 2 ^ k ≤ n) (high : n < 2 * 2 ^ k) where
   abbrev h : ℕ
   h = k / 2
 
@@ -58,22 +58,42 @@ module _ (n k : ℕ) (low : 2 ^ k ≤ n) (high : n < 2 * 2 ^ k) (small : k < 128
       let one : 2 ^ (h + h + 1) ≡ 2 ^ (h + h) * 2 ^ 1 = pow-add 2 (h + h) 1 in
       omega (arith, power, square, one, four (2 ^ h), high)
 
-  power_small : 2 ^ h ≤ 2 ^ 63
-  power_small =
-      let few : h ≤ 63 = omega (arith, small) in
-      pow-le-pow_right (omega arith) few
-
-  abbrev most : ℕ
-  most = 340282366920938463463374607431768211456
-
-  low_is : 1 * 2 ^ h % most ≡ 2 ^ h
-  low_is = ap (λ a. a % most) (omega arith) ∙ mod-eq_of_lt (omega (arith, power_small))
-
-  high_is : 2 * 2 ^ h % most ≡ 2 * 2 ^ h
-  high_is = mod-eq_of_lt (omega (arith, power_small))
-
   one_at_least : 1 ≤ 2 ^ h
   one_at_least = one-le-pow h 2 (omega arith)
 
-  pub starts : (1 * 2 ^ h % most * (1 * 2 ^ h % most) ≤ n) × (n < 2 * 2 ^ h % most * (2 * 2 ^ h % most)) × (1 * 2 ^ h % most < 2 * 2 ^ h % most) × (2 * 2 ^ h % most ≤ 2 ^ 64)
-  starts = rw (low_is, high_is) (power_within, power_above, omega (arith, one_at_least), omega (arith, power_small))
+  module _ (small : k < 128) where
+    power_small : 2 ^ h ≤ 2 ^ 63
+    power_small =
+        let few : h ≤ 63 = omega (arith, small) in
+        pow-le-pow_right (omega arith) few
+
+    abbrev most : ℕ
+    most = 340282366920938463463374607431768211456
+
+    low_is : 1 * 2 ^ h % most ≡ 2 ^ h
+    low_is = ap (λ a. a % most) (omega arith) ∙ mod-eq_of_lt (omega (arith, power_small))
+
+    high_is : 2 * 2 ^ h % most ≡ 2 * 2 ^ h
+    high_is = mod-eq_of_lt (omega (arith, power_small))
+
+    pub starts : (1 * 2 ^ h % most * (1 * 2 ^ h % most) ≤ n) × (n < 2 * 2 ^ h % most * (2 * 2 ^ h % most)) × (1 * 2 ^ h % most < 2 * 2 ^ h % most) × (2 * 2 ^ h % most ≤ 2 ^ 64)
+    starts = rw (low_is, high_is) (power_within, power_above, omega (arith, one_at_least), omega (arith, power_small))
+
+  -- the same in 64 bits
+  module _ (near : k < 64) where
+    power_near : 2 ^ h ≤ 2 ^ 31
+    power_near =
+        let few : h ≤ 31 = omega (arith, near) in
+        pow-le-pow_right (omega arith) few
+
+    abbrev most_near : ℕ
+    most_near = 18446744073709551616
+
+    near_low_is : 1 * 2 ^ h % most_near ≡ 2 ^ h
+    near_low_is = ap (λ a. a % most_near) (omega arith) ∙ mod-eq_of_lt (omega (arith, power_near))
+
+    near_high_is : 2 * 2 ^ h % most_near ≡ 2 * 2 ^ h
+    near_high_is = mod-eq_of_lt (omega (arith, power_near))
+
+    pub starts_near : (1 * 2 ^ h % most_near * (1 * 2 ^ h % most_near) ≤ n) × (n < 2 * 2 ^ h % most_near * (2 * 2 ^ h % most_near)) × (1 * 2 ^ h % most_near < 2 * 2 ^ h % most_near) × (2 * 2 ^ h % most_near ≤ 2 ^ 32)
+    starts_near = rw (near_low_is, near_high_is) (power_within, power_above, omega (arith, one_at_least), omega (arith, power_near))

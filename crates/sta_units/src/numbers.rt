@@ -30,15 +30,34 @@ fn quotient(n: i128, d: i128) -> i128
     }
 }
 
-/// The greatest `r` with `r * r <= n`, in a step for each binary digit of `r`. Takes no memory.
-pub fn root(n: u128) -> u64
+/// The greatest `r` with `r * r <= n`, in 64 bits.
+fn near_root(n: u64) -> u64
+    requires { 0 < n }
     ensures value { result ≡ root_of n }
     ensures below { result * result ≤ n }
     ensures greatest { n < (result + 1) * (result + 1) }
 {
-    if n == 0 {
-        return 0;
+    let half = n.ilog2() / 2;
+    let mut low: u64 = 1 << half;
+    let mut high: u64 = 2 << half;
+    while high - low > 1 {
+        let middle = (low + high) / 2;
+        if middle * middle <= n {
+            low = middle;
+        } else {
+            high = middle;
+        }
     }
+    low
+}
+
+/// The greatest `r` with `r * r <= n`, in 128 bits.
+fn wide_root(n: u128) -> u64
+    requires { 0 < n }
+    ensures value { result ≡ root_of n }
+    ensures below { result * result ≤ n }
+    ensures greatest { n < (result + 1) * (result + 1) }
+{
     let half = n.ilog2() / 2;
     let mut low: u128 = 1 << half;
     let mut high: u128 = 2 << half;
@@ -51,6 +70,21 @@ pub fn root(n: u128) -> u64
         }
     }
     low as u64
+}
+
+/// The greatest `r` with `r * r <= n`, in a step for each binary digit of `r`. Takes no memory.
+pub fn root(n: u128) -> u64
+    ensures value { result ≡ root_of n }
+    ensures below { result * result ≤ n }
+    ensures greatest { n < (result + 1) * (result + 1) }
+{
+    if n == 0 {
+        return 0;
+    }
+    match u64::try_from(n) {
+        Ok(near) => near_root(near),
+        Err(_) => wide_root(n),
+    }
 }
 
 #[cfg(test)]
