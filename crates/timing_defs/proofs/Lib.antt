@@ -1,3 +1,4 @@
 pub mod ListLemmas
 pub mod SameNames
 pub mod RowLaws
+pub mod SameBytes

@@ -19,10 +19,10 @@ pub struct EdgeTime {
 }
 
 /// The times of a node, one for each launch edge that has one, in the order of the clocks and rise
-/// before fall. Up to four stand in place, more in a block of their own. Contracts see the list.
+/// before fall. Up to two stand in place, more in a block of their own. Contracts see the list.
 #[derive(Debug, Drop)]
 pub struct EdgeTimes {
-    times: SmallVec<EdgeTime, 4>,
+    times: SmallVec<EdgeTime, 2>,
 }
 
 impl Model for EdgeTimes {
@@ -48,6 +48,9 @@ impl EdgeTimes {
     pub fn from_slice(alloc: Global, times: &[EdgeTime]) -> Result<EdgeTimes, Memory>
         ensures { IfOk result (λ copy. copy ≡ times.now) }
     {
+        if times.is_empty() {
+            return Ok(EdgeTimes::new(alloc));
+        }
         Ok(EdgeTimes {
             times: SmallVec::from_slice(alloc, times)?,
         })
