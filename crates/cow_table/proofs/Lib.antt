@@ -2,3 +2,4 @@ pub mod Full
 pub mod Places
 pub mod Writing
 pub mod Parts
+pub mod Moving

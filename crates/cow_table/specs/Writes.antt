@@ -1,5 +1,5 @@
 -- Many writes to a list.
-use Rattle.std.specs.Prelude.{ℕ, ◌-◌, List, [], ◌∷◌, Result, Ok, Err, set, if◌then◌else◌, nat_le}
+use Rattle.std.specs.Prelude.{ℕ, ◌-◌, List, [], ◌∷◌, Option, None, Some, Result, Ok, Err, set, if◌then◌else◌, nat_le}
 
 module _ {A E : Type 0} where
   -- the items from place `first` on, after a value was written at its place; nothing is written where
@@ -13,3 +13,9 @@ module _ {A E : Type 0} where
   written first items (place ∷ places) (value ∷ values) = written first (put_at first items place value) places values
   written first items [] values = items
   written first items (place ∷ places) [] = items
+
+  -- the first value that is an error
+  unfoldable pub first_refused : List (Result A E) → Option E
+  first_refused [] = None
+  first_refused (Ok value ∷ values) = first_refused values
+  first_refused (Err e ∷ values) = Some e

@@ -3,6 +3,7 @@
 
 mod chunks;
 mod filled;
+mod moves;
 mod tables;
 mod writes;
 

@@ -1,12 +1,13 @@
 //! A list in chunks, which a table shares with its copies.
 
-ghost use Rattle.std.specs.Prelude.{◌≡◌, ◌<◌, ◌≤◌, ◌*◌, ◌/◌, [], ◌∷◌, ◌++◌, length, replicate, slice_get, slice_set, IfOk, OnOk, OnErr, flat_map};
+ghost use Rattle.std.specs.Prelude.{◌≡◌, ◌<◌, ◌≤◌, ◌*◌, ◌/◌, None, [], ◌∷◌, ◌++◌, length, replicate, slice_get, slice_set, IfOk, OnOk, OnErr, flat_map};
 ghost use Rattle.std.specs.Arc.{arc_value};
 ghost use Rattle.cow_table.specs.Pieces.{IsCut};
-ghost use Rattle.cow_table.specs.Writes.{written};
+ghost use Rattle.cow_table.specs.Writes.{first_refused, written};
 
 use crate::chunks::{CHUNK, Chunk, push_in, set_in};
 use crate::filled::full_chunks;
+use crate::moves::{first_refused, move_all};
 use crate::writes::put_parts;
 use sta_units::{Again, Memory};
 use std::alloc::Global;
@@ -132,25 +133,32 @@ impl<T: Again + Send + Sync + Drop> CowTable<T> {
         Ok(table)
     }
 
-    /// Writes a copy of each value that is there at its place, in order, by up to that many threads:
-    /// each of them writes some chunks that stand side by side. A place that is not below the number of
-    /// items is passed by. Where memory is wanting some values are written. No copy of the table changes.
-    pub fn put_all<H: Threads + Sync, E: Sync>(
+    /// Writes each value at its place, in order, by up to that many threads, each of which writes some
+    /// chunks that stand side by side. A place that is not below the number of items is passed by. Gives
+    /// back the first error among the values, where there is one; then, or where memory is wanting, what
+    /// the items are is not told. No copy of the table changes.
+    pub fn put_all<H: Threads + Sync, E: Sync + Drop>(
         &mut self,
         rt: &H,
         workers: u32,
         places: &[u32],
-        values: &[Result<T, E>],
-    ) -> Result<(), Memory>
-        requires { length places.now ≡ length values.now }
+        values: Vec<Result<T, E>>,
+    ) -> Result<Option<E>, Memory>
+        requires { length places.now ≡ length values.items }
         ensures len { length self.new ≡ length self.old }
-        ensures ok { OnOk result (self.new ≡ written 0 self.old places.now values.now) }
+        ensures refused { IfOk result (λ refused. refused ≡ first_refused values.items) }
+        ensures ok { IfOk result (λ refused. refused ≡ None → self.new ≡ written 0 self.old places.now values.items) }
     {
         let parts = (workers as usize).min(places.len() / CHUNK + 1).max(1);
         let chunks = self.chunks.as_mut_slice();
+        if parts == 1 {
+            return move_all(self.len, places, values, chunks);
+        }
+        let copied = values.as_slice();
         put_parts(
-            rt, self.alloc, parts, parts, self.len, places, values, chunks,
-        )
+            rt, self.alloc, parts, parts, self.len, places, copied, chunks,
+        )?;
+        Ok(first_refused(values))
     }
 }
 
@@ -276,10 +284,11 @@ mod tests {
         }
     }
 
-    /// The places below `count`, and a value for each of them: its own number.
+    /// The places below `count`, and a value for each of them: its own number, or an error at one place.
     fn every_place(
         alloc: Global,
         count: u32,
+        refused: u32,
     ) -> Result<(Vec<u32>, Vec<Result<u64, Memory>>), Memory>
         ensures { IfOk result (λ all. length all.0.items ≡ length all.1.items) }
     {
@@ -287,7 +296,12 @@ mod tests {
         let mut values = Vec::new(alloc);
         for i in 0..count {
             places.push(i).map_err(|_| Memory)?;
-            values.push(Ok(u64::from(i))).map_err(|_| Memory)?;
+            let value = if i == refused {
+                Err(Memory)
+            } else {
+                Ok(u64::from(i))
+            };
+            values.push(value).map_err(|_| Memory)?;
         }
         Ok((places, values))
     }
@@ -324,12 +338,26 @@ mod tests {
             let mut table = CowTable::filled(&rt, rt.alloc(), workers, len, &0)?;
             assert_eq!(rt; table.len(), len);
             let before = table.copy()?;
-            let (places, values) = every_place(rt.alloc(), count)?;
-            table.put_all(&rt, workers, places.as_slice(), values.as_slice())?;
+            let (places, values) = every_place(rt.alloc(), count, count)?;
+            let refused = table.put_all(&rt, workers, places.as_slice(), values)?;
+            assert_eq!(rt; refused, None);
             assert_counted(&rt, &table, len, 0);
             for i in 0..before.len() {
                 assert_eq!(rt; *before.get(i), 0, "at {i}");
             }
+        }
+        Ok(())
+    }
+
+    #[test]
+    fn the_first_error_comes_back(rt: HostRuntime) -> Result<(), Memory> {
+        for (count, workers) in [(10, 1), (3_000, 3)] {
+            let len = count as usize;
+            let mut table = CowTable::filled(&rt, rt.alloc(), workers, len, &0)?;
+            let (places, values) = every_place(rt.alloc(), count, 7)?;
+            let refused = table.put_all(&rt, workers, places.as_slice(), values)?;
+            assert_eq!(rt; refused, Some(Memory));
+            assert_eq!(rt; table.len(), len);
         }
         Ok(())
     }

@@ -1,0 +1,16 @@
+use Rattle.std.proofs.Common.{◌≡◌, ◌+◌, drop, flat_map, length}
+use Rattle.std.specs.Arc.{arc_value}
+use Rattle.std.specs.Vec.Iter.{into_iter_items, into_iter_len}
+use Rattle.cow_table.specs.Pieces.{IsCut}
+use Rattle.cow_table.specs.Writes.{first_refused, written}
+use Rattle.cow_table.proofs.moves.move_all.Given as goal
+
+abbrev pub invariant-loop-value : goal.invariant-loop-value
+invariant-loop-value g l =
+    IsCut arc_value l.chunks
+    × (length (flat_map arc_value l.chunks) ≡ l.count)
+    × (l.at + length (into_iter_items l.value-iterator) ≡ length l.places)
+    × (first_refused (into_iter_items l.value-iterator) ≡ first_refused l.fn.values.items)
+    × (written 0 (flat_map arc_value l.chunks) (drop l.at l.places) (into_iter_items l.value-iterator)
+    ≡ written 0 (flat_map arc_value l.fn.chunks) l.places l.fn.values.items)
+    × (into_iter_len l.value-iterator ≡ length (into_iter_items l.value-iterator))
