@@ -3,7 +3,7 @@ use Rattle.std.proofs.Common.{rules, FitsSigned, ◌*◌, ◌≤◌, unsigned_ab
 use Rattle.std.proofs.lemmas.Int.{ints, to_z-of_z}
 use Rattle.sta_units.specs.Numbers.{limit}
 use Rattle.sta_units.proofs.Rounding.{signed_steps}
-use Rattle.nldm_lookup.proofs.lines.line.Goals as goal
+use Rattle.nldm_lookup.proofs.lines.wide_line.Goals as goal
 use mir.Syntax.{w128}
 
 pub rnd-requires-clause-divisor : goal.rnd-requires-clause-divisor
