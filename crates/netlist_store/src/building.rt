@@ -10,6 +10,7 @@ ghost use Rattle.netlist_store.specs.Building.{of_inst_pins, of_pins, row_of, wi
 
 use crate::cells::Cells;
 use crate::held::Held;
+use crate::inst_rows::InstRow;
 use crate::numberings::{Numbering, numbered};
 use crate::rolls::{Roll, first_roll, roll_of};
 use crate::tables::{Frame, Names, Orders, PinRow, Rows};
@@ -266,12 +267,17 @@ fn net_rows(
 }
 
 /// The rows of instances.
-fn inst_rows(alloc: Global, insts: &[Inst]) -> Result<CowTable<Option<Held<Inst>>>, Memory>
+fn inst_rows(
+    alloc: Global,
+    frame: &Frame,
+    insts: &[Inst],
+) -> Result<CowTable<Option<Held<InstRow>>>, Memory>
     ensures { IfOk result (λ rows. rows ≡ map Some insts.now) }
 {
     let mut rows = CowTable::new(alloc);
     for inst in insts {
-        rows.push(Some(Held::of(alloc, inst.again(alloc)?)?))?;
+        let row = InstRow::of(frame, inst.again(alloc)?);
+        rows.push(Some(Held::of(alloc, row)?))?;
     }
     Ok(rows)
 }
@@ -408,7 +414,7 @@ pub(crate) fn rows_of(
     let pins = pin_rows(alloc, frame, names, insts.as_slice())?;
     let net_pins = net_rows(alloc, &pins, names.pins.bound(), names.nets.bound())?;
     let rcs = rc_rows(alloc, &names.nets, rcs.as_slice())?;
-    let insts = inst_rows(alloc, insts.as_slice())?;
+    let insts = inst_rows(alloc, frame, insts.as_slice())?;
     Ok(Rows {
         insts,
         rcs,

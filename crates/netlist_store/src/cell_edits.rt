@@ -70,7 +70,7 @@ impl Store {
             new,
         )?;
         pins.laws();
-        put_inst(&mut rows.insts, alloc, inst, row)?;
+        put_inst(&mut rows.insts, alloc, frame.get(), inst, row)?;
         let names = Names { insts, nets, pins };
         Ok(Store {
             frame,

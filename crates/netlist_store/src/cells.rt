@@ -78,6 +78,22 @@ impl Cells {
         self.library.cells.get(place as usize)
     }
 
+    /// The place of a name among those of the table, or a place past all of them.
+    pub(crate) fn place(&self, name: &Name) -> usize {
+        self.places.get_index_of(name).unwrap_or(usize::MAX)
+    }
+
+    /// The cell of a name, which is looked for at a place first; none where the library has none.
+    /// The place may be any number. Takes no memory.
+    pub(crate) fn cell_near(&self, name: &Name, place: usize) -> Option<&Cell>
+        ensures { option_copied result ≡ cell_named self.now.cells name.now }
+    {
+        match self.places.get_index(place) {
+            Some((own, place)) if own == name => self.library.cells.get(*place as usize),
+            _ => self.cell(name),
+        }
+    }
+
     /// The library.
     pub(crate) fn library(&self) -> &Library
         ensures { result.now ≡ self.now }

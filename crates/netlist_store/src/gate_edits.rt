@@ -10,10 +10,11 @@ ghost use Rattle.netlist_store.specs.Stores.{at};
 ghost use Rattle.netlist_store.specs.Drafts.{Follows, IsFilled, KeepsNames, row_named, inst_row, row_among};
 
 use crate::held::Held;
+use crate::inst_rows::InstRow;
 use crate::pin_edits::put_inst_pins;
 use crate::row_edits::set_row;
 use crate::stores::Store;
-use crate::tables::{Names, Orders, PinRow};
+use crate::tables::{Frame, Names, Orders, PinRow};
 use cow_table::CowTable;
 use sta_units::{Again, Memory};
 use std::alloc::Global;
@@ -21,14 +22,15 @@ use timing_defs::{CellPin, Inst, Items, Name};
 
 /// Writes the row of an instance.
 pub(crate) fn put_inst(
-    rows: &mut CowTable<Option<Held<Inst>>>,
+    rows: &mut CowTable<Option<Held<InstRow>>>,
     alloc: Global,
+    frame: &Frame,
     number: u32,
     inst: Inst,
 ) -> Result<(), Memory>
     ensures { OnOk result ((n : ℕ) → at rows.new n ≡ (if nat_eq number n then Some inst else at rows.old n)) }
 {
-    let held = Held::of(alloc, inst)?;
+    let held = Held::of(alloc, InstRow::of(frame, inst))?;
     set_row(rows, number, Some(held))
 }
 
@@ -132,7 +134,7 @@ impl Store {
         let made = names.with_inst_names(alloc, &base.names, &gate, pins, &mut rows.pins)?;
         let (names, number) = made;
         names.laws();
-        put_inst(&mut rows.insts, alloc, number, gate)?;
+        put_inst(&mut rows.insts, alloc, frame.get(), number, gate)?;
         let orders = orders.with_inst(number)?;
         Ok(Store {
             frame,

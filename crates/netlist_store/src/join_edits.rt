@@ -12,11 +12,11 @@ ghost use Rattle.netlist_store.specs.Words.{IsLastColon};
 ghost use Rattle.netlist_store.specs.Drafts.{joined_list, left_list, with_insts};
 
 use crate::conn_edits::{connected, unconnected};
-use crate::held::Held;
+use crate::gate_edits::put_inst;
 use crate::net_lists::{join_net, leave_net};
-use crate::row_edits::{put_row, set_row};
+use crate::row_edits::put_row;
 use crate::stores::Store;
-use crate::tables::{PinRow, Rows};
+use crate::tables::{Frame, PinRow, Rows};
 use crate::words::last_colon;
 use sta_units::Memory;
 use std::alloc::Global;
@@ -47,6 +47,7 @@ fn after_colon(word: &[u8]) -> &[u8]
 fn moved_rows(
     rows: Rows,
     alloc: Global,
+    frame: &Frame,
     inst: u32,
     row: Inst,
     pin: u32,
@@ -65,7 +66,7 @@ fn moved_rows(
         mut net_pins,
         mut pins,
     } = rows;
-    set_row(&mut insts, inst, Some(Held::of(alloc, row)?))?;
+    put_inst(&mut insts, alloc, frame, inst, row)?;
     let PinRow { owner, net, dir } = *pins.get(pin as usize);
     leave_net(&mut net_pins, alloc, net, pin)?;
     join_net(&mut net_pins, alloc, to, pin)?;
@@ -147,7 +148,7 @@ impl Store {
             rows,
             orders,
         } = self;
-        let rows = moved_rows(rows, alloc, owner, row, pin, Some(to))?;
+        let rows = moved_rows(rows, alloc, frame.get(), owner, row, pin, Some(to))?;
         Ok(Store {
             frame,
             names,
@@ -173,7 +174,7 @@ impl Store {
             rows,
             orders,
         } = self;
-        let rows = moved_rows(rows, alloc, owner, row, pin, None)?;
+        let rows = moved_rows(rows, alloc, frame.get(), owner, row, pin, None)?;
         Ok(Store {
             frame,
             names,

@@ -17,7 +17,8 @@
 //!   thus a number of the base never stands for another name in the edited store. Then the number
 //!   is a gap, which holds the next one, so numbers are used again at constant cost.
 //! - `insts`, `rcs`, `net_pins`, `pins`: by numbers, what is known of each. `insts` and `rcs` hold
-//!   the `Inst` and the `NetRc` of the design. `net_pins` lists the pins on a net. `pins` has the
+//!   the `Inst` and the `NetRc` of the design; beside an `Inst` stand the places of its cell in the
+//!   tables of the libraries, where the cell is looked for first. `net_pins` lists the pins on a net. `pins` has the
 //!   owner, the net and the direction of each pin. Rows are held by `Arc`, so the copy of a chunk
 //!   of 256 rows that a write costs is 256 counts.
 //! - `Roll`, one for instances, nets and parasitics: the numbers in the order of the design's lists.
@@ -71,6 +72,7 @@ mod edit_steps;
 mod gate_edits;
 mod gate_removals;
 mod held;
+mod inst_rows;
 mod join_edits;
 mod links;
 mod name_maps;

@@ -11,8 +11,8 @@ ghost use Rattle.netlist_store.specs.Linked.{IsLinked, IsSized};
 ghost use Rattle.netlist_store.specs.Stores.{TellsInst, TellsPin};
 
 use crate::building::{frame_of, names_of, orders_of, rows_of};
-use crate::cells::Cells;
 use crate::held::Held;
+use crate::inst_rows::InstRow;
 use crate::tables::{Frame, Names, Orders, PinRow, Rows, row_at};
 use sta_units::Memory;
 use std::alloc::Global;
@@ -179,7 +179,7 @@ impl Store {
         ensures value { inst_numbered self.now inst ≡ Some result.now }
         ensures name { name_at self.now.insts inst ≡ Some result.now.name }
     {
-        self.inst_row(inst)
+        self.inst_row(inst).inst()
     }
 
     /// The cell of an instance in the library of a split.
@@ -187,10 +187,10 @@ impl Store {
         requires { is_number self.now.insts inst ≡ true }
         ensures { option_and_then (cell_of self.now.design split) (inst_numbered self.now inst) ≡ Some result.now }
     {
-        let inst = self.inst_row(inst);
+        let row = self.inst_row(inst);
         match split {
-            Split::Early => cell_under(&self.frame.get().early, &inst.cell),
-            Split::Late => cell_under(&self.frame.get().late, &inst.cell),
+            Split::Early => row.early_cell(self.frame.get()).unwrap(),
+            Split::Late => row.late_cell(self.frame.get()).unwrap(),
         }
     }
 
@@ -270,7 +270,7 @@ impl Store {
     }
 
     /// The row of an instance.
-    fn inst_row(&self, inst: u32) -> &Inst
+    fn inst_row(&self, inst: u32) -> &InstRow
         requires { is_number self.now.insts inst ≡ true }
         ensures { TellsInst self.now inst result.now }
     {
@@ -278,17 +278,6 @@ impl Store {
             Some(inst) => inst.get(),
             None => unreachable!(),
         }
-    }
-}
-
-/// The cell of a name that the library has.
-fn cell_under<'a>(cells: &'a Cells, name: &Name) -> &'a Cell
-    requires { is_some (cell_named cells.now.cells name.now) ≡ true }
-    ensures { cell_named cells.entry.now.cells name.now ≡ Some result.now }
-{
-    match cells.cell(name) {
-        Some(cell) => cell,
-        None => unreachable!(),
     }
 }
 

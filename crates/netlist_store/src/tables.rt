@@ -7,12 +7,13 @@ ghost use Rattle.netlist_store.specs.Stores.{at};
 
 use crate::cells::Cells;
 use crate::held::Held;
+use crate::inst_rows::InstRow;
 use crate::numberings::Numbering;
 use crate::rolls::Roll;
 use cow_table::CowTable;
 use sta_units::{Again, Memory};
 use std::alloc::Global;
-use timing_defs::{Constraints, Dir, Inst, Items, NetRc, Port};
+use timing_defs::{Constraints, Dir, Items, NetRc, Port};
 
 /// The parts of a design that no edit changes.
 #[derive(Debug, Drop)]
@@ -94,7 +95,7 @@ impl Again for PinRow {
 /// of a pin its row.
 #[derive(Debug, Drop)]
 pub(crate) struct Rows {
-    pub insts: CowTable<Option<Held<Inst>>>,
+    pub insts: CowTable<Option<Held<InstRow>>>,
     pub rcs: CowTable<Option<Held<NetRc>>>,
     pub net_pins: CowTable<Held<Items<u32>>>,
     pub pins: CowTable<PinRow>,
