@@ -1,12 +1,12 @@
 -- The lists of the segments at each node, segment by segment.
-use Rattle.std.proofs.Common.{◌≡◌, ℕ, zero, suc, ◌+◌, ◌<◌, ◌≤◌, List, [], ◌∷◌, ◌++◌, length, get_or, set, refl, ap, sym, subst, ◌∙◌, arith, inl, inr, ◌⊎◌}
+use Rattle.std.proofs.Common.{◌≡◌, ℕ, zero, suc, ◌+◌, ◌<◌, ◌≤◌, List, [], ◌∷◌, ◌++◌, length, get_or, set, replicate, refl, ap, sym, subst, ◌∙◌, arith, inl, inr, ◌⊎◌}
 use Rattle.std.specs.List.{AllByRecursion}
 use Rattle.std.proofs.lemmas.Bool.{cases_lt, cases_eq}
-use Rattle.std.proofs.lemmas.List.{length-set, get_or-set_same, get_or-set_other}
+use Rattle.std.proofs.lemmas.List.{length-set, get_or-set_same, get_or-set_other, get_or-replicate}
 use Rattle.rc_tree.specs.declared.segments.Segment.{Segment}
 use Rattle.rc_tree.specs.Growth.{segment_at, Touches}
 use Rattle.rc_tree.specs.Loops.{IsAmong, AreIndexes, AreIndexed, IsReady}
-use Rattle.rc_tree.specs.Listing.{listed, listed_at_both, AreListed}
+use Rattle.rc_tree.specs.Listing.{listed, listed_at_both, AreListed, AreAllBelow}
 use Rattle.rc_tree.proofs.Routes.{all_append, all_more}
 use Rattle.rc_tree.proofs.Growing.{ready_at}
 
@@ -97,6 +97,37 @@ pub listed_b : (segments : List Segment) (count i : ℕ) (ls : List (List ℕ)) 
 listed_b segments count i ls s r l a e = subst (λ (x : Segment). x.b < length ls) (sym e) (let b = (ready_at segments count i r l).1 in let z = a.size in omega arith)
 
 pub ruleset linking = (listed_none, listed_more, all_listed, listed_a, listed_b)
+
+-- one list of all segments for each node
+pub below_none : AreAllBelow 0 []
+below_none = (tt, λ k l. absurd (omega arith))
+
+pub below_more : (n : ℕ) (ks ks' : List ℕ) → AreAllBelow n ks → ks' ≡ ks ++ n ∷ [] → AreAllBelow (n + 1) ks'
+below_more n ks ks' a e = subst (AreAllBelow (n + 1)) (sym e) (
+  all_append (λ k. k < n + 1) ks (n ∷ []) (all_more (λ k. k < n) (λ k. k < n + 1) (λ k l. omega arith) ks a.0) (let l : n < n + 1 = omega arith in (l, tt)),
+  λ k l. by k (cases_lt k n) l,
+)
+  where
+    by : (k : ℕ) → (k < n) ⊎ (n ≤ k) → k < n + 1 → IsAmong k (ks ++ n ∷ [])
+    by k (inl less) l = among_keep k ks n (a.1 k less)
+    by k (inr more) l = (let same : n ≡ k = omega arith in subst (λ j. IsAmong j (ks ++ n ∷ [])) same (among_new n ks))
+
+pub indexed_all : (segments : List Segment) (count n : ℕ) (ks : List ℕ) → IsReady segments count → n ≡ length segments → AreAllBelow n ks → AreIndexed segments (replicate count ks)
+indexed_all segments count n ks r e a = record {
+  inside = all_same count;
+  all = λ k u l t. subst (IsAmong k) (sym (get_or-replicate count u ks [] (low k u l t))) (below.1 k l);
+}
+  where
+    below : AreAllBelow (length segments) ks
+    below = subst (λ m. AreAllBelow m ks) e a
+
+    all_same : (m : ℕ) → AllByRecursion (AreIndexes segments) (replicate m ks)
+    all_same zero = tt
+    all_same (suc m) = (below.0, all_same m)
+
+    low : (k u : ℕ) → k < length segments → Touches (segment_at segments k) u → u < count
+    low k u l (inl x) = subst (λ v. v < count) x (ready_at segments count k r l).0
+    low k u l (inr x) = subst (λ v. v < count) x (ready_at segments count k r l).1
 
 -- lists that are all empty
 pub none_more : (ls : List (List ℕ)) (l : List ℕ) → AllByRecursion (λ x. x ≡ []) ls → l ≡ [] → AllByRecursion (λ x. x ≡ []) (ls ++ l ∷ [])

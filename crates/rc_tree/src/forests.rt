@@ -7,9 +7,9 @@ ghost use Rattle.rc_tree.specs.Growth.{segment_at, row_at, place_of, Links, Touc
 ghost use Rattle.rc_tree.specs.Loops.{IsLoopOf, IsPart, IsReady, IsGrownBy, IsVisited, AreVisited, IsFurther, IsFound, AreIndexes, AreIndexed};
 
 use crate::faults::RcFault;
+use crate::links::LinkLists;
 use crate::segments::Segment;
 use std::alloc::Global;
-use timing_defs::Items;
 
 /// A place of a forest: its node, the place of its parent (none at the first place of a part), the
 /// segment to the parent with its resistance in mΩ, and the first place of its part.
@@ -229,18 +229,18 @@ fn visit_all(
 }
 
 /// The list of the segments at a node.
-fn links_at(links: &[Items<usize>], node: usize) -> &[usize]
+fn links_at(links: &LinkLists, node: usize) -> &[usize]
     requires { node < length links.now }
     ensures { result.now ≡ get_or links.now node [] }
 {
-    links[node].as_slice()
+    links.at(node)
 }
 
 /// Looks at all segments at the places of a part, which begins at `first`.
 fn spread(
     forest: Forest,
     segments: &[Segment],
-    links: &[Items<usize>],
+    links: &LinkLists,
     first: usize,
 ) -> Result<Forest, RcFault>
     requires part { IsPart segments.now (length forest.places.items) first first forest }
@@ -264,7 +264,7 @@ fn spread(
 fn begin(
     forest: Forest,
     segments: &[Segment],
-    links: &[Items<usize>],
+    links: &LinkLists,
     node: usize,
 ) -> Result<Forest, RcFault>
     requires done { IsDone segments.now (length forest.places.items) forest }
@@ -293,7 +293,7 @@ fn begin(
 fn find_part(
     forest: Forest,
     segments: &[Segment],
-    links: &[Items<usize>],
+    links: &LinkLists,
     node: usize,
 ) -> Result<Forest, RcFault>
     requires done { IsDone segments.now (length forest.places.items) forest }
@@ -327,7 +327,7 @@ fn no_forest(alloc: Global, count: usize) -> Result<Forest, RcFault>
 pub(crate) fn found_forest(
     alloc: Global,
     segments: &[Segment],
-    links: &[Items<usize>],
+    links: &LinkLists,
 ) -> Result<Forest, RcFault>
     requires links { AreIndexed segments.now links.now }
     requires ready { IsReady segments.now (length links.now) }

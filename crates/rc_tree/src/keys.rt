@@ -2,57 +2,18 @@
 
 ghost use Rattle.std.specs.Prelude.{◌≡◌, ◌<◌, ◌≤◌, ◌+◌, ◌^◌, ◌++◌, ◌∷◌, [], length, is_some, false, position, OnOk, IfSome};
 ghost use Rattle.std.specs.List.{list_any, IsDistinct};
-ghost use Rattle.std.specs.Str.{bytes_eq};
 
 use indexmap::IndexSet;
 use sta_units::Memory;
 use std::alloc::Global;
 use std::hash::Hash;
 use std::marker::Model;
-use timing_defs::Name;
 
 /// The most keys that are looked through.
 const FEW: usize = 16;
 
 /// The most keys; no memory holds as many.
 const MOST: usize = 1 << 62;
-
-/// Whether bytes are the same. Names of one net mostly differ at the end, so they are compared from
-/// there.
-fn are_same(a: &[u8], b: &[u8]) -> bool
-    ensures { result ≡ bytes_eq a.now b.now }
-{
-    if a.len() != b.len() {
-        return false;
-    }
-    let mut left = a.len();
-    while 0 < left {
-        left -= 1;
-        if a[left] != b[left] {
-            return false;
-        }
-    }
-    true
-}
-
-/// Keys that are told apart in short time.
-pub(crate) trait Alike: Eq {
-    /// Whether two keys are the same.
-    fn is_like(&self, other: &Self) -> bool
-        ensures { result ≡ Self.eq self.now other.now };
-}
-
-impl Alike for Name {
-    fn is_like(&self, other: &Name) -> bool {
-        are_same(self.as_bytes(), other.as_bytes())
-    }
-}
-
-impl Alike for u32 {
-    fn is_like(&self, other: &u32) -> bool {
-        *self == *other
-    }
-}
 
 /// Keys, each once, in the order in which they came: the first few are looked through, those after
 /// them are hashed. Contracts see the list of all.
@@ -77,10 +38,10 @@ impl<T: Eq + Hash> Model for Keys<T> {
 }
 
 /// The place of a key among those that are looked through.
-fn first_place<T: Alike>(first: &[T], key: &T) -> Option<usize>
+fn first_place<T: Eq>(first: &[T], key: &T) -> Option<usize>
     ensures { result ≡ position (T.eq key.now) first.now }
 {
-    first.iter().position(|own| key.is_like(own))
+    first.iter().position(|own| *key == *own)
 }
 
 /// The place of a key among those that are hashed.
@@ -122,7 +83,7 @@ fn push_more<T: Eq + Hash + Drop>(first: &[T], more: &mut IndexSet<T>, key: T) -
     }
 }
 
-impl<T: Alike + Hash + Drop> Keys<T> {
+impl<T: Eq + Hash + Drop> Keys<T> {
     /// No keys. Takes no memory.
     pub(crate) fn new(alloc: Global) -> Keys<T>
         ensures { result ≡ [] }

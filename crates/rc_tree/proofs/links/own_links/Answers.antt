@@ -1,6 +1,6 @@
 use Rattle.std.proofs.Common.{rules, ◌<◌, length}
 use Rattle.rc_tree.proofs.Linking.{listed_more}
-use Rattle.rc_tree.proofs.links.node_links.Goals as goal
+use Rattle.rc_tree.proofs.links.own_links.Goals as goal
 
 pub loop-index-preserved : goal.loop-index-preserved
 loop-index-preserved c =
