@@ -23,9 +23,9 @@ use Rattle.node_rows.specs.declared.arcs.ArcValues.{ArcValues}
 use Rattle.node_rows.specs.declared.settings.NodeAt.{NodeAt}
 use Rattle.node_rows.specs.declared.settings.Before.{Before}
 use Rattle.node_rows.specs.declared.pin_wires.PinWire.{PinWire}
-use Rattle.node_rows.specs.Between.{leads, is_between, is_looked, is_delay_looked, outer_delay, outer_values, no_values, are_within}
+use Rattle.node_rows.specs.Between.{leads, is_between, is_looked, outer_values, no_values, are_within}
 use Rattle.node_rows.specs.WireTables.{IsWire, told_delay, told_slew}
-use Rattle.node_rows.specs.Evaluation.{values_along, is_wide_along, node_of, IsJoined, told_values, told_wide, scaled_some, scaled_values}
+use Rattle.node_rows.specs.Evaluation.{values_along, is_wide_along, node_of, IsJoined, told_values, told_wide, scaled_values}
 use Rattle.node_rows.proofs.Members.{some_is, in_map_back, kept_in}
 
 -- tests
@@ -50,20 +50,6 @@ last_large true true false true h k m = refl
 last_large a b y false h k m = absurd (false≢true m)
 last_large a false y true h k m = absurd (false≢true k)
 last_large false true y true h k m = absurd (false≢true h)
-
-first_low : (y z : Bool) → (not y || not z) ≡ false → y ≡ true
-first_low true z h = refl
-first_low false z h = absurd (false≢true (sym h))
-
-second_low : (a b y z : Bool) → (((not a || not b) || y) || z) ≡ false → b ≡ true
-second_low true true y z h = refl
-second_low true false y z h = absurd (false≢true (sym h))
-second_low false b y z h = absurd (false≢true (sym h))
-
-third_low : (a y z : Bool) → ((a || not y) || z) ≡ false → y ≡ true
-third_low true y z h = absurd (false≢true (sym h))
-third_low false true z h = refl
-third_low false false z h = absurd (false≢true (sym h))
 
 -- within the limit, as a test and as an order
 pub bound_of : (x : ℤ) → is_within x ≡ true → unsigned_abs x ≤ limit
@@ -165,22 +151,6 @@ module _ (s : Stored) (split : Split) (at : NodeAt) (b : Before) (j : IsJoined s
   large_is : is_wide_along d split to from b.row.now ≡ too_large (slew_in split b.row.now) (is_driver to.pin) (load_at d split to.pin) (library_arcs d split from to) end_of_wire delay_of_wire
   large_is = refl
 
-  pub no_delay : slew_in split b.row.now ≡ None → (told_values s split at b).delay ≡ None
-  no_delay e = ap (λ (v : ArcValues). v.delay) (sym (none_along e))
-
-  -- a delay is within its limit where no quantity of its arc leaves its limit
-  low_brought : (o : Option ℤ) (t : Bool) (load : ℤ) (arcs : List CellArc) (end : ℤ → ℤ) (wire : ℤ) → too_large o t load arcs end wire ≡ false
-      → within_some (brought o t load arcs end wire).delay ≡ true
-  low_brought None t load arcs end wire h = refl
-  low_brought (Some x) true load arcs end wire h = third_low _ (within_some (brought (Some x) true load arcs end wire).delay) _ h
-  low_brought (Some x) false load arcs end wire h = third_low false (within_some (brought (Some x) false load arcs end wire).delay) _ h
-
-  pub delay_low : told_wide s split at b ≡ false → within_some (told_values s split at b).delay ≡ true
-  delay_low near =
-      ap (λ (v : ArcValues). within_some v.delay) (values_are ∙ brought_is)
-      ∙ low_brought (slew_in split b.row.now) (is_driver to.pin) (load_at d split to.pin) (library_arcs d split from to) end_of_wire delay_of_wire
-      (sym (wide_is ∙ large_is) ∙ near)
-
   pub no_slew : option_map is_driver (pin_numbered s at.pin) ≡ Some true → slew_in split b.row.now ≡ None
       → (no_values ≡ told_values s split at b) × (told_wide s split at b ≡ false)
   no_slew drives e = (
@@ -218,17 +188,6 @@ module _ (s : Stored) (split : Split) (at : NodeAt) (b : Before) (j : IsJoined s
         cell_large
         ∙ first_large (list_all (λ (arc : CellArc). is_within (look arc.slew x load)) arcs) (list_all (λ (arc : CellArc). is_within (look arc.delay x load)) arcs) _ _
         (sym (all_parts (λ (arc : CellArc). is_within (look arc.slew x load)) (λ (arc : CellArc). is_within (look arc.delay x load)) arcs) ∙ wrong)
-
-    -- each delay that is looked up is within its limit where no quantity of the arc leaves its limit
-    pub looked_low : told_wide s split at b ≡ false → list_all (is_delay_looked x load) arcs ≡ true
-    looked_low near =
-        second_low (list_all (λ (arc : CellArc). is_within (look arc.slew x load)) arcs) (list_all (λ (arc : CellArc). is_within (look arc.delay x load)) arcs) _ _
-        (sym cell_large ∙ near)
-
-    pub delay_scaled : (delay : Option ℤ) (factor : ℕ) → delay ≡ outer_delay split x load None arcs → factor ≡ factor_of d.constraints.derates split true
-        → scaled_some delay factor ≡ (told_values s split at b).delay
-    delay_scaled delay factor looked by_factor =
-        ap (λ o. scaled_some o factor) looked ∙ ap (scaled_some (outer_delay split x load None arcs)) by_factor ∙ ap (λ (v : ArcValues). v.delay) (sym cell_brings)
 
     module _ (values : ArcValues) (factor : ℕ) (looked : values ≡ outer_values split x load no_values arcs) (fine : list_all (is_looked x load) arcs ≡ true)
         (within : are_within values ≡ true) (by_factor : factor ≡ factor_of d.constraints.derates split true) where
@@ -310,16 +269,6 @@ module _ (s : Stored) (split : Split) (at : NodeAt) (b : Before) (j : IsJoined s
       scaled_as =
           ap (λ y. rounded (y *ℤ pos factor) (pos (10 ^ 6))) timed
           ∙ ap (λ f. rounded (told_delay split wire *ℤ pos f) (pos (10 ^ 6))) by_factor
-
-      pub wire_scaled_low : told_wide s split at b ≡ false → is_within (rounded (delay *ℤ pos factor) (pos (10 ^ 6))) ≡ true
-      wire_scaled_low near =
-          ap is_within scaled_as
-          ∙ first_low (is_within wire_scaled) (within_some (option_and_then (λ x. Some (told_slew split wire x)) (slew_in split b.row.now))) (sym net_large ∙ near)
-
-      pub wire_delay_told : (x : ℤ) → slew_in split b.row.now ≡ Some x → Some (rounded (delay *ℤ pos factor) (pos (10 ^ 6))) ≡ (told_values s split at b).delay
-      wire_delay_told x has =
-          ap Some scaled_as
-          ∙ sym (ap (λ (v : ArcValues). v.delay) net_brings ∙ ap (λ o. option_and_then (λ y. Some wire_scaled) o) has)
 
       pub wire_large : is_within (rounded (delay *ℤ pos factor) (pos (10 ^ 6))) ≡ false → told_wide s split at b ≡ true
       wire_large wrong =

@@ -14,7 +14,7 @@ use Rattle.timing_defs.specs.Rows.{outer, outer_some}
 use Rattle.timing_defs.specs.Range.{within_some}
 use Rattle.node_rows.specs.declared.arcs.ArcEnds.{ArcEnds}
 use Rattle.node_rows.specs.declared.arcs.ArcValues.{ArcValues}
-use Rattle.node_rows.specs.Between.{is_between, is_looked, is_delay_looked, outer_delay, outer_values, are_within}
+use Rattle.node_rows.specs.Between.{is_between, is_looked, outer_values, are_within}
 
 pub more : {X : Type 0} (xs : List X) (i : ℕ) (x : X) → i < length xs → x ≡ get_or xs i x → drop i xs ≡ x ∷ drop (i + 1) xs
 more xs i x low e = rw (add-one, drop-cons xs i x) (ap (λ y. y ∷ drop (suc i) xs) (sym e))
@@ -64,23 +64,7 @@ module _ (p q : CellArc → Bool) where
       by : (b : Bool) → (b && true) ≡ false → (b && list_all q (filter p arcs)) ≡ false
       by true h = absurd (false≢true (sym h))
       by false h = refl
-
-  -- where each passes, the first does and so do the others
-  pub first_passes : (arc : CellArc) (arcs : List CellArc) → list_all q (filter p (arc ∷ arcs)) ≡ true → list_all q (filter p (arc ∷ [])) ≡ true
-  first_passes arc arcs h = elim (cases_Bool (p arc)) [
-    | inl e ↦
-        let both : (q arc && list_all q (filter p arcs)) ≡ true = rw e at h in
-        rw e (ap (λ b. b && true) (and_parts (q arc) (list_all q (filter p arcs)) both).0)
-    | inr e ↦ rw e refl
-  ]
-
-  pub others_pass : (arc : CellArc) (arcs : List CellArc) → list_all q (filter p (arc ∷ arcs)) ≡ true → list_all q (filter p arcs) ≡ true
-  others_pass arc arcs h = elim (cases_Bool (p arc)) [
-    | inl e ↦
-        let both : (q arc && list_all q (filter p arcs)) ≡ true = rw e at h in
-        (and_parts (q arc) (list_all q (filter p arcs)) both).1
-    | inr e ↦ rw e at h
-  ]
+      -- where each passes, the first does and so do the others
 
 module _ (split : Split) (slew load : ℤ) (ends : ArcEnds) where
   -- the values after one arc more
@@ -139,53 +123,6 @@ module _ (split : Split) (slew load : ℤ) (ends : ArcEnds) where
       sym p.fine ∙ ap (λ xs. list_all (is_looked slew load) (filter (is_between ends) xs)) (more arcs i arc low at)
       ∙ wrong_first (is_between ends) (is_looked slew load) arc (drop (i + 1) arcs) wrong
 
-  -- the delay after one arc more
-  more_delay : (best next : Option ℤ) (arc : CellArc) (arcs : List CellArc) → next ≡ outer_delay split slew load best (filter (is_between ends) (arc ∷ []))
-      → outer_delay split slew load next (filter (is_between ends) arcs) ≡ outer_delay split slew load best (filter (is_between ends) (arc ∷ arcs))
-  more_delay best next arc arcs e = elim (cases_Bool (is_between ends arc)) [
-    | inl h ↦
-        let f : next ≡ outer_delay split slew load best (arc ∷ []) = rw h at e in
-        rw h (ap (λ v. outer_delay split slew load v (filter (is_between ends) arcs)) f)
-    | inr h ↦
-        let f : next ≡ outer_delay split slew load best [] = rw h at e in
-        rw h (ap (λ v. outer_delay split slew load v (filter (is_between ends) arcs)) f)
-  ]
-
-  delay_within : (best next : Option ℤ) (arc : CellArc) → next ≡ outer_delay split slew load best (filter (is_between ends) (arc ∷ []))
-      → list_all (is_delay_looked slew load) (filter (is_between ends) (arc ∷ [])) ≡ true → within_some best ≡ true → within_some next ≡ true
-  delay_within best next arc e fine h = elim (cases_Bool (is_between ends arc)) [
-    | inl b ↦
-        let f : next ≡ outer_delay split slew load best (arc ∷ []) = rw b at e in
-        let g : (is_delay_looked slew load arc && true) ≡ true = rw b at fine in
-        ap within_some f
-        ∙ outer_some_within split best (Some (look arc.delay slew load)) h (and_parts (is_delay_looked slew load arc) true g).0
-    | inr b ↦
-        let f : next ≡ outer_delay split slew load best [] = rw b at e in
-        ap within_some f ∙ h
-  ]
-
-  -- what holds of delays as the arcs from a place on are still to come
-  pub record IsDelayPassing (arcs : List CellArc) (start best : Option ℤ) (i : ℕ) : Type 0 where
-    pub value : outer_delay split slew load best (filter (is_between ends) (drop i arcs)) ≡ outer_delay split slew load start (filter (is_between ends) arcs)
-    pub fine : list_all (is_delay_looked slew load) (filter (is_between ends) (drop i arcs)) ≡ true
-    pub within : within_some best ≡ true
-
-  module _ (arcs : List CellArc) (start best : Option ℤ) (i : ℕ) (arc : CellArc) (low : i < length arcs) (at : arc ≡ get_or arcs i arc)
-      (p : IsDelayPassing arcs start best i) where
-    cut_fine : list_all (is_delay_looked slew load) (filter (is_between ends) (arc ∷ drop (i + 1) arcs)) ≡ true
-    cut_fine = sym (ap (λ xs. list_all (is_delay_looked slew load) (filter (is_between ends) xs)) (more arcs i arc low at)) ∙ p.fine
-
-    pub delay_fine : list_all (is_delay_looked slew load) (filter (is_between ends) (arc ∷ [])) ≡ true
-    delay_fine = first_passes (is_between ends) (is_delay_looked slew load) arc (drop (i + 1) arcs) cut_fine
-
-    pub delay_passed : (next : Option ℤ) → next ≡ outer_delay split slew load best (filter (is_between ends) (arc ∷ [])) → IsDelayPassing arcs start next (i + 1)
-    delay_passed next e = record {
-      value = more_delay best next arc (drop (i + 1) arcs) e
-          ∙ ap (λ xs. outer_delay split slew load best (filter (is_between ends) xs)) (sym (more arcs i arc low at)) ∙ p.value;
-      fine = others_pass (is_between ends) (is_delay_looked slew load) arc (drop (i + 1) arcs) cut_fine;
-      within = delay_within best next arc e delay_fine p.within;
-    }
-
 -- an arc as looked up
 pub first_wrong : (a b : Bool) → a ≡ false → (a && b) ≡ false
 first_wrong true b h = absurd (false≢true (sym h))
@@ -194,9 +131,6 @@ first_wrong false b h = refl
 pub second_wrong : (a b : Bool) → b ≡ false → (a && b) ≡ false
 second_wrong true b h = h
 second_wrong false b h = refl
-
-pub never_wrong : (slew load : ℤ) (arc : CellArc) → is_delay_looked slew load arc ≡ true → is_within (look arc.delay slew load) ≡ false → ⊥
-never_wrong slew load arc fine wrong = false≢true (sym wrong ∙ fine)
 
 pub both_values : (a b x y : ℤ) → a ≡ x → b ≡ y → ◌≡◌ {A = ArcValues} (record { slew = Some a; delay = Some b }) (record { slew = Some x; delay = Some y })
 both_values a b x y h k = ap (λ (z : ℤ). record { slew = Some z; delay = Some b }) h ∙ ap (λ (z : ℤ). record { slew = Some x; delay = Some z }) k
@@ -218,12 +152,3 @@ module _ (split : Split) (slew load : ℤ) (ends : ArcEnds) (arc : CellArc) (lea
   leads_values best next told e f =
       rw leads
       (f ∙ ap (λ (v : ArcValues). record { slew = outer_some split best.slew v.slew; delay = outer_some split best.delay v.delay }) e)
-
-  pub leads_delay : (best told : Option ℤ) (delay : ℤ) → delay ≡ look arc.delay slew load → told ≡ outer_some split best (Some delay)
-      → told ≡ outer_delay split slew load best (filter (is_between ends) (arc ∷ []))
-  leads_delay best told delay e f = rw leads (f ∙ ap (λ (z : ℤ). outer_some split best (Some z)) e)
-
-  pub leads_fine_delay : list_all (is_delay_looked slew load) (filter (is_between ends) (arc ∷ [])) ≡ true → is_delay_looked slew load arc ≡ true
-  leads_fine_delay h =
-      let g : (is_delay_looked slew load arc && true) ≡ true = rw leads at h in
-      (and_parts (is_delay_looked slew load arc) true g).0

@@ -12,6 +12,7 @@ pub mod Members
 pub mod MergeLaws
 pub mod NetFaults
 pub mod NetSteps
+pub mod PairLaws
 pub mod PinForms
 pub mod PinLaws
 pub mod PinNames

@@ -263,10 +263,11 @@ module _ (s : Stored) (at : NodeAt) (before : List Before) (are : AreBefore s at
         ∙ wide_joined looked_any scaled_any end_any (not (within_some (slew_of d split row_of node)))
         (list_any (λ edge. not (within_some (arrival_of d split row_of node edge))) (launch_edges d)) large_end (none_large fit)
 
-    pub row_split_is : told_row s split at before ≡ record { slew = as_fs (slew_of d split row_of node); times = arrivals_of d split row_of node }
+    pub row_split_is : told_row s split at before
+        ≡ record { slew = as_fs (slew_of d split row_of node); times = arrivals_of d split row_of node; values = map (told_values s split at) before }
     row_split_is =
-        ap (λ o. record { slew = as_fs o; times = times_on (arrival_over s split at before values) (launch_edges d) }) slew_is
-        ∙ ap (λ ts. record { slew = as_fs (slew_of d split row_of node); times = ts }) times_are
+        ap (λ o. record { slew = as_fs o; times = times_on (arrival_over s split at before values) (launch_edges d); values = map (told_values s split at) before }) slew_is
+        ∙ ap (λ ts. record { slew = as_fs (slew_of d split row_of node); times = ts; values = map (told_values s split at) before }) times_are
 
   pub whole_row : are_constraints d.constraints ≡ true → (early late : SplitRow) → early ≡ told_row s Early at before → late ≡ told_row s Late at before
       → is_wide_split s Early at before ≡ false → is_wide_split s Late at before ≡ false

@@ -19,10 +19,10 @@ use Rattle.node_rows.specs.declared.settings.NodeAt.{NodeAt}
 use Rattle.node_rows.specs.declared.settings.Before.{Before}
 use Rattle.node_rows.specs.declared.pin_wires.PinWire.{PinWire}
 use Rattle.node_rows.specs.declared.pin_wires.Wires.{Wires}
-use Rattle.node_rows.specs.Between.{is_between, is_looked, is_delay_looked, outer_delay, outer_values, no_values, are_within}
+use Rattle.node_rows.specs.Between.{is_between, is_looked, outer_values, no_values, are_within}
 use Rattle.node_rows.specs.WireTables.{IsWire, AreWires, wire_at, told_delay, told_slew}
-use Rattle.node_rows.specs.Evaluation.{IsJoined, IsAlong, told_values, told_wide, scaled_some, scaled_values}
-use Rattle.node_rows.proofs.AlongLaws.{no_slew, no_inst, port_of, looked_large, looked_low, delay_low, delay_scaled, cell_told, cell_fine, scaled_large, bound_of, pin_of_node, wired, wire_large, wire_scaled_low, wire_delay_told, wire_none, wire_told, end_large}
+use Rattle.node_rows.specs.Evaluation.{IsJoined, IsAlong, told_values, told_wide, scaled_values}
+use Rattle.node_rows.proofs.AlongLaws.{no_slew, no_inst, port_of, looked_large, cell_told, cell_fine, scaled_large, bound_of, pin_of_node, wired, wire_large, wire_none, wire_told, end_large}
 use Rattle.node_rows.proofs.Members.{some_is}
 use Rattle.node_rows.proofs.InstForms.{arcs_there}
 
@@ -41,17 +41,6 @@ module _ (s : Stored) (num : IsNumbered s) (linked : IsLinked s.design) (split :
 
   pub looked_wrong : list_all (is_looked x load) (filter (is_between ends) arcs) ≡ false → told_wide s split at b ≡ true
   looked_wrong = looked_large s split at b j x load (filter (is_between ends) arcs) has drives loaded found
-
-  pub delays_fine : told_wide s split at b ≡ false → list_all (is_delay_looked x load) (filter (is_between ends) arcs) ≡ true
-  delays_fine = looked_low s split at b j x load (filter (is_between ends) arcs) has drives loaded found
-
-  module _ (delay : Option ℤ) (factor : ℕ) (looked : delay ≡ outer_delay split x load None (filter (is_between ends) arcs))
-      (by_factor : factor ≡ factor_of s.design.constraints.derates split true) where
-    pub delay_told : (told : Option ℤ) → told ≡ scaled_some delay factor → told ≡ (told_values s split at b).delay
-    delay_told told e = e ∙ delay_scaled s split at b j x load (filter (is_between ends) arcs) has drives loaded found delay factor looked by_factor
-
-    pub delay_fine : told_wide s split at b ≡ false → within_some (scaled_some delay factor) ≡ true
-    delay_fine near = ap within_some (delay_told (scaled_some delay factor) refl) ∙ delay_low s split at b j near
 
   module _ (values : ArcValues) (factor : ℕ) (looked : values ≡ outer_values split x load no_values (filter (is_between ends) arcs))
       (fine : list_all (is_looked x load) (filter (is_between ends) arcs) ≡ true) (within : are_within values ≡ true)
@@ -84,13 +73,6 @@ module _ (s : Stored) (w : Wires) (are : AreWires s w) (split : Split) (at : Nod
   pub delay_wrong : (factor : ℕ) → factor ≡ factor_of s.design.constraints.derates split false → (delay : ℤ) → delay ≡ told_delay split wire
       → is_within (rounded (delay *ℤ pos factor) (pos (10 ^ 6))) ≡ false → told_wide s split at b ≡ true
   delay_wrong factor by_factor delay timed wrong = wire_large s split at b j drives wire led factor by_factor delay timed wrong
-
-  module _ (factor : ℕ) (by_factor : factor ≡ factor_of s.design.constraints.derates split false) (delay : ℤ) (timed : delay ≡ told_delay split wire) where
-    pub wire_fine : told_wide s split at b ≡ false → is_within (rounded (delay *ℤ pos factor) (pos (10 ^ 6))) ≡ true
-    wire_fine = wire_scaled_low s split at b j drives wire led factor by_factor delay timed
-
-    pub sink_told : (x scaled : ℤ) → slew_in split b.row.now ≡ Some x → scaled ≡ rounded (delay *ℤ pos factor) (pos (10 ^ 6)) → Some scaled ≡ (told_values s split at b).delay
-    sink_told x scaled has e = ap Some e ∙ wire_delay_told s split at b j drives wire led factor by_factor delay timed x has
 
   module _ (delay : ℤ) (scaled : delay ≡ rounded (told_delay split wire *ℤ pos (factor_of s.design.constraints.derates split false)) (pos (10 ^ 6))) (fine : is_within delay ≡ true) where
     pub none_along : (told : ArcValues) → told ≡ no_values → slew_in split b.row.now ≡ None → IsAlong s split at b told

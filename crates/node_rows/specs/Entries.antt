@@ -1,7 +1,7 @@
 -- How arcs enter the nodes of a pin, by the numbers of a store (Liberty reference manual, timing groups:
 -- a cell's arcs end at its output pins).
 
-use Rattle.std.specs.Prelude.{ℕ, ℤ, ◌≡◌, ◌≤◌, ◌^◌, true, false, Option, Some, is_some, option_map, option_and_then, unsigned_abs}
+use Rattle.std.specs.Prelude.{ℕ, ◌≡◌, ◌≤◌, true, false, Some, is_some, option_map, option_and_then, unsigned_abs}
 use Rattle.sta_units.specs.Numbers.{limit}
 use Rattle.timing_defs.specs.declared.kinds.Split.{Split}
 use Rattle.timing_defs.specs.declared.library.Cell.{Cell}
@@ -16,7 +16,8 @@ use Rattle.node_rows.specs.declared.entries.Entry.TheVariants.{Wire, Cell as by_
 abbrev pub Drives : Stored → ℕ → Type 0
 Drives s pin = option_map is_driver (pin_numbered s pin) ≡ Some true
 
--- the cell of the instance that has a pin, the pin's name in it, its load, and the factor of cell delays
+-- the cell in a split of the instance that has a pin, the pin's name in it, the load of the pin's net, and the
+-- factor of cell delays; load and factor lie within their limits
 pub record IsDriven (s : Stored) (split : Split) (pin : ℕ) (driving : DrivingCell) : Type 0 where
   pub inst : ℕ
   pub owner : owner_number s pin ≡ Some inst
@@ -29,7 +30,8 @@ pub record IsDriven (s : Stored) (split : Split) (pin : ℕ) (driving : DrivingC
   pub factor : driving.factor ≡ factor_of s.design.constraints.derates split true
   pub low_factor : driving.factor ≤ 10000000
 
--- a sink is entered by a wire, an output pin by the arcs of its cell, an input port by nothing
+-- a pin that does not drive is entered by a wire, where its net has a driver; an output pin by the arcs of its
+-- cell; an input port by nothing
 abbrev pub IsEntry : Stored → Split → ℕ → Entry → Type 0
 IsEntry s split pin Wire = option_map is_driver (pin_numbered s pin) ≡ Some false
 IsEntry s split pin (by_cell driving) = Drives s pin × IsDriven s split pin driving

@@ -7,6 +7,7 @@ use Rattle.std.specs.Option.{option_map_or}
 use Rattle.std.specs.Str.{bytes_eq}
 use Rattle.sta_units.specs.Numbers.{is_within, rounded}
 use Rattle.timing_defs.specs.declared.kinds.Split.{Split}
+use Rattle.timing_defs.specs.declared.kinds.Split.TheVariants.{Early, Late}
 use Rattle.timing_defs.specs.declared.kinds.Tran.{Tran}
 use Rattle.timing_defs.specs.declared.constraints.Clock.{Clock}
 use Rattle.timing_defs.specs.declared.design.Design.{Design}
@@ -22,6 +23,7 @@ use Rattle.timing_defs.specs.Rows.{arcs_in, net_name, slew_along, raw_delay, sca
 use Rattle.timing_defs.specs.Range.{within_some, looked_within, either_split}
 use Rattle.netlist_store.specs.Numbering.{Stored, pin_numbered}
 use Rattle.node_rows.specs.declared.arcs.ArcValues.{ArcValues}
+use Rattle.node_rows.specs.declared.delays.BothDelays.{BothDelays}
 use Rattle.node_rows.specs.declared.unfit.Unfit.{Unfit}
 use Rattle.node_rows.specs.declared.unfit.Unfit.TheVariants.{Range, Memory}
 use Rattle.node_rows.specs.declared.rows.SplitRow.{SplitRow}
@@ -124,6 +126,16 @@ told_wide s split at b =
     option_map_or (λ to. option_map_or (λ from. is_wide_along s.design split to from b.row.now) (node_of s b.node) false)
     (node_of s at) false
 
+-- the delays that an arc brings to a node from another, by numbers
+abbrev pub told_delays : Stored → NodeAt → Before → BothDelays
+told_delays s at b = record { early = (told_values s Early at b).delay; late = (told_values s Late at b).delay }
+
+-- the delays of arcs in both splits, of what they bring in each
+abbrev pub both_delays : List ArcValues → List ArcValues → List BothDelays
+both_delays [] late = []
+both_delays (e ∷ early) [] = []
+both_delays (e ∷ early) (l ∷ late) = record { early = e.delay; late = l.delay } ∷ both_delays early late
+
 -- what an arc brings to a node, all within the limit
 pub record IsAlong (s : Stored) (split : Split) (at : NodeAt) (b : Before) (values : ArcValues) : Type 0 where
   pub told : values ≡ told_values s split at b
@@ -190,7 +202,7 @@ IsPlaced wide name other = ⊥
 abbrev pub IsRefused : Design → (Node → NodeRow) → Node → Fault → Type 0
 IsRefused d row_of to fault = IsPlaced (is_wide d row_of to) (name_of to.pin) fault
 
--- the row of a node in one split, by numbers
+-- the row of a node in one split, with what its arcs bring, by numbers
 abbrev pub told_slew_over : Stored → Split → NodeAt → List ArcValues → Option ℤ
 told_slew_over s split at values =
     option_map_or
@@ -203,6 +215,7 @@ told_row s split at before =
     record {
       slew = as_fs (told_slew_over s split at (map (told_values s split at) before));
       times = times_on (arrival_over s split at before (map (told_values s split at) before)) (launch_edges s.design);
+      values = map (told_values s split at) before;
     }
 
 abbrev pub is_wide_split : Stored → Split → NodeAt → List Before → Bool

@@ -1,14 +1,13 @@
 //! The arcs of a cell from one of its nodes to another, and what their tables give.
 
-ghost use Rattle.std.specs.Prelude.{◌≡◌, ◌≤◌, [], ◌∷◌, true, false, None, Some, All, filter, unsigned_abs, if◌then◌else◌, IfOk, IfErr, OnOk};
+ghost use Rattle.std.specs.Prelude.{◌≡◌, ◌≤◌, [], ◌∷◌, true, false, Some, filter, unsigned_abs, IfOk, IfErr};
 ghost use Rattle.std.specs.List.{list_all};
 ghost use Rattle.sta_units.specs.Numbers.{limit};
 ghost use Rattle.timing_defs.specs.Netlist.{same_tran};
 ghost use Rattle.timing_defs.specs.Clocking.{is_comb};
 ghost use Rattle.timing_defs.specs.Rows.{outer, outer_some};
-ghost use Rattle.timing_defs.specs.Range.{within_some};
 ghost use Rattle.timing_defs.specs.Lookup.{look};
-ghost use Rattle.node_rows.specs.Between.{is_between, has_tables, is_looked, is_delay_looked, outer_delay, outer_values, no_values, are_within};
+ghost use Rattle.node_rows.specs.Between.{is_between, has_tables, is_looked, outer_values, no_values, are_within};
 
 use nldm_lookup::{OutOfRange, look_up};
 use timing_defs::{ArcKind, CellArc, Split, Tran};
@@ -160,64 +159,4 @@ pub fn arc_values(
         best = with_arc(split, best, arc, ends, slew, load)?;
     }
     Ok(best)
-}
-
-/// The delay of an arc as looked up, which is within its limit.
-fn looked_delay(arc: &CellArc, slew: i64, load: i64) -> i64
-    requires tables { has_tables arc.now ≡ true }
-    requires slew { unsigned_abs slew ≤ limit }
-    requires load { unsigned_abs load ≤ limit }
-    requires fine { is_delay_looked slew load arc.now ≡ true }
-    ensures { result ≡ look arc.now.delay slew load }
-{
-    match look_up(&arc.delay, slew, load) {
-        Ok(delay) => delay,
-        Err(_) => unreachable!(),
-    }
-}
-
-/// The outermost delay so far, with that of an arc that leads from one node to the other.
-fn with_delay(
-    split: Split,
-    best: Option<i64>,
-    arc: &CellArc,
-    ends: &ArcEnds<'_>,
-    slew: i64,
-    load: i64,
-) -> Option<i64>
-    requires tables { has_tables arc.now ≡ true }
-    requires slew { unsigned_abs slew ≤ limit }
-    requires load { unsigned_abs load ≤ limit }
-    requires fine { list_all (is_delay_looked slew load) (filter (is_between ends.now) (arc.now ∷ [])) ≡ true }
-    ensures { result ≡ outer_delay split slew load best (filter (is_between ends.now) (arc.now ∷ [])) }
-{
-    if is_between(ends, arc) {
-        outer_some(split, best, Some(looked_delay(arc, slew, load)))
-    } else {
-        best
-    }
-}
-
-/// The outermost delay of the arcs that lead from one node to the other, at the slew of the first in fs
-/// and the load of the second in aF, where the delay of each lies within its limit. Looks no slew up,
-/// and takes no memory.
-pub(crate) fn arc_delay(
-    split: Split,
-    arcs: &[CellArc],
-    ends: &ArcEnds<'_>,
-    slew: i64,
-    load: i64,
-) -> Option<i64>
-    requires tables { list_all has_tables arcs.now ≡ true }
-    requires slew { unsigned_abs slew ≤ limit }
-    requires load { unsigned_abs load ≤ limit }
-    requires fine { list_all (is_delay_looked slew load) (filter (is_between ends.now) arcs.now) ≡ true }
-    ensures value { result ≡ outer_delay split slew load None (filter (is_between ends.now) arcs.now) }
-    ensures within { within_some result ≡ true }
-{
-    let mut best = None;
-    for arc in arcs {
-        best = with_delay(split, best, arc, ends, slew, load);
-    }
-    best
 }

@@ -14,7 +14,7 @@ use timing_defs::{CellArc, Split};
 
 /// The cell of the instance that has an output pin, with what all arcs to the pin have in common.
 #[derive(Clone, Copy, Drop)]
-pub struct DrivingCell<'a> {
+pub(crate) struct DrivingCell<'a> {
     /// The arcs of the cell.
     pub(crate) arcs: &'a [CellArc],
     /// The name of the pin in the cell.
@@ -27,7 +27,7 @@ pub struct DrivingCell<'a> {
 
 /// How arcs enter the nodes of a pin in a split.
 #[derive(Clone, Copy, Drop)]
-pub enum Entry<'a> {
+pub(crate) enum Entry<'a> {
     /// By the wire from the driver of the pin's net.
     Wire,
     /// By the arcs of a cell, to one of its output pins.
@@ -68,7 +68,7 @@ fn driving_cell<'a>(setting: &Setting<'a>, split: Split, pin: u32, inst: u32) ->
 }
 
 /// How arcs enter the nodes of a pin in a split. Takes no memory.
-pub fn entry_of<'a>(setting: &Setting<'a>, split: Split, pin: u32) -> Entry<'a>
+pub(crate) fn entry_of<'a>(setting: &Setting<'a>, split: Split, pin: u32) -> Entry<'a>
     requires setting { IsSetting setting.now }
     requires pin { is_number setting.now.store.now.pins pin ≡ true }
     ensures { IsEntry setting.now.store.now split pin result }

@@ -1,8 +1,10 @@
 //! The row of a node, from the rows of the nodes before it: what the arcs of cells and wires give,
-//! what the constraints say of ports, and the slews and arrivals that are merged of these.
+//! what the constraints say of ports, and the slews and arrivals that are merged of these. The delays of
+//! the arcs into the node, each found once, come with its row.
 #![tactic(auto)]
 
 mod arcs;
+mod delays;
 mod entries;
 mod found_nets;
 mod loads;
@@ -19,10 +21,10 @@ mod values;
 mod wire_tables;
 
 pub use arcs::{ArcEnds, ArcValues, arc_values, outer_some, same_tran};
-pub use entries::{DrivingCell, Entry, entry_of};
+pub use delays::BothDelays;
 pub use merges::{plus_some, time_on, times_in};
 pub use pin_wires::{NetLoad, PinWire, SinkWire, Wires};
 pub use ports::Ports;
-pub use rows::node_row;
+pub use rows::{RowAndDelays, node_row};
 pub use settings::{Before, NodeAt, Setting, Wired};
-pub use values::{delay_into, slew_in};
+pub use values::slew_in;

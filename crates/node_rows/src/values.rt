@@ -9,9 +9,9 @@ ghost use Rattle.netlist_store.specs.Numbering.{is_number, pin_numbered};
 ghost use Rattle.node_rows.specs.Between.{no_values, are_within};
 ghost use Rattle.node_rows.specs.Entries.{IsDriven, IsEntry};
 ghost use Rattle.node_rows.specs.WireTables.{root_slew, told_slew, told_delay, wire_at};
-ghost use Rattle.node_rows.specs.Evaluation.{IsJoined, IsSetting, IsAlong, told_values, told_wide, is_row_within, scaled_some, scaled_values};
+ghost use Rattle.node_rows.specs.Evaluation.{IsJoined, IsSetting, IsAlong, told_values, told_wide, is_row_within, scaled_values};
 
-use crate::arcs::{ArcEnds, ArcValues, arc_delay, arc_values};
+use crate::arcs::{ArcEnds, ArcValues, arc_values};
 use crate::entries::{DrivingCell, Entry};
 use crate::pin_wires::PinWire;
 use crate::pins::own_name;
@@ -236,94 +236,5 @@ pub(crate) fn values_into(
         Entry::Wire => net_values(setting, split, to, before),
         Entry::Cell(cell) => cell_values(setting, split, to, before, cell),
         Entry::Port => Ok(no_values()),
-    }
-}
-
-/// A delay times a factor, where that is within its limit.
-fn scaled_within(delay: i64, factor: u32) -> i64
-    requires delay { unsigned_abs delay ≤ limit }
-    requires factor { factor ≤ 10000000 }
-    requires fine { is_within (rounded (delay *ℤ pos factor) (pos (10 ^ 6))) ≡ true }
-    ensures { result ≡ rounded (delay *ℤ pos factor) (pos (10 ^ 6)) }
-{
-    match scaled(delay, factor) {
-        Ok(product) => product,
-        Err(_) => unreachable!(),
-    }
-}
-
-/// A delay times a factor, where there is one; both are within their limits.
-fn scaled_some(delay: Option<i64>, factor: u32) -> Option<i64>
-    requires delay { within_some delay ≡ true }
-    requires factor { factor ≤ 10000000 }
-    requires fine { within_some (scaled_some delay factor) ≡ true }
-    ensures { result ≡ scaled_some delay factor }
-{
-    match delay {
-        Some(delay) => Some(scaled_within(delay, factor)),
-        None => None,
-    }
-}
-
-/// The delay that the arcs of a cell bring to one of its output pins; none from a node without a slew.
-fn cell_delay(
-    setting: &Setting<'_>,
-    split: Split,
-    to: NodeAt,
-    before: &Before<'_>,
-    cell: &DrivingCell<'_>,
-) -> Option<i64>
-    requires setting { IsSetting setting.now }
-    requires joined { IsJoined setting.now.store.now to before.now.node }
-    requires row { is_row_within before.now.row.now ≡ true }
-    requires fine { told_wide setting.now.store.now split to before.now ≡ false }
-    requires drives { option_map is_driver (pin_numbered setting.now.store.now to.pin) ≡ Some true }
-    requires cell { IsDriven setting.now.store.now split to.pin cell.now }
-    ensures { result ≡ (told_values setting.now.store.now split to before.now).delay }
-{
-    setting.store.laws();
-    let slew = slew_in(before.row, split)?;
-    let ends = ends_between(setting.store, before.node, to, cell.own);
-    let delay = arc_delay(split, cell.arcs, &ends, slew, cell.load);
-    scaled_some(delay, cell.factor)
-}
-
-/// The delay that the wire to a sink brings to it; none from a node without a slew.
-fn net_delay(setting: &Setting<'_>, split: Split, to: NodeAt, before: &Before<'_>) -> Option<i64>
-    requires setting { IsSetting setting.now }
-    requires joined { IsJoined setting.now.store.now to before.now.node }
-    requires fine { told_wide setting.now.store.now split to before.now ≡ false }
-    requires drives { option_map is_driver (pin_numbered setting.now.store.now to.pin) ≡ Some false }
-    ensures { result ≡ (told_values setting.now.store.now split to before.now).delay }
-{
-    setting.store.laws();
-    slew_in(before.row, split)?;
-    let wire = setting.wires.wire(to.pin);
-    let factor = factor_of(&setting.store.constraints().derates, split, false);
-    Some(scaled_within(wire_delay(&wire, split), factor))
-}
-
-/// The delay that an arc brings to a node from another, where no quantity of the arc leaves its limit.
-/// `entry` is how arcs enter the node's pin. Of the tables of arcs it looks up those of delays alone.
-/// Takes no memory.
-pub fn delay_into(
-    setting: &Setting<'_>,
-    split: Split,
-    to: NodeAt,
-    entry: &Entry<'_>,
-    before: &Before<'_>,
-) -> Option<i64>
-    requires setting { IsSetting setting.now }
-    requires joined { IsJoined setting.now.store.now to before.now.node }
-    requires entry { IsEntry setting.now.store.now split to.pin entry.now }
-    requires row { is_row_within before.now.row.now ≡ true }
-    requires fine { told_wide setting.now.store.now split to before.now ≡ false }
-    ensures value { result ≡ (told_values setting.now.store.now split to before.now).delay }
-    ensures within { within_some result ≡ true }
-{
-    match entry {
-        Entry::Wire => net_delay(setting, split, to, before),
-        Entry::Cell(cell) => cell_delay(setting, split, to, before, cell),
-        Entry::Port => None,
     }
 }
