@@ -1,13 +1,9 @@
 -- The table of the delays of arcs has those of the definition, each within its limit.
 
-use Rattle.std.proofs.Common.{◌≡◌, ℕ, zero, suc, ◌+◌, ◌<◌, ℤ, Bool, true, false, ◌||◌, if◌then◌else◌, List, [], ◌∷◌, ◌++◌, map, length, get_or, take, Option, None, Some, refl, sym, ap, subst, ◌∙◌, inl, inr, arith}
-use Rattle.std.specs.Prelude.{nat_eq, All, Contains, find, option_map, option_and_then, IfSome}
-use Rattle.std.specs.List.{range_with_len}
+use Rattle.std.proofs.Common.{◌≡◌, ℕ, zero, suc, ◌<◌, ℤ, Bool, true, false, ◌||◌, if◌then◌else◌, List, [], ◌∷◌, map, Option, None, Some, refl, sym, ap, subst, ◌∙◌, inl, inr, arith}
+use Rattle.std.specs.Prelude.{nat_eq, Contains, find, option_map, option_and_then, IfSome}
 use Rattle.std.proofs.lemmas.Bool.{cases_Bool, eqb-true, eq-eqb, or_parts, not-false, false≢true}
 use Rattle.std.proofs.lemmas.Option.{none-some}
-use Rattle.std.proofs.lemmas.List.FromFn.{length-range_with_len, get_or-range_with_len}
-use Rattle.std.proofs.lemmas.List.{take_more, map_push}
-use Rattle.std.proofs.lemmas.List.Elements.{All-contains_itself}
 use Rattle.sta_units.specs.Numbers.{Within}
 use Rattle.timing_defs.specs.declared.kinds.Split.{Split}
 use Rattle.timing_defs.specs.declared.kinds.Split.TheVariants.{Early, Late}
@@ -20,47 +16,17 @@ use Rattle.timing_defs.specs.Wires.{wire_delay}
 use Rattle.timing_defs.specs.Rows.{row, delay, delay_from, delay_along, raw_delay, scaled, slew_in, net_name, load_at, outermost, library_arcs}
 use Rattle.timing_defs.specs.Range.{within_some}
 use Rattle.netlist_store.specs.Linked.{IsLinked}
-use Rattle.netlist_store.specs.Numbering.{Stored, IsNumbered, is_number}
-use Rattle.level_workers.specs.Mapped.{IsMap}
-use Rattle.node_rows.specs.declared.settings.Setting.{Setting}
-use Rattle.node_rows.specs.Evaluation.{IsSetting, scaled_over, is_wide_looked, is_wide_scaled, is_wide_end, is_wide_along}
+use Rattle.netlist_store.specs.Numbering.{Stored, IsNumbered}
+use Rattle.node_rows.specs.Evaluation.{scaled_over, is_wide_looked, is_wide_scaled, is_wide_end, is_wide_along}
 use Rattle.node_rows.proofs.AlongLaws.{bound_of}
 use Rattle.pin_graph.specs.declared.arcs.GraphArc.{GraphArc}
-use Rattle.pin_graph.specs.Nodes.{node_at, node_bound, pin_under}
-use Rattle.pin_graph.specs.NodeArcs.{none_arc}
+use Rattle.pin_graph.specs.Nodes.{node_at, node_bound}
 use Rattle.pin_graph.specs.Graphs.{Graphed, IsGraph, IsArc, fan_at}
-use Rattle.pin_graph.specs.RowTables.{AreRows, AreRowsFine}
 use Rattle.pin_graph.proofs.Members.{first_in, later_in, none_in}
 use Rattle.pin_graph.proofs.NodeLaws.{node_below, has_node}
-use Rattle.arc_delays.specs.declared.along.Entered.{Entered}
 use Rattle.arc_delays.specs.declared.tables.ArcDelay.{ArcDelay}
-use Rattle.arc_delays.specs.Delays.{delay_numbered, delay_in, delay_told, arc_delay, AreDelays, AreInto, AreWithin, IsEntered, IsFound}
-use Rattle.arc_delays.proofs.DelayLaws.{narrow_arc, to_there}
-use Rattle.arc_delays.proofs.RangeLaws.{within}
-
-last : (a n j : ℕ) → a + n ≡ j → range_with_len a (suc n) ≡ range_with_len a n ++ j ∷ []
-last a zero j e = let same : a ≡ j = omega arith in ap (λ k. k ∷ []) same
-last a (suc n) j e = ap (λ l. a ∷ l) (last (a + 1) n j (omega arith))
-
--- the numbers below a bound, one more
-pub numbers_more : (n : ℕ) (before after : List ℕ) → before ≡ range_with_len 0 n → after ≡ before ++ n ∷ [] → after ≡ range_with_len 0 (n + 1)
-numbers_more n before after b a =
-    let on : n + 1 ≡ suc n = omega arith in
-    a ∙ ap (λ l. l ++ n ∷ []) b ∙ sym (ap (range_with_len 0) on ∙ last 0 n n (omega arith))
-
--- the result of an item
-pub mapped_at : {I R : Type 0} (gives : I → R → Type 0) (xs : List I) (rs : List R) (i : ℕ) (d : I) (e : R) → IsMap gives xs rs → i < length xs
-    → gives (get_or xs i d) (get_or rs i e)
-mapped_at gives [] rs i d e m low = absurd (omega (arith, low))
-mapped_at gives (x ∷ xs) [] i d e m low = absurd m
-mapped_at gives (x ∷ xs) (r ∷ rs) zero d e m low = m.0
-mapped_at gives (x ∷ xs) (r ∷ rs) (suc i) d e m low = mapped_at gives xs rs i d e m.1 (omega (arith, low))
-
-pub mapped_long : {I R : Type 0} (gives : I → R → Type 0) (xs : List I) (rs : List R) → IsMap gives xs rs → length rs ≡ length xs
-mapped_long gives [] [] m = refl
-mapped_long gives [] (r ∷ rs) m = absurd m
-mapped_long gives (x ∷ xs) [] m = absurd m
-mapped_long gives (x ∷ xs) (r ∷ rs) m = ap suc (mapped_long gives xs rs m.1)
+use Rattle.arc_delays.specs.Delays.{delay_numbered, delay_in, delay_told, arc_delay, AreDelays, AreAllInto, AreWithin}
+use Rattle.arc_delays.proofs.DelayLaws.{narrow_arc}
 
 -- the first arc from a node, with its delays
 record HasArc (s : Stored) (from : ℕ) (arcs : List GraphArc) : Type 0 where
@@ -150,82 +116,27 @@ module _ (g : Graphed) (num : IsNumbered g.stored) (linked : IsLinked g.stored.d
       ap (λ o. option_and_then (λ f. option_and_then (delay g.stored.design split f) (node_at g.stored arc.to)) o) a.from_number
       ∙ ap (λ o. option_and_then (delay g.stored.design split a.from) o) a.to_number in
       if_some (delay_numbered g.stored split arc.from arc.to)
-      (λ v e. delay_bound g.stored.design split a.to a.from (row g.stored.design a.from) v (narrow_arc g num linked is fine arc a split) (sym is_delay ∙ e))
+      (λ v e. delay_bound g.stored.design split a.to a.from (row g.stored.design a.from) v (narrow_arc g num linked fine arc a split) (sym is_delay ∙ e))
 
-  module _ (t : List (List ArcDelay)) (m : IsMap (AreInto g) (range_with_len 0 (node_bound g.stored)) t) where
-    into_at : (n : ℕ) → n < node_bound g.stored → get_or t n [] ≡ map (arc_delay g.stored) (fan_at g.ins n)
-    into_at n low =
-        let long = length-range_with_len 0 (node_bound g.stored) in
-        let at = get_or-range_with_len 0 (node_bound g.stored) n 0 low in
-        let here : get_or (range_with_len 0 (node_bound g.stored)) n 0 ≡ n = omega (arith, at) in
-        let made = mapped_at (AreInto g) (range_with_len 0 (node_bound g.stored)) t n 0 [] m (omega (arith, low, long)) in
-        subst (λ (k : ℕ). AreInto g k (get_or t n [])) here made low
-
+  module _ (t : List (List ArcDelay)) (m : AreAllInto g t) where
     told_at : (split : Split) (arc : GraphArc) → IsArc g.stored arc → delay_told t split arc.from arc.to ≡ delay_numbered g.stored split arc.from arc.to
     told_at split arc a =
         let low = arc_below arc a in
         let fan = is.ins arc.to low in
         let has = has_arc g.stored (fan_at g.ins arc.to) arc (fan.all arc a refl) in
         let ends : has.arc.to ≡ arc.to = (fan.sound has.arc has.within).1 in
-        ap (λ ds. option_and_then (delay_in split) (find (λ (d : ArcDelay). nat_eq d.from arc.from) ds)) (into_at arc.to low)
+        ap (λ ds. option_and_then (delay_in split) (find (λ (d : ArcDelay). nat_eq d.from arc.from) ds)) (m.each arc.to low)
         ∙ told_is g.stored split (fan_at g.ins arc.to) arc.from has
         ∙ ap (λ k. delay_numbered g.stored split k has.arc.to) has.same
         ∙ ap (λ k. delay_numbered g.stored split arc.from k) ends
 
     all_delays : AreWithin g.stored.design → AreDelays g.stored t
-    all_delays fine = record {
-      count = mapped_long (AreInto g) (range_with_len 0 (node_bound g.stored)) t m ∙ length-range_with_len 0 (node_bound g.stored);
-      each = told_at;
-      within = arc_within fine;
-    }
+    all_delays fine = record { count = m.count; each = told_at; within = arc_within fine }
 
 -- as the code has it: the graph is that of a store
-pub delays_there : (g : Graphed) (s : Stored) → g.stored ≡ s → IsNumbered s → IsLinked s.design → IsGraph g → AreWithin g.stored.design → (t : List (List ArcDelay))
-    → IsMap (AreInto g) (range_with_len 0 (node_bound g.stored)) t → AreDelays s t
+pub delays_there : (g : Graphed) (s : Stored) → g.stored ≡ s → IsNumbered s → IsLinked s.design → IsGraph g → AreWithin s.design → (t : List (List ArcDelay))
+    → AreAllInto g t → AreDelays s t
 delays_there g s same num linked is fine t m =
     subst (λ (x : Stored). AreDelays x t) same
-    (all_delays g (subst (λ (x : Stored). IsNumbered x) (sym same) num) (subst (λ (x : Stored). IsLinked x.design) (sym same) linked) is t m fine)
-
--- what delays are found from
-pub found_there : (setting : Setting) (g : Graphed) (rows : List NodeRow) → g.stored ≡ setting.store.now → IsNumbered setting.store.now → IsLinked setting.store.now.design
-    → IsGraph g → IsSetting setting → AreRows setting.store.now rows → AreRowsFine setting.store.now.design → IsFound setting g rows
-found_there setting g rows same num linked is tables are fine = record {
-  tables = tables;
-  same = same;
-  rows_are = subst (λ (x : Stored). AreRows x rows) (sym same) are;
-  within =
-      subst (λ (x : Stored). AreWithin x.design) (sym same)
-      (within g setting.store.now same num linked is setting.wires.now tables.wires fine);
-}
-
--- the delays of one arc more
-pub delays_more : (s : Stored) (arcs : List GraphArc) (i : ℕ) (x : GraphArc) (d : ArcDelay) (before after : List ArcDelay) → i < length arcs
-    → d ≡ arc_delay s (get_or arcs i x) → before ≡ map (arc_delay s) (take i arcs) → after ≡ before ++ d ∷ [] → after ≡ map (arc_delay s) (take (i + 1) arcs)
-delays_more s arcs i x d before after low told had put =
-    put ∙ ap (λ ds. ds ++ d ∷ []) had ∙ ap (λ e. map (arc_delay s) (take i arcs) ++ e ∷ []) told
-    ∙ sym (ap (map (arc_delay s)) (take_more arcs i x low) ∙ map_push (arc_delay s) (take i arcs) (get_or arcs i x))
-
--- the arcs into a node are those of the design
-module _ (g : Graphed) (n : ℕ) (is : IsGraph g) (low : n < node_bound g.stored) where
-  into_node : (arc : GraphArc) → Contains (fan_at g.ins n) arc → IsArc g.stored arc × (arc.to ≡ n)
-  into_node = (is.ins n low).sound
-
-  -- its pin has a number where some arc leads to it
-  pub entered_there : (s : Stored) → g.stored ≡ s → IsNumbered s → IsLinked s.design → (rows : List NodeRow) → AreRows g.stored rows → AreWithin g.stored.design
-      → 0 < length (fan_at g.ins n) → is_number g.stored.pins (pin_under n) ≡ true
-  entered_there s same num linked rows are fine some =
-      let at = into_node (get_or (fan_at g.ins n) 0 none_arc) (All-contains_itself (fan_at g.ins n) 0 none_arc some) in
-      subst (λ (k : ℕ). is_number g.stored.pins (pin_under k) ≡ true) at.1
-      (to_there g s same num linked is rows are fine (get_or (fan_at g.ins n) 0 none_arc) at.0)
-
-  pub arcs_entered : (to : Entered) → IsEntered g n to → All (λ arc. IsArc g.stored arc × IsEntered g arc.to to) (fan_at g.ins n)
-  arcs_entered to e = λ i d l.
-      let at = into_node (get_or (fan_at g.ins n) i d) (All-contains_itself (fan_at g.ins n) i d l) in
-      (at.0, subst (λ (k : ℕ). IsEntered g k to) (sym at.1) e)
-
--- what a call gives of each node
-pub map_weaker : {I R : Type 0} (p q : I → R → Type 0) → ((x : I) (r : R) → p x r → q x r) → (xs : List I) (rs : List R) → IsMap p xs rs → IsMap q xs rs
-map_weaker p q f [] [] m = tt
-map_weaker p q f [] (r ∷ rs) m = absurd m
-map_weaker p q f (x ∷ xs) [] m = absurd m
-map_weaker p q f (x ∷ xs) (r ∷ rs) m = (f x r m.0, map_weaker p q f xs rs m.1)
+    (all_delays g (subst (λ (x : Stored). IsNumbered x) (sym same) num) (subst (λ (x : Stored). IsLinked x.design) (sym same) linked) is t m
+    (subst (λ (x : Stored). AreWithin x.design) (sym same) fine))

@@ -5,30 +5,14 @@ use Rattle.sta_units.specs.Numbers.{Within}
 use Rattle.timing_defs.specs.declared.kinds.Split.{Split}
 use Rattle.timing_defs.specs.declared.kinds.Split.TheVariants.{Early, Late}
 use Rattle.timing_defs.specs.declared.design.Design.{Design}
-use Rattle.timing_defs.specs.declared.rows.NodeRow.{NodeRow}
 use Rattle.timing_defs.specs.Netlist.{Node, nodes}
 use Rattle.timing_defs.specs.Rows.{arcs_in, row, delay}
 use Rattle.netlist_store.specs.Numbering.{Stored}
-use Rattle.node_rows.specs.declared.settings.NodeAt.{NodeAt}
-use Rattle.node_rows.specs.declared.settings.Setting.{Setting}
-use Rattle.node_rows.specs.Entries.{IsEntry}
-use Rattle.node_rows.specs.Evaluation.{is_row_within, is_wide_along, IsSetting}
+use Rattle.node_rows.specs.Evaluation.{is_row_within, is_wide_along}
 use Rattle.pin_graph.specs.declared.arcs.GraphArc.{GraphArc}
-use Rattle.pin_graph.specs.Nodes.{node_at, node_bound, pin_under, tran_under}
-use Rattle.pin_graph.specs.Graphs.{Graphed, IsArc, fan_at, network_at}
-use Rattle.pin_graph.specs.RowTables.{AreRows}
-use Rattle.arc_delays.specs.declared.along.Entered.{Entered}
+use Rattle.pin_graph.specs.Nodes.{node_at, node_bound}
+use Rattle.pin_graph.specs.Graphs.{Graphed, IsArc, fan_at}
 use Rattle.arc_delays.specs.declared.tables.ArcDelay.{ArcDelay}
-
--- a node by its pin's number
-abbrev pub node_told : Graphed → ℕ → NodeAt
-node_told g node = record { pin = pin_under node; tran = tran_under node; network = network_at g node }
-
--- a node to which arcs lead, with how they enter it in each split
-pub record IsEntered (g : Graphed) (node : ℕ) (to : Entered) : Type 0 where
-  pub told : to.node ≡ node_told g node
-  pub early : IsEntry g.stored Early to.node.pin to.early
-  pub late : IsEntry g.stored Late to.node.pin to.late
 
 -- the delay from one node's number to another's
 abbrev pub delay_numbered : Stored → Split → ℕ → ℕ → Option ℤ
@@ -57,16 +41,14 @@ arc_delay s arc =
 
 -- the delays of the arcs into a node
 abbrev pub AreInto : Graphed → ℕ → List ArcDelay → Type 0
-AreInto g node delays = node < node_bound g.stored → delays ≡ map (arc_delay g.stored) (fan_at g.ins node)
+AreInto g node delays = delays ≡ map (arc_delay g.stored) (fan_at g.ins node)
+
+-- a list has those of each node
+pub record AreAllInto (g : Graphed) (t : List (List ArcDelay)) : Type 0 where
+  pub count : length t ≡ node_bound g.stored
+  pub each : (node : ℕ) → node < node_bound g.stored → AreInto g node (get_or t node [])
 
 -- no row and no arc of a design has a quantity that leaves its limit
 pub record AreWithin (d : Design) : Type 0 where
   pub rows : (n : Node) → Contains (nodes d) n → is_row_within (row d n) ≡ true
   pub arcs : (split : Split) (to from : Node) → Contains (nodes d) to → Contains (arcs_in d to) from → is_wide_along d split to from (row d from) ≡ false
-
--- what the delays of a graph's arcs are found from
-pub record IsFound (setting : Setting) (g : Graphed) (rows : List NodeRow) : Type 0 where
-  pub tables : IsSetting setting
-  pub same : g.stored ≡ setting.store.now
-  pub rows_are : AreRows g.stored rows
-  pub within : AreWithin g.stored.design

@@ -1,8 +1,7 @@
-//! The delays along the arcs of a design, found once for all that goes over them: required times and
-//! the searches of paths.
+//! The delays along the arcs of a design in one table, for all that goes over them: required times and
+//! the searches of paths. They come of the evaluation of the nodes to which the arcs lead.
 #![tactic(auto)]
 
-mod along;
 mod tables;
 
 pub use tables::{ArcDelay, ArcDelays, Delayed};

@@ -1,27 +1,14 @@
 //! The delays of the arcs into each node.
 
-ghost use Rattle.std.specs.Prelude.{◌≡◌, ◌<◌, ◌≤◌, All, map, find, length, nat_eq, option_and_then, IfOk};
+ghost use Rattle.std.specs.Prelude.{◌≡◌, ◌<◌, find, length, nat_eq, option_and_then};
 ghost use Rattle.std.specs.Option.{option_copied};
 ghost use Rattle.arc_delays.specs.declared.tables.ArcDelay.{ArcDelay};
-ghost use Rattle.std.specs.List.{range_with_len};
-ghost use Rattle.level_workers.specs.Mapped.{IsMap};
-ghost use Rattle.node_rows.specs.Evaluation.{IsSetting};
-ghost use Rattle.pin_graph.specs.Nodes.{node_bound};
-ghost use Rattle.pin_graph.specs.Graphs.{fan_at, IsArc};
-ghost use Rattle.pin_graph.specs.RowTables.{AreRows, AreRowsFine};
-ghost use Rattle.arc_delays.specs.Delays.{delay_in, arc_delay, delay_told, AreInto, AreDelays, IsEntered, IsFound};
+ghost use Rattle.arc_delays.specs.Delays.{delay_in, delay_told, AreAllInto, AreDelays, AreWithin};
 
-use crate::along::{Entered, delays_along, entered_at};
-use cow_table::CowTable;
-use level_workers::map_level;
-use node_rows::Setting;
-use pin_graph::{Graph, GraphArc};
-use sta_outside::NoGate;
-use sta_units::Memory;
-use std::alloc::Global;
+use netlist_store::Store;
+use pin_graph::Graph;
 use std::marker::Model;
-use std::thread::Threads;
-use timing_defs::{Items, NodeRow, Split};
+use timing_defs::{Items, Split};
 
 /// The delays of an arc from a node, in fs; none where the arc brings nothing.
 #[derive(Debug, Clone, Copy, PartialEq, Eq, Drop)]
@@ -85,107 +72,18 @@ fn delay_from(delays: &[ArcDelay], split: Split, from: u32) -> Option<i64>
     }
 }
 
-/// The delays of some arcs that lead to a node.
-fn arc_delays(
-    alloc: Global,
-    setting: &Setting<'_>,
-    graph: &Graph,
-    rows: &CowTable<NodeRow>,
-    to: &Entered<'_>,
-    arcs: &[GraphArc],
-) -> Result<Items<ArcDelay>, Memory>
-    requires found { IsFound setting.now graph.now rows.now }
-    requires arcs { All (λ arc. IsArc graph.now.stored arc × IsEntered graph.now arc.to to.now) arcs.now }
-    ensures { IfOk result (λ delays. delays ≡ map (arc_delay graph.now.stored) arcs.now) }
-{
-    let mut delays = Items::with_room(alloc, arcs.len())?;
-    for arc in arcs {
-        delays.push(delays_along(setting, graph, rows, to, arc))?;
-    }
-    Ok(delays)
-}
-
-/// The delays of the arcs into a node; nothing is asked of other numbers.
-fn delays_into(
-    alloc: Global,
-    setting: &Setting<'_>,
-    graph: &Graph,
-    rows: &CowTable<NodeRow>,
-    node: u32,
-) -> Result<Items<ArcDelay>, Memory>
-    requires found { IsFound setting.now graph.now rows.now }
-    ensures { IfOk result (AreInto graph.now node) }
-{
-    setting.store.laws();
-    graph.laws();
-    if node >= graph.count() {
-        return Ok(Items::new(alloc));
-    }
-    let arcs = graph.arcs_in(node);
-    if arcs.is_empty() {
-        return Ok(Items::new(alloc));
-    }
-    let to = entered_at(setting, graph, node);
-    arc_delays(alloc, setting, graph, rows, &to, arcs)
-}
-
-/// The numbers of all nodes.
-fn numbers(alloc: Global, count: u32) -> Result<Items<u32>, Memory>
-    ensures { IfOk result (λ numbers. numbers ≡ range_with_len 0 count) }
-{
-    let mut numbers = Items::with_room(alloc, count as usize)?;
-    for number in 0..count {
-        numbers.push(number)?;
-    }
-    Ok(numbers)
-}
-
-/// The delays of the arcs into each of some nodes.
-fn all_into<H: Threads + Sync>(
-    rt: &H,
-    alloc: Global,
-    setting: &Setting<'_>,
-    graph: &Graph,
-    rows: &CowTable<NodeRow>,
-    workers: u32,
-    nodes: &[u32],
-) -> Result<Items<Items<ArcDelay>>, Memory>
-    requires some { 1 ≤ workers }
-    requires most { workers ≤ 32 }
-    requires found { IsFound setting.now graph.now rows.now }
-    ensures { IfOk result (IsMap (AreInto graph.now) nodes.now) }
-{
-    let find = |node: &u32| -> Result<Items<ArcDelay>, Memory>
-        requires { IsFound setting.now graph.now rows.now }
-        ensures { IfOk result (AreInto graph.entry.now node.now) }
-    { delays_into(alloc, setting, graph, rows, *node) };
-    map_level(rt, alloc, workers, 0, nodes, &find, &NoGate)
-}
-
 impl ArcDelays {
-    /// The delays of all arcs of a design in which no quantity leaves its limit, over the slews of its
-    /// nodes: each is looked up once, and the nodes are shared between that many threads.
-    pub fn full<H: Threads + Sync>(
-        rt: &H,
-        alloc: Global,
-        setting: &Setting<'_>,
-        graph: &Graph,
-        rows: &CowTable<NodeRow>,
-        workers: u32,
-    ) -> Result<ArcDelays, Memory>
-        requires some { 1 ≤ workers }
-        requires most { workers ≤ 32 }
-        requires setting { IsSetting setting.now }
-        requires graph { graph.now.stored ≡ setting.now.store.now }
-        requires rows { AreRows setting.now.store.now rows.now }
-        requires fine { AreRowsFine setting.now.store.now.design }
-        ensures { IfOk result (AreDelays setting.now.store.now) }
+    /// The table of the delays of the arcs into each node of a design in which no quantity leaves its
+    /// limit. Takes no memory.
+    pub fn of(store: &Store, graph: &Graph, by_node: Items<Items<ArcDelay>>) -> ArcDelays
+        requires graph { graph.now.stored ≡ store.now }
+        requires each { AreAllInto graph.now by_node }
+        requires within { AreWithin store.now.design }
+        ensures { AreDelays store.now result }
     {
-        setting.store.laws();
+        store.laws();
         graph.laws();
-        let nodes = numbers(alloc, graph.count())?;
-        let by_node = all_into(rt, alloc, setting, graph, rows, workers, nodes.as_slice())?;
-        Ok(ArcDelays { by_node })
+        ArcDelays { by_node }
     }
 
     /// The delay in fs that the table has of the arc from one node to another, in time of the arcs into
