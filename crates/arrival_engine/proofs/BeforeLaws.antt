@@ -1,43 +1,49 @@
 -- What the arcs into a node of a graph bring to its evaluation: the nodes before it with their rows, and
 -- from these the node's own row, or its fault.
 
-use Rattle.std.proofs.Common.{◌≡◌, ℕ, ◌<◌, Bool, true, false, List, [], ◌∷◌, length, get_or, All, None, Some, Result, Ok, Err, refl, sym, ap, subst, ◌∙◌, inl, inr}
-use Rattle.std.specs.Prelude.{Contains, is_some, option_map, if◌then◌else◌}
+use Rattle.std.proofs.Common.{◌≡◌, ℕ, suc, ◌<◌, ℤ, Bool, true, false, List, [], ◌∷◌, map, length, get_or, All, Option, None, Some, refl, sym, ap, subst, ◌∙◌, inl, inr}
+use Rattle.std.specs.Prelude.{Contains, is_some, option_map, option_and_then, if◌then◌else◌}
 use Rattle.std.specs.Option.{option_map_or}
-use Rattle.std.specs.Prelude.{IfOk, IfErr}
-use Rattle.std.proofs.lemmas.Option.{slice_get_within, cond_some}
+use Rattle.std.proofs.lemmas.Option.{slice_get_within, cond_some, none-some}
+use Rattle.std.proofs.lemmas.List.{length-map}
 use Rattle.std.proofs.lemmas.List.Elements.{All-contains_itself}
 use Rattle.timing_defs.specs.declared.faults.Fault.{Fault}
 use Rattle.timing_defs.specs.declared.faults.Fault.TheVariants as fault
 use Rattle.timing_defs.specs.declared.faults.Place.TheVariants.{Pin as at_pin}
 use Rattle.timing_defs.specs.declared.rows.NodeRow.{NodeRow}
+use Rattle.timing_defs.specs.declared.kinds.Split.{Split}
+use Rattle.timing_defs.specs.declared.kinds.Split.TheVariants.{Early, Late}
 use Rattle.timing_defs.specs.declared.kinds.Tran.{Tran}
 use Rattle.timing_defs.specs.declared.kinds.Tran.TheVariants.{Rise, Fall}
 use Rattle.timing_defs.specs.Netlist.{Pin, Node, name_of, pins, nodes, both_nodes}
 use Rattle.timing_defs.specs.Clocking.{is_network}
-use Rattle.timing_defs.specs.Rows.{arcs_in, row, empty_row}
+use Rattle.timing_defs.specs.Rows.{arcs_in, row, delay, delay_from, empty_row}
 use Rattle.timing_defs.specs.Range.{is_origin}
 use Rattle.timing_defs.specs.Cones.{has_register_arc}
 use Rattle.timing_defs.proofs.RowLaws.{row_is}
 use Rattle.netlist_store.specs.Linked.{IsLinked}
 use Rattle.netlist_store.specs.Numbering.{Stored, name_at, is_number, pin_numbered, IsNumbered}
 use Rattle.level_workers.specs.Mapped.{IsMap}
-use Rattle.level_workers.proofs.Joins.{ok_more}
 use Rattle.node_rows.specs.declared.pin_wires.Wires.{Wires}
+use Rattle.node_rows.specs.declared.arcs.ArcValues.{ArcValues}
+use Rattle.node_rows.specs.declared.delays.BothDelays.{BothDelays}
 use Rattle.node_rows.specs.declared.settings.NodeAt.{NodeAt}
 use Rattle.node_rows.specs.declared.settings.Before.{Before}
+use Rattle.node_rows.specs.Between.{no_values}
 use Rattle.node_rows.specs.WireTables.{AreWires}
 use Rattle.node_rows.specs.NetTrees.{is_wide_net}
-use Rattle.node_rows.specs.Evaluation.{node_of, IsAt, AreBefore, HaveRows, IsRow, IsRefused, is_row_within}
+use Rattle.node_rows.specs.Evaluation.{node_of, IsAt, AreBefore, HaveRows, IsRow, IsRefused, is_row_within, values_along, told_values, told_delays}
 use Rattle.pin_graph.specs.declared.arcs.GraphArc.{GraphArc}
 use Rattle.pin_graph.specs.Nodes.{node_at, node_bound, pin_under, tran_under}
-use Rattle.pin_graph.specs.Graphs.{Graphed, IsGraph, IsArc, fan_at, network_at, kind_between}
+use Rattle.pin_graph.specs.Graphs.{Graphed, IsGraph, IsArc, fan_at, network_at, kind_between, to_of}
 use Rattle.pin_graph.specs.RowTables.{row_numbered}
 use Rattle.pin_graph.proofs.Members.{some_is, none_in, first_in, later_in, in_cases, in_flat_map}
 use Rattle.pin_graph.proofs.PinLaws.{pin_at_number}
 use Rattle.pin_graph.proofs.NodeLaws.{HasNode, under_number, node_told, node_below, has_node, same_node_at}
 use Rattle.pin_graph.proofs.GraphRows.{Stands, level, placed}
-use Rattle.arrival_engine.specs.Analysed.{IsFineNode, IsNodeRow, IsNodeFault, AreReady, place_told, IsBefore, IsThere}
+use Rattle.arc_delays.specs.declared.tables.ArcDelay.{ArcDelay}
+use Rattle.arc_delays.specs.Delays.{delay_numbered, arc_delay, AreInto}
+use Rattle.arrival_engine.specs.Analysed.{IsFineNode, IsNodeRow, IsNodeFault, AreReady, place_told, with_sources, IsBefore, IsThere}
 use Rattle.arrival_engine.proofs.CarriedLaws.{carried}
 use Rattle.arrival_engine.proofs.FineRows.{row_within_limits, is_fine, is_origin_there}
 
@@ -60,6 +66,29 @@ module _ {I R : Type 0} (gives : I → R → Type 0) where
     | inl e ↦ (y, (first_in y ys, subst (λ (z : R). gives y z) e m.0))
     | inr d ↦ let k = mapped_from ys ss m.1 r d in (k.0, (later_in y ys k.0 k.1.0, k.1.1))
   ]
+
+-- as many results as items
+pub map_length : {I R : Type 0} (gives : I → R → Type 0) (xs : List I) (rs : List R) → IsMap gives xs rs → length xs ≡ length rs
+map_length gives [] [] m = refl
+map_length gives [] (r ∷ rs) m = absurd m
+map_length gives (x ∷ xs) [] m = absurd m
+map_length gives (x ∷ xs) (r ∷ rs) m = ap suc (map_length gives xs rs m.1)
+
+-- an arc's delays, with the node from which it leads
+abbrev pub told_arc : ℕ → Option ℤ → Option ℤ → ArcDelay
+told_arc from early late = record { from = from; early = early; late = late }
+
+-- what arcs bring is what the definition says of each
+sourced_all : (s : Stored) (to : NodeAt) (gives : GraphArc → Before → Type 0) (arcs : List GraphArc) (found : List Before) → IsMap gives arcs found
+    → ((arc : GraphArc) (b : Before) → Contains arcs arc → gives arc b → (split : Split) → (told_values s split to b).delay ≡ delay_numbered s split arc.from arc.to)
+    → with_sources arcs (map (told_delays s to) found) ≡ map (arc_delay s) arcs
+sourced_all s to gives [] [] m each = refl
+sourced_all s to gives [] (b ∷ found) m each = absurd m
+sourced_all s to gives (a ∷ arcs) [] m each = absurd m
+sourced_all s to gives (a ∷ arcs) (b ∷ found) m each =
+    ap (λ (o : Option ℤ). told_arc a.from o (told_values s Late to b).delay ∷ with_sources arcs (map (told_delays s to) found)) (each a b (first_in a arcs) m.0 Early)
+    ∙ ap (λ (o : Option ℤ). told_arc a.from (delay_numbered s Early a.from a.to) o ∷ with_sources arcs (map (told_delays s to) found)) (each a b (first_in a arcs) m.0 Late)
+    ∙ ap (λ (ds : List ArcDelay). arc_delay s a ∷ ds) (sourced_all s to gives arcs found m.1 (λ c e k i. each c e (later_in a arcs c k) i))
 
 both_in : (pin : Pin) (t : Tran) → Contains (both_nodes pin) (record { pin = pin; tran = t })
 both_in pin Rise = first_in (record { pin = pin; tran = Rise }) (record { pin = pin; tran = Fall } ∷ [])
@@ -94,6 +123,17 @@ module _ (g : Graphed) (num : IsNumbered g.stored) (linked : IsLinked g.stored.d
           ∙ ap (λ n. option_map_or (is_network g.stored.design) (pin_numbered g.stored n) false) under
           ∙ ap (λ o. option_map_or (is_network g.stored.design) o false) has.has.pin;
     }
+
+  -- no arc leads to a gap
+  no_arcs : (k : ℕ) → k < node_bound g.stored → place_told g k ≡ None → fan_at g.ins k ≡ []
+  no_arcs k low none = by (fan_at g.ins k) (λ arc c. (is.ins k low).sound arc c)
+    where
+      by : (arcs : List GraphArc) → ((arc : GraphArc) → Contains arcs arc → IsArc g.stored arc × (to_of arc ≡ k)) → arcs ≡ []
+      by [] each = refl
+      by (a ∷ arcs) each =
+          let s = each a (first_in a arcs) in
+          let told : node_at g.stored k ≡ Some s.0.to = ap (node_at g.stored) (sym s.1) ∙ s.0.to_number in
+          absurd (none-some (told_place g k) (sym none ∙ place_is k s.0.to told))
 
   module _ (rows : List NodeRow) (k : ℕ) (low : k < node_bound g.stored) (ready : AreReady g rows k) where
     -- an arc into the node
@@ -181,6 +221,28 @@ module _ (g : Graphed) (num : IsNumbered g.stored) (linked : IsLinked g.stored.d
             let same : f.from ≡ from = some_is (sym f.is_from ∙ ap (node_of g.stored) f.at ∙ e) in
             f.its_row ∙ ap (row g.stored.design) same
 
+        -- the delays of the arcs into the node
+        arc_told : (arc : GraphArc) (b : Before) → Contains (fan_at g.ins k) arc → IsBefore g rows arc b → (split : Split)
+            → (told_values g.stored split (told_place g k) b).delay ≡ delay_numbered g.stored split arc.from arc.to
+        arc_told arc b c i split =
+            let s = (is.ins k low).sound arc c in
+            let a = s.0 in
+            let at : told_place g arc.from ≡ b.node = some_is (sym (place_is arc.from a.from a.from_number) ∙ i.node) in
+            let from_told : node_of g.stored b.node ≡ Some a.from = ap (node_of g.stored) (sym at) ∙ a.from_number in
+            let to_told : node_at g.stored arc.to ≡ Some node = ap (node_at g.stored) s.1 ∙ told in
+            let row_is : b.row.now ≡ row g.stored.design a.from =
+            some_is (sym i.row ∙ (ready.before arc c).row) ∙ ap (λ o. option_map_or (row g.stored.design) o empty_row) a.from_number in
+            let values_are : told_values g.stored split (told_place g k) b ≡ values_along g.stored.design split node a.from b.row.now =
+            ap (λ o. option_map_or (λ t. option_map_or (λ f. values_along g.stored.design split t f b.row.now) (node_of g.stored b.node) no_values) o no_values) told
+            ∙ ap (λ o. option_map_or (λ f. values_along g.stored.design split node f b.row.now) o no_values) from_told in
+            ap (λ (v : ArcValues). v.delay) values_are
+            ∙ ap (delay_from g.stored.design split a.from node) row_is
+            ∙ sym (ap (λ o. option_and_then (λ f. option_and_then (delay g.stored.design split f) (node_at g.stored arc.to)) o) a.from_number
+            ∙ ap (λ o. option_and_then (delay g.stored.design split a.from) o) to_told)
+
+        pub are_sourced : with_sources (fan_at g.ins k) (map (told_delays g.stored (told_place g k)) found) ≡ map (arc_delay g.stored) (fan_at g.ins k)
+        are_sourced = sourced_all g.stored (told_place g k) (IsBefore g rows) (fan_at g.ins k) found are_found arc_told
+
       -- the row of the node, or its fault
       module _ (wires : Wires) (are : AreWires g.stored wires) (nets : (net : ℕ) → is_wide_net g.stored net ≡ false) where
         stands : Stands g num linked is node
@@ -226,10 +288,6 @@ module _ (g : Graphed) (num : IsNumbered g.stored) (linked : IsLinked g.stored.d
         fault_told (fault.TooLarge x) r = absurd r
         fault_told fault.NotBuilt r = absurd r
 
-err_more : {X E : Type 0} {P Q : E → Type 0} (r : Result X E) → ((e : E) → P e → Q e) → IfErr r P → IfErr r Q
-err_more (Ok x) h p = p
-err_more (Err e) h p = h e p
-
 -- as the evaluation has them: the graph is that of a store
 module _ (g : Graphed) (s : Stored) (same : g.stored ≡ s) (num : IsNumbered s) (linked : IsLinked s.design) (is : IsGraph g)
     (rows : List NodeRow) (k : ℕ) (low : k < node_bound g.stored) (ready : AreReady g rows k) where
@@ -241,6 +299,9 @@ module _ (g : Graphed) (s : Stored) (same : g.stored ≡ s) (num : IsNumbered s)
 
   pub arcs_there : All (IsThere g rows) (fan_at g.ins k)
   arcs_there = λ i d l. arc_there g own_num own_linked is rows k low ready (get_or (fan_at g.ins k) i d) (All-contains_itself (fan_at g.ins k) i d l)
+
+  pub none_into : place_told g k ≡ None → (all : List ArcDelay) → all ≡ [] → AreInto g k all
+  none_into none all e = e ∙ sym (ap (map (arc_delay g.stored)) (no_arcs g own_num own_linked is k low none))
 
   module _ (to : NodeAt) (found : List Before) (place : place_told g k ≡ Some to) (are_found : IsMap (IsBefore g rows) (fan_at g.ins k) found) where
     there_at : (is_number g.stored.pins (pin_under k) ≡ true) × (told_place g k ≡ to)
@@ -267,21 +328,35 @@ module _ (g : Graphed) (s : Stored) (same : g.stored ≡ s) (num : IsNumbered s)
         subst (λ (x : Stored). node_of x to ≡ Some node_there.0) same
         (subst (λ (a : NodeAt). node_of g.stored a ≡ Some node_there.0) there_at.1 node_there.1)
 
-    module _ (wires : Wires) (are : AreWires s wires) (nets : (net : ℕ) → is_wide_net s net ≡ false) (r : Result NodeRow Fault) where
+    delays_had : with_sources (fan_at g.ins k) (map (told_delays s to) found) ≡ map (arc_delay g.stored) (fan_at g.ins k)
+    delays_had =
+        subst (λ (x : Stored). with_sources (fan_at g.ins k) (map (told_delays x to) found) ≡ map (arc_delay g.stored) (fan_at g.ins k)) same
+        (subst (λ (a : NodeAt). with_sources (fan_at g.ins k) (map (told_delays g.stored a) found) ≡ map (arc_delay g.stored) (fan_at g.ins k)) there_at.1
+        (are_sourced g own_num own_linked is rows k low ready node_there.0 node_there.1 found are_found))
+
+    module _ (delays : List BothDelays) (arcs : List GraphArc) (are_told : delays ≡ map (told_delays s to) found) (own_arcs : arcs ≡ fan_at g.ins k) where
+      pub as_many : length delays ≡ length arcs
+      as_many =
+          ap length are_told ∙ length-map found (told_delays s to) ∙ sym (map_length (IsBefore g rows) (fan_at g.ins k) found are_found) ∙ sym (ap length own_arcs)
+
+      pub delays_given : (all : List ArcDelay) → all ≡ with_sources arcs delays → AreInto g k all
+      delays_given all e = e ∙ ap (λ xs. with_sources xs delays) own_arcs ∙ ap (with_sources (fan_at g.ins k)) are_told ∙ delays_had
+
+    module _ (wires : Wires) (are : AreWires s wires) (nets : (net : ℕ) → is_wide_net s net ≡ false) where
       own_are : AreWires g.stored wires
       own_are = subst (λ (x : Stored). AreWires x wires) (sym same) are
 
       own_nets : (net : ℕ) → is_wide_net g.stored net ≡ false
       own_nets = subst (λ (x : Stored). (net : ℕ) → is_wide_net x net ≡ false) (sym same) nets
 
-      pub row_given : IfOk r (λ told. (row_of : Node → NodeRow) (n : Node) → node_of s to ≡ Some n → HaveRows s row_of found → IsRow s.design row_of n told)
-          → IfOk r (IsNodeRow g.stored k)
-      row_given = ok_more r
-          (λ told each. row_told g own_num own_linked is rows k low ready node_there.0 node_there.1 wires own_are own_nets told
-          (subst (λ (x : Stored). IsRow x.design (row x.design) node_there.0 told) (sym same) (each (row s.design) node_there.0 node_told_there rows_had)))
+      pub row_given : (told : NodeRow) → ((row_of : Node → NodeRow) (n : Node) → node_of s to ≡ Some n → HaveRows s row_of found → IsRow s.design row_of n told)
+          → IsNodeRow g.stored k told
+      row_given told each =
+          row_told g own_num own_linked is rows k low ready node_there.0 node_there.1 wires own_are own_nets told
+          (subst (λ (x : Stored). IsRow x.design (row x.design) node_there.0 told) (sym same) (each (row s.design) node_there.0 node_told_there rows_had))
 
-      pub fault_given : IfErr r (λ f. (row_of : Node → NodeRow) (n : Node) → node_of s to ≡ Some n → HaveRows s row_of found → IsRefused s.design row_of n f)
-          → IfErr r (IsNodeFault g.stored k)
-      fault_given = err_more r
-          (λ f each. fault_told g own_num own_linked is rows k low ready node_there.0 node_there.1 wires own_are own_nets f
-          (subst (λ (x : Stored). IsRefused x.design (row x.design) node_there.0 f) (sym same) (each (row s.design) node_there.0 node_told_there rows_had)))
+      pub fault_given : (f : Fault) → ((row_of : Node → NodeRow) (n : Node) → node_of s to ≡ Some n → HaveRows s row_of found → IsRefused s.design row_of n f)
+          → IsNodeFault g.stored k f
+      fault_given f each =
+          fault_told g own_num own_linked is rows k low ready node_there.0 node_there.1 wires own_are own_nets f
+          (subst (λ (x : Stored). IsRefused x.design (row x.design) node_there.0 f) (sym same) (each (row s.design) node_there.0 node_told_there rows_had))

@@ -1,14 +1,13 @@
 -- One level of the pass: where the rows below it are the definition's, so are those of its nodes once they are
 -- put; and at the end all rows are.
 
-use Rattle.std.proofs.Common.{◌≡◌, ◌≢◌, ◌⊎◌, ℕ, zero, suc, ◌+◌, ◌<◌, ◌≤◌, true, false, List, [], ◌∷◌, map, length, Some, Result, Ok, Err, refl, sym, ap, subst, ◌∙◌, inl, inr, arith}
-use Rattle.std.specs.Prelude.{◌-◌, nat_le, if◌then◌else◌, Contains, slice_get, slice_set, is_ok, IfOk, IfErr}
-use Rattle.std.specs.List.{list_all}
+use Rattle.std.proofs.Common.{◌≡◌, ◌≢◌, ◌⊎◌, ℕ, zero, suc, ◌+◌, ◌<◌, ◌≤◌, false, List, [], ◌∷◌, map, length, get_or, drop, Some, Result, Ok, Err, refl, sym, ap, subst, ◌∙◌, inl, inr, arith}
+use Rattle.std.specs.Prelude.{Contains, slice_get, slice_set, IfOk, IfErr}
 use Rattle.std.specs.Arc.{arc_value}
 use Rattle.std.specs.Option.{option_map_or}
 use Rattle.std.proofs.Math.Nat.{le-max_left, le-max_right}
-use Rattle.std.proofs.lemmas.Bool.{false≢true, cases_eq, cases_lt}
-use Rattle.std.proofs.lemmas.List.{length-set}
+use Rattle.std.proofs.lemmas.Bool.{cases_eq, cases_lt}
+use Rattle.std.proofs.lemmas.List.{length-set, get_or-set_same, get_or-set_other, drop_more, drop_all}
 use Rattle.timing_defs.specs.declared.design.Design.{Design}
 use Rattle.timing_defs.specs.declared.faults.Fault.{Fault}
 use Rattle.timing_defs.specs.declared.faults.Fault.TheVariants as fault
@@ -18,7 +17,6 @@ use Rattle.timing_defs.specs.Netlist.{Pin, Node, pins, both_nodes}
 use Rattle.timing_defs.specs.Range.{is_net_origin}
 use Rattle.netlist_store.specs.Linked.{IsLinked}
 use Rattle.netlist_store.specs.Numbering.{Stored, number_of, IsNumbered}
-use Rattle.cow_table.specs.Writes.{put_at, written}
 use Rattle.level_workers.specs.Mapped.{IsMap}
 use Rattle.levelizer.specs.Levels.{greatest}
 use Rattle.node_rows.specs.declared.pin_wires.Wires.{Wires}
@@ -31,13 +29,16 @@ use Rattle.pin_graph.specs.declared.arcs.GraphArc.{GraphArc}
 use Rattle.pin_graph.specs.Nodes.{node_bound, node_number}
 use Rattle.pin_graph.specs.Graphs.{Graphed, IsGraph, fan_at, level_at}
 use Rattle.pin_graph.specs.RowTables.{AreRows, AreRowsFine, IsRangeFault}
-use Rattle.pin_graph.proofs.Members.{none_in, first_in, later_in, in_cases, in_map, in_flat_map_back}
+use Rattle.pin_graph.proofs.Members.{none_in, in_cases, in_map, in_flat_map_back}
 use Rattle.pin_graph.proofs.PinLaws.{there, told_at, pin_told}
 use Rattle.pin_graph.proofs.NodeLaws.{HasNode, node_told, node_below, has_node}
+use Rattle.arc_delays.specs.declared.tables.ArcDelay.{ArcDelay}
+use Rattle.arc_delays.specs.Delays.{AreInto, AreAllInto, AreWithin}
+use Rattle.arc_delays.proofs.RangeLaws.{within}
+use Rattle.arrival_engine.specs.declared.nodes.NodeAnswer.{NodeAnswer}
 use Rattle.arrival_engine.specs.declared.tables.Arrivals.{Arrivals}
-use Rattle.arrival_engine.specs.Analysed.{IsNodeRow, IsNodeFault, IsDone, AreReady, AreDoneBelow, AreOfLevel, IsAnswer, IsLevelAnswer, IsPlan, AreTables}
+use Rattle.arrival_engine.specs.Analysed.{IsNodeRow, IsNodeFault, IsDone, AreReady, AreDoneBelow, AreDelayedBelow, AreOfLevel, IsNodeAnswer, IsAnswer, IsLevelAnswer, IsPlan, AreTables}
 use Rattle.arrival_engine.specs.Leveled.{nodes_of, AreLevels}
-use Rattle.arrival_engine.proofs.BeforeLaws.{mapped_from}
 
 -- a write to a list, and what stands there afterwards
 pub set_here : {X : Type 0} (xs : List X) (i : ℕ) (x : X) → i < length xs → slice_get (slice_set xs i x) i ≡ Some x
@@ -116,9 +117,10 @@ module _ (g : Graphed) (num : IsNumbered g.stored) (linked : IsLinked g.stored.d
         done.done arc.from under (omega (arith, over, own, here)));
   }
 
-pub answer_given : (s : Stored) (k : ℕ) (r : Result NodeRow Fault) → IfOk r (IsNodeRow s k) → IfErr r (IsNodeFault s k) → IsAnswer s k r
-answer_given s k (Ok told) p q = p
-answer_given s k (Err f) p q = node_is_range s k f q
+pub answer_given : (g : Graphed) (k : ℕ) (r : Result NodeAnswer Fault) → IfOk r (λ told. IsNodeRow g.stored k told.row) → IfOk r (λ told. AreInto g k told.delays)
+    → IfErr r (IsNodeFault g.stored k) → IsAnswer g k r
+answer_given g k (Ok told) p d q = record { row = p; delays = d }
+answer_given g k (Err f) p d q = node_is_range g.stored k f q
 
 pub ready_there : (g : Graphed) (s : Stored) → g.stored ≡ s → IsNumbered s → IsLinked s.design → IsGraph g → (rows : List NodeRow) (level k : ℕ)
     → AreDoneBelow g rows level → k < node_bound g.stored → level_at g k ≡ level → AreReady g rows k
@@ -137,25 +139,6 @@ plan_of setting g s a e f h t same = record {
   same = same ∙ sym e;
 }
 
--- of some answers those that are left: each of all is a row where each of these is, and their faults are among all
-abbrev pub AreLeft : {R F : Type 0} → List (Result R F) → List (Result R F) → Type 0
-AreLeft {F = F} all rest = (list_all is_ok rest ≡ list_all is_ok all) × ((f : F) → Contains rest (Err f) → Contains all (Err f))
-
-pub left_more : {R F : Type 0} (all rest left : List (Result R F)) (answer : Result R F) (row : R) → rest ≡ answer ∷ left → answer ≡ Ok row
-    → AreLeft all rest → AreLeft all left
-left_more {R} {F} all rest left answer row first ok are = (
-  ap (list_all is_ok) (ap (λ (r : Result R F). r ∷ left) (sym ok) ∙ sym first) ∙ are.0,
-  λ f c. are.1 f (subst (λ (rs : List (Result R F)). Contains rs (Err f)) (sym first) (later_in answer left (Err f) c)),
-)
-
--- where the items are those from place 0 on, a row is put at its place
-put_first : {R : Type 0} (F : Type 0) (rows : List R) (node : ℕ) (told : R) → slice_set rows node told ≡ put_at {E = F} 0 rows node (Ok told)
-unfolding put_at
-put_first F rows node told =
-    let low : true ≡ nat_le 0 node = grind arith in
-    let bare : node ≡ node - 0 = omega arith in
-    ap (λ i. slice_set rows i told) bare ∙ ap (λ b. if b then slice_set rows (node - 0) told else rows) low
-
 -- a row is written that is the definition's, of a node that is fine: it is there, and those that were stay
 module _ (s : Stored) (rows : List NodeRow) (node : ℕ) (told : NodeRow) (low : node < length rows) (is : IsNodeRow s node told) where
   row_put : IsDone s (slice_set rows node told) node
@@ -167,63 +150,117 @@ module _ (s : Stored) (rows : List NodeRow) (node : ℕ) (told : NodeRow) (low :
     | inr other ↦ record { row = set_there rows node k told other ∙ done.row; fine = done.fine }
   ]
 
--- as many results as items
-pub map_length : {I R : Type 0} (gives : I → R → Type 0) (xs : List I) (rs : List R) → IsMap gives xs rs → length xs ≡ length rs
-map_length gives [] [] m = refl
-map_length gives [] (r ∷ rs) m = absurd m
-map_length gives (x ∷ xs) [] m = absurd m
-map_length gives (x ∷ xs) (r ∷ rs) m = ap suc (map_length gives xs rs m.1)
+-- the row of a number and the delays of the arcs into it are there
+pub record IsWhole (g : Graphed) (rows : List NodeRow) (delays : List (List ArcDelay)) (node : ℕ) : Type 0 where
+  pub done : IsDone g.stored rows node
+  pub into : AreInto g node (get_or delays node [])
 
 module _ (g : Graphed) (level : ℕ) where
-  -- where each answer is a row, the rows of the nodes that are written are done, and those that were stay so
-  rows_put : (rows : List NodeRow) (nodes : List ℕ) (answers : List (Result NodeRow Fault)) → IsMap (IsLevelAnswer g level) nodes answers
-      → ((n : ℕ) → Contains nodes n → (n < node_bound g.stored) × (level_at g n ≡ level)) → list_all is_ok answers ≡ true → length rows ≡ node_bound g.stored
-      → (k : ℕ) → Contains nodes k ⊎ IsDone g.stored rows k → IsDone g.stored (written 0 rows nodes answers) k
-  unfolding put_at written
-  rows_put rows [] [] are of rowed count k (inl c) = absurd (none_in k c)
-  rows_put rows [] [] are of rowed count k (inr done) = done
-  rows_put rows [] (r ∷ rs) are of rowed count k d = absurd are
-  rows_put rows (n ∷ ns) [] are of rowed count k d = absurd are
-  rows_put rows (n ∷ ns) (Err f ∷ rs) are of rowed count k d = absurd (false≢true rowed)
-  rows_put rows (n ∷ ns) (Ok told ∷ rs) are of rowed count k d =
-      let own = of n (first_in n ns) in
-      let row : IsNodeRow g.stored n told = are.0 own.0 own.1 in
-      let low : n < length rows = let under = own.0 in omega (arith, under, count) in
-      subst (λ (xs : List NodeRow). IsDone g.stored (written 0 xs ns rs) k) (put_first Fault rows n told)
-      (rows_put (slice_set rows n told) ns rs are.1 (λ m c. of m (later_in n ns m c)) rowed (length-set rows n told ∙ count) k (after low row d))
-    where
-      after : (low : n < length rows) (row : IsNodeRow g.stored n told) → Contains (n ∷ ns) k ⊎ IsDone g.stored rows k
-          → Contains ns k ⊎ IsDone g.stored (slice_set rows n told) k
-      after low row (inl c) = elim (in_cases n ns k c) [
-        | inl same ↦ inr (subst (λ (m : ℕ). IsDone g.stored (slice_set rows n told) m) same (row_put g.stored rows n told low row))
-        | inr more ↦ inl more
-      ]
-      after low row (inr done) = inr (row_kept g.stored rows n told low row k done)
+  -- all stands up to a level, but for some of its nodes
+  pub record AreDoneBut (left : List ℕ) (rows : List NodeRow) (delays : List (List ArcDelay)) : Type 0 where
+    pub row_count : length rows ≡ node_bound g.stored
+    pub delay_count : length delays ≡ node_bound g.stored
+    pub stands : (k : ℕ) → k < node_bound g.stored → level_at g k < level + 1 → Contains left k ⊎ IsWhole g rows delays k
 
-  module _ (nodes : List ℕ) (answers : List (Result NodeRow Fault)) (of : AreOfLevel g level nodes) (are : IsMap (IsLevelAnswer g level) nodes answers) where
-    -- the rows below the next level, after each answer was written
-    pub level_put : (rows new : List NodeRow) → AreDoneBelow g rows level → list_all is_ok answers ≡ true → length new ≡ length rows
-        → new ≡ written 0 rows nodes answers → AreDoneBelow g new (level + 1)
-    level_put rows new done rowed same is = record {
-      count = same ∙ done.count;
-      done = λ k low under.
-          subst (λ (xs : List NodeRow). IsDone g.stored xs k) (sym is)
-          (rows_put rows nodes answers are of.sound rowed done.count k
-          (elim (cases_eq (level_at g k) level) [
-            | inl here ↦ inl (of.all k low here)
-            | inr other ↦ inr (done.done k low (lower (level_at g k) other under))
-          ]));
+  -- what is answered for one node more is put
+  module _ (n : ℕ) (left : List ℕ) (rows rows' : List NodeRow) (delays delays' : List (List ArcDelay)) (told : NodeAnswer)
+      (low : n < node_bound g.stored) (is : IsNodeAnswer g n told) (e : rows' ≡ slice_set rows n told.row) (f : delays' ≡ slice_set delays n told.delays)
+      (had : AreDoneBut (n ∷ left) rows delays) where
+    low_row : n < length rows
+    low_row = let count = had.row_count in omega (arith, low, count)
+
+    low_delay : n < length delays
+    low_delay = let count = had.delay_count in omega (arith, low, count)
+
+    whole_here : IsWhole g rows' delays' n
+    whole_here = record {
+      done = subst (λ (xs : List NodeRow). IsDone g.stored xs n) (sym e) (row_put g.stored rows n told.row low_row is.row);
+      into = ap (λ ds. get_or ds n []) f ∙ get_or-set_same delays n told.delays [] low_delay ∙ is.delays;
+    }
+
+    whole_kept : (k : ℕ) → IsWhole g rows delays k → IsWhole g rows' delays' k
+    whole_kept k whole = elim (cases_eq k n) [
+      | inl same ↦ subst (λ (m : ℕ). IsWhole g rows' delays' m) (sym same) whole_here
+      | inr other ↦ record {
+        done = subst (λ (xs : List NodeRow). IsDone g.stored xs k) (sym e) (row_kept g.stored rows n told.row low_row is.row k whole.done);
+        into = ap (λ ds. get_or ds k []) f ∙ get_or-set_other delays n k told.delays [] other ∙ whole.into;
+      }
+    ]
+
+    after : (k : ℕ) → Contains (n ∷ left) k ⊎ IsWhole g rows delays k → Contains left k ⊎ IsWhole g rows' delays' k
+    after k (inl c) = elim (in_cases n left k c) [
+      | inl same ↦ inr (subst (λ (m : ℕ). IsWhole g rows' delays' m) same whole_here)
+      | inr more ↦ inl more
+    ]
+    after k (inr whole) = inr (whole_kept k whole)
+
+    pub one_put : AreDoneBut left rows' delays'
+    one_put = record {
+      row_count = ap length e ∙ length-set rows n told.row ∙ had.row_count;
+      delay_count = ap length f ∙ length-set delays n told.delays ∙ had.delay_count;
+      stands = λ k under below. after k (had.stands k under below);
+    }
+
+  module _ (nodes : List ℕ) (of : AreOfLevel g level nodes) where
+    -- as the answers begin to be put
+    pub none_put : (rows : List NodeRow) (delays : List (List ArcDelay)) → AreDoneBelow g rows level → AreDelayedBelow g delays level → AreDoneBut nodes rows delays
+    none_put rows delays done delayed = record {
+      row_count = done.count;
+      delay_count = delayed.count;
+      stands = λ k low under. elim (cases_eq (level_at g k) level) [
+        | inl here ↦ inl (of.all k low here)
+        | inr other ↦
+            let below = lower (level_at g k) other under in
+            inr (record { done = done.done k low below; into = delayed.done k low below })
+      ];
     }
       where
         lower : (n : ℕ) → n ≢ level → n < level + 1 → n < level
         lower n other under = elim (cases_lt n level) [ inl l ↦ l | inr m ↦ absurd (other (omega (arith, m, under))) ]
 
-    -- a fault among the answers
-    pub level_fails : (f : Fault) → Contains answers (Err f) → IsRangeFault g.stored.design f
-    level_fails f c =
-        let m = mapped_from (IsLevelAnswer g level) nodes answers are (Err f) c in
-        let s = of.sound m.0 m.1.0 in
-        m.1.1 s.0 s.1
+    -- the next node and its answer
+    module _ (at n : ℕ) (answer : Result NodeAnswer Fault) (answers rest : List (Result NodeAnswer Fault)) (e : answers ≡ answer ∷ rest) (low : at < length nodes)
+        (here : n ≡ get_or nodes at n) (m : IsMap (IsLevelAnswer g level) (drop at nodes) answers) where
+      pub next_node : (n < node_bound g.stored) × (level_at g n ≡ level)
+      next_node = of.sound n (at, low, sym here)
+
+      next_left : drop at nodes ≡ n ∷ drop (at + 1) nodes
+      next_left = drop_more nodes at n low ∙ ap (λ q. q ∷ drop (at + 1) nodes) (sym here)
+
+      next_both : IsMap (IsLevelAnswer g level) (n ∷ drop (at + 1) nodes) (answer ∷ rest)
+      next_both =
+          subst (λ (xs : List ℕ). IsMap (IsLevelAnswer g level) xs (answer ∷ rest)) next_left
+          (subst (λ (rs : List (Result NodeAnswer Fault)). IsMap (IsLevelAnswer g level) (drop at nodes) rs) e m)
+
+      next_answer : IsAnswer g n answer
+      next_answer = next_both.0 next_node.0 next_node.1
+
+      -- a fault is that of an origin
+      pub next_fails : (f : Fault) → answer ≡ Err f → IsRangeFault g.stored.design f
+      next_fails f err = subst (λ (r : Result NodeAnswer Fault). IsAnswer g n r) err next_answer
+
+      pub next_put : (told : NodeAnswer) → answer ≡ Ok told → (rows rows' : List NodeRow) (delays delays' : List (List ArcDelay))
+          → rows' ≡ slice_set rows n told.row → delays' ≡ slice_set delays n told.delays → AreDoneBut (drop at nodes) rows delays
+          → IsMap (IsLevelAnswer g level) (drop (at + 1) nodes) rest × AreDoneBut (drop (at + 1) nodes) rows' delays'
+      next_put told ok rows rows' delays delays' put_row put_delays had = (
+        next_both.1,
+        one_put n (drop (at + 1) nodes) rows rows' delays delays' told next_node.0 (subst (λ (r : Result NodeAnswer Fault). IsAnswer g n r) ok next_answer) put_row put_delays
+            (subst (λ (xs : List ℕ). AreDoneBut xs rows delays) next_left had),
+      )
+
+    -- where each answer was put
+    pub all_put : (at : ℕ) (rows : List NodeRow) (delays : List (List ArcDelay)) → length nodes ≤ at → AreDoneBut (drop at nodes) rows delays
+        → AreDoneBelow g rows (level + 1) × AreDelayedBelow g delays (level + 1)
+    all_put at rows delays past had = (
+      record { count = had.row_count; done = λ k low under. (whole k low under).done },
+      record { count = had.delay_count; done = λ k low under. (whole k low under).into },
+    )
+      where
+        whole : (k : ℕ) → k < node_bound g.stored → level_at g k < level + 1 → IsWhole g rows delays k
+        whole k low under = elim (had.stands k low under) [
+          | inl c ↦ absurd (none_in k (subst (λ (xs : List ℕ). Contains xs k) (drop_all at nodes past) c))
+          | inr w ↦ w
+        ]
 
 both_pin : (pin : Pin) (node : Node) → Contains (both_nodes pin) node → node.pin ≡ pin
 both_pin pin node (zero, low, at) = ap (λ (n : Node). n.pin) (sym at)
@@ -271,6 +308,10 @@ map_weaker p q weaker (x ∷ xs) (r ∷ rs) m = (weaker x r m.0, map_weaker p q 
 pub none_below : (g : Graphed) (rows : List NodeRow) → length rows ≡ node_bound g.stored → AreDoneBelow g rows 0
 none_below g rows count = record { count = count; done = λ k low under. absurd (omega (arith, under)) }
 
+-- where all levels are done each node has the delays of its arcs
+pub full_delays : (g : Graphed) (delays : List (List ArcDelay)) (levels : List (List ℕ)) → AreLevels g levels → AreDelayedBelow g delays (length levels) → AreAllInto g delays
+full_delays g delays levels are delayed = record { count = delayed.count; each = λ k low. delayed.done k low (are.low k low) }
+
 pub full_told : (g : Graphed) (s : Stored) → g.stored ≡ s → IsNumbered s → IsLinked s.design → (rows : List NodeRow) (levels : List (List ℕ))
     → AreLevels g levels → AreDoneBelow g rows (length levels) → ((net : ℕ) → is_wide_net s net ≡ false) → AreRows g.stored rows × AreRowsFine g.stored.design
 full_told g s same num linked rows levels are done nets =
@@ -279,3 +320,10 @@ full_told g s same num linked rows levels are done nets =
       all_rows g n l rows (length levels) done are.low,
       all_fine g n l rows (length levels) done are.low (subst (λ (x : Stored). (net : ℕ) → is_wide_net x net ≡ false) (sym same) nets),
     )
+
+-- no quantity of a row or of an arc leaves its limit
+pub full_within : (g : Graphed) (s : Stored) → g.stored ≡ s → IsNumbered s → IsLinked s.design → IsGraph g → (wires : Wires) → AreWires s wires
+    → AreRowsFine g.stored.design → AreWithin g.stored.design
+full_within g s same num linked is wires are fine =
+    subst (λ (x : Stored). AreWithin x.design) (sym same)
+    (within g s same num linked is wires are (subst (λ (x : Stored). AreRowsFine x.design) same fine))

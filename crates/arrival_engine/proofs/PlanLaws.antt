@@ -2,7 +2,6 @@
 
 use Rattle.std.proofs.Common.{◌≡◌}
 use Rattle.node_rows.specs.declared.settings.Setting.{Setting}
-use Rattle.node_rows.specs.Evaluation.{IsSetting}
 use Rattle.pin_graph.specs.Graphs.{Graphed}
 use Rattle.arrival_engine.specs.Analysed.{IsPlan}
 use Rattle.arrival_engine.specs.Planned.{ArePlanned}
@@ -13,6 +12,3 @@ plan_over setting g same plan = record {
   nets = plan.nets;
   same = same;
 }
-
-pub setting_over : (setting : Setting) → ArePlanned setting.store.now setting.wires.now setting.ports.now → IsSetting setting
-setting_over setting plan = record { wires = plan.wires; ports = plan.ports }

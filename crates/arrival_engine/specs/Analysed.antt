@@ -1,7 +1,7 @@
 -- An analysis of slews and arrivals: the rows of nodes by their numbers, over the tables of wires and of
 -- ports that they are evaluated with (graph-based analysis as in OpenTimer; own rule of range).
 
-use Rattle.std.specs.Prelude.{ℕ, ◌≡◌, ◌<◌, ◌-◌, ◌++◌, ⊤, true, false, if◌then◌else◌, List, take, replicate, length, slice_get, Contains, Option, Some, None, option_map, Result, Ok, Err}
+use Rattle.std.specs.Prelude.{ℕ, ◌≡◌, ◌<◌, ◌-◌, ◌++◌, ⊤, true, false, if◌then◌else◌, List, [], ◌∷◌, take, replicate, length, get_or, slice_get, Contains, Option, Some, None, option_map, Result, Ok, Err}
 use Rattle.std.specs.Arc.{arc_value}
 use Rattle.timing_defs.specs.declared.kinds.Split.{Split}
 use Rattle.timing_defs.specs.declared.kinds.Tran.{Tran}
@@ -14,6 +14,7 @@ use Rattle.timing_defs.specs.Netlist.{Node}
 use Rattle.timing_defs.specs.Rows.{launch_edges, empty_row}
 use Rattle.timing_defs.specs.Range.{is_origin, fine_slew, fine_arrival, is_forward_origin}
 use Rattle.netlist_store.specs.Numbering.{Stored, name_at, is_number}
+use Rattle.node_rows.specs.declared.delays.BothDelays.{BothDelays}
 use Rattle.node_rows.specs.declared.settings.NodeAt.{NodeAt}
 use Rattle.node_rows.specs.declared.settings.Before.{Before}
 use Rattle.node_rows.specs.declared.settings.Setting.{Setting}
@@ -25,6 +26,9 @@ use Rattle.pin_graph.specs.declared.arcs.GraphArc.{GraphArc}
 use Rattle.pin_graph.specs.Nodes.{node_at, node_bound, pin_under, tran_under}
 use Rattle.pin_graph.specs.Graphs.{Graphed, fan_at, level_at, network_at}
 use Rattle.pin_graph.specs.RowTables.{row_numbered, IsRangeFault}
+use Rattle.arc_delays.specs.declared.tables.ArcDelay.{ArcDelay}
+use Rattle.arc_delays.specs.Delays.{AreInto}
+use Rattle.arrival_engine.specs.declared.nodes.NodeAnswer.{NodeAnswer}
 use Rattle.arrival_engine.specs.declared.tables.Arrivals.{Arrivals}
 
 -- the tables of an analysis are those of the store, and no quantity of a net leaves its limit
@@ -64,6 +68,11 @@ pub record AreDoneBelow (g : Graphed) (rows : List NodeRow) (level : ℕ) : Type
   pub count : length rows ≡ node_bound g.stored
   pub done : (node : ℕ) → node < node_bound g.stored → level_at g node < level → IsDone g.stored rows node
 
+-- the delays of the arcs into the nodes below a level are the definition's
+pub record AreDelayedBelow (g : Graphed) (delays : List (List ArcDelay)) (level : ℕ) : Type 0 where
+  pub count : length delays ≡ node_bound g.stored
+  pub done : (node : ℕ) → node < node_bound g.stored → level_at g node < level → AreInto g node (get_or delays node [])
+
 -- a store with its tables, in which no net is too large, and its graph
 pub record IsPlan (setting : Setting) (g : Graphed) : Type 0 where
   pub tables : IsSetting setting
@@ -87,14 +96,25 @@ pub record IsThere (g : Graphed) (rows : List NodeRow) (arc : GraphArc) : Type 0
   pub number : is_number g.stored.pins (pin_under arc.from) ≡ true
   pub listed : arc.from < length rows
 
--- what is answered for a number: a node's row, or why it has none
-abbrev pub IsAnswer : Stored → ℕ → Result NodeRow Fault → Type 0
-IsAnswer s node (Ok told) = IsNodeRow s node told
-IsAnswer s node (Err fault) = IsRangeFault s.design fault
+-- the delays of arcs, each with the node from which its arc leads
+abbrev pub with_sources : List GraphArc → List BothDelays → List ArcDelay
+with_sources [] delays = []
+with_sources (a ∷ arcs) [] = []
+with_sources (a ∷ arcs) (d ∷ delays) = record { from = a.from; early = d.early; late = d.late } ∷ with_sources arcs delays
+
+-- a node's row, and the delays of the arcs into it
+pub record IsNodeAnswer (g : Graphed) (node : ℕ) (told : NodeAnswer) : Type 0 where
+  pub row : IsNodeRow g.stored node told.row
+  pub delays : AreInto g node told.delays
+
+-- what is answered for a number: that, or why it has none
+abbrev pub IsAnswer : Graphed → ℕ → Result NodeAnswer Fault → Type 0
+IsAnswer g node (Ok told) = IsNodeAnswer g node told
+IsAnswer g node (Err fault) = IsRangeFault g.stored.design fault
 
 -- what is answered for a number of a level; nothing is asked of other numbers
-abbrev pub IsLevelAnswer : Graphed → ℕ → ℕ → Result NodeRow Fault → Type 0
-IsLevelAnswer g level node answer = node < node_bound g.stored → level_at g node ≡ level → IsAnswer g.stored node answer
+abbrev pub IsLevelAnswer : Graphed → ℕ → ℕ → Result NodeAnswer Fault → Type 0
+IsLevelAnswer g level node answer = node < node_bound g.stored → level_at g node ≡ level → IsAnswer g node answer
 
 -- the nodes of a level, and no others
 pub record AreOfLevel (g : Graphed) (level : ℕ) (items : List ℕ) : Type 0 where

@@ -3,7 +3,8 @@
 //!
 //! A node's row is the definition's where those of the nodes before it are, and levels rise along arcs.
 //! So the rows of a level are found from those of the lower levels, by a plain map over its nodes
-//! (`passes`); one node is evaluated in `nodes`, and `ordering` lists the nodes by their levels.
+//! (`passes`); one node is evaluated in `nodes`, which gives the delays of the arcs into it with its row,
+//! and `ordering` lists the nodes by their levels.
 #![tactic(auto)]
 
 mod nodes;

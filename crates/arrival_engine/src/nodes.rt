@@ -1,22 +1,31 @@
 //! The evaluation of one node.
 
-ghost use Rattle.std.specs.Prelude.{ℕ, ◌≡◌, ◌+◌, ◌<◌, true, false, All, length, IfOk, IfErr};
+ghost use Rattle.std.specs.Prelude.{ℕ, ◌≡◌, ◌+◌, ◌<◌, [], true, false, All, length, IfOk, IfErr};
 ghost use Rattle.timing_defs.specs.Checks.{IsSound};
 ghost use Rattle.timing_defs.specs.Rows.{empty_row};
 ghost use Rattle.netlist_store.specs.Numbering.{is_number};
 ghost use Rattle.level_workers.specs.Mapped.{IsMap};
 ghost use Rattle.pin_graph.specs.Nodes.{node_bound, pin_under};
 ghost use Rattle.pin_graph.specs.Graphs.{fan_at};
-ghost use Rattle.arrival_engine.specs.Analysed.{AreTables, IsNodeRow, IsNodeFault, AreReady, IsPlan, place_told, IsBefore, IsThere};
+ghost use Rattle.arc_delays.specs.Delays.{AreInto};
+ghost use Rattle.arrival_engine.specs.Analysed.{AreTables, IsNodeRow, IsNodeFault, AreReady, IsPlan, place_told, with_sources, IsBefore, IsThere};
 
 use crate::tables::Arrivals;
+use arc_delays::ArcDelay;
 use cow_table::CowTable;
 use netlist_store::Store;
-use node_rows::{Before, NodeAt, Setting, node_row};
+use node_rows::{Before, BothDelays, NodeAt, Setting, node_row};
 use pin_graph::{Graph, GraphArc};
 use sta_units::{Memory, Steps};
 use std::alloc::Global;
-use timing_defs::{EdgeTimes, Fault, NodeRow};
+use timing_defs::{EdgeTimes, Fault, Items, NodeRow};
+
+/// The row of a node, and the delays of the arcs into it.
+#[derive(Drop)]
+pub(crate) struct NodeAnswer {
+    pub(crate) row: NodeRow,
+    pub(crate) delays: Items<ArcDelay>,
+}
 
 /// The row of a number that is of no node.
 pub(crate) fn empty_row(alloc: Global) -> NodeRow
@@ -27,6 +36,17 @@ pub(crate) fn empty_row(alloc: Global) -> NodeRow
         late_slew: None,
         early: EdgeTimes::new(alloc),
         late: EdgeTimes::new(alloc),
+    }
+}
+
+/// What is answered for a number that is of no node: an empty row, and no delays.
+pub(crate) fn no_answer(alloc: Global) -> NodeAnswer
+    ensures row { result.row ≡ empty_row }
+    ensures delays { result.delays ≡ [] }
+{
+    NodeAnswer {
+        row: empty_row(alloc),
+        delays: Items::new(alloc),
     }
 }
 
@@ -76,29 +96,56 @@ fn befores<'a>(
     Ok(found)
 }
 
-/// The row of a node over the rows of the nodes before it, in time of its arcs; an empty row of a number
-/// that is of no node. `OutOfRange` at the node's pin where a quantity that the node brings leaves its
-/// limit.
+/// The delays of arcs, each with the node from which its arc leads.
+fn sourced(
+    alloc: Global,
+    arcs: &[GraphArc],
+    delays: &[BothDelays],
+) -> Result<Items<ArcDelay>, Memory>
+    requires { length delays.now ≡ length arcs.now }
+    ensures { IfOk result (λ all. all ≡ with_sources arcs.now delays.now) }
+{
+    let mut all = Items::with_room(alloc, arcs.len())?;
+    for (at, arc) in arcs.iter().enumerate() {
+        let delay = delays[at];
+        all.push(ArcDelay {
+            from: arc.from,
+            early: delay.early,
+            late: delay.late,
+        })?;
+    }
+    Ok(all)
+}
+
+/// The row of a node over the rows of the nodes before it, with the delays of the arcs into it, in time
+/// of its arcs; an empty row and no delays of a number that is of no node. `OutOfRange` at the node's pin
+/// where a quantity that the node brings leaves its limit.
 pub(crate) fn evaluated(
     alloc: Global,
     setting: &Setting<'_>,
     graph: &Graph,
     rows: &CowTable<NodeRow>,
     node: u32,
-) -> Result<NodeRow, Fault>
+) -> Result<NodeAnswer, Fault>
     requires plan { IsPlan setting.now graph.now }
     requires node { node < node_bound graph.now.stored }
     requires ready { AreReady graph.now rows.now node }
-    ensures row { IfOk result (IsNodeRow graph.now.stored node) }
+    ensures row { IfOk result (λ found. IsNodeRow graph.now.stored node found.row) }
+    ensures delays { IfOk result (λ found. AreInto graph.now node found.delays) }
     ensures err { IfErr result (IsNodeFault graph.now.stored node) }
 {
     setting.store.laws();
     graph.laws();
     match place_of(graph, node) {
-        None => Ok(empty_row(alloc)),
+        None => Ok(no_answer(alloc)),
         Some(to) => {
             let found = befores(alloc, graph, rows, node)?;
-            node_row(alloc, setting, to, found.as_slice())
+            let told = node_row(alloc, setting, to, found.as_slice())?;
+            let delays = sourced(alloc, graph.arcs_in(node), told.delays.as_slice())?;
+            Ok(NodeAnswer {
+                row: told.row,
+                delays,
+            })
         }
     }
 }
@@ -124,5 +171,6 @@ pub fn eval_node<L>(
     ensures steps { steps.new ≡ steps.old + 1 }
 {
     steps.tick();
-    evaluated(alloc, &rows.setting(store), graph, &rows.rows, node)
+    let found = evaluated(alloc, &rows.setting(store), graph, &rows.rows, node)?;
+    Ok(found.row)
 }

@@ -1,15 +1,16 @@
 //! The pass over the levels of a graph.
 
-ghost use Rattle.std.specs.Prelude.{ℕ, ◌≡◌, ◌+◌, ◌<◌, ◌≤◌, ◌^◌, ⊤, true, length, is_ok, Contains, Err, IfOk, IfErr, OnOk};
-ghost use Rattle.std.specs.List.{list_all};
+ghost use Rattle.std.specs.Prelude.{ℕ, ◌≡◌, ◌+◌, ◌<◌, ◌≤◌, ◌^◌, ⊤, [], length, replicate, slice_set, IfOk, IfErr, OnOk};
 ghost use Rattle.level_workers.specs.Mapped.{IsMap};
 ghost use Rattle.pin_graph.specs.Nodes.{node_bound};
 ghost use Rattle.pin_graph.specs.RowTables.{AreRows, AreRowsFine, IsRangeFault};
-ghost use Rattle.arrival_engine.specs.Analysed.{IsPlan, AreDoneBelow, AreOfLevel, IsLevelAnswer};
+ghost use Rattle.arc_delays.specs.Delays.{AreAllInto, AreWithin};
+ghost use Rattle.arrival_engine.specs.Analysed.{IsPlan, AreDoneBelow, AreDelayedBelow, AreOfLevel, IsLevelAnswer};
 ghost use Rattle.arrival_engine.specs.Leveled.{AreLevels};
 
-use crate::nodes::{empty_row, evaluated};
+use crate::nodes::{NodeAnswer, empty_row, evaluated, no_answer};
 use crate::ordering::by_level;
+use arc_delays::ArcDelay;
 use cow_table::CowTable;
 use level_workers::map_level;
 use node_rows::Setting;
@@ -20,7 +21,15 @@ use std::alloc::Global;
 use std::thread::Threads;
 use timing_defs::{Fault, Items, NodeRow};
 
-/// The row of a node of a level, over the rows of the lower ones. Nothing is asked of other numbers.
+/// The rows of all nodes and the delays of the arcs into each, by the numbers of nodes.
+#[derive(Drop)]
+pub(crate) struct Found {
+    pub(crate) rows: CowTable<NodeRow>,
+    pub(crate) delays: Items<Items<ArcDelay>>,
+}
+
+/// The row of a node of a level and the delays of the arcs into it, over the rows of the lower ones.
+/// Nothing is asked of other numbers.
 fn level_answer(
     alloc: Global,
     setting: &Setting<'_>,
@@ -28,7 +37,7 @@ fn level_answer(
     rows: &CowTable<NodeRow>,
     level: u32,
     node: u32,
-) -> Result<NodeRow, Fault>
+) -> Result<NodeAnswer, Fault>
     requires plan { IsPlan setting.now graph.now }
     requires done { AreDoneBelow graph.now rows.now level }
     ensures { IsLevelAnswer graph.now level node result }
@@ -36,16 +45,16 @@ fn level_answer(
     setting.store.laws();
     graph.laws();
     if node >= graph.count() {
-        return Ok(empty_row(alloc));
+        return Ok(no_answer(alloc));
     }
     if graph.level(node) != level {
-        return Ok(empty_row(alloc));
+        return Ok(no_answer(alloc));
     }
     evaluated(alloc, setting, graph, rows, node)
 }
 
 /// The answers for the nodes of a level, in their order, by several threads.
-fn level_rows<H: Threads + Sync, G: Gate>(
+fn level_answers<H: Threads + Sync, G: Gate>(
     rt: &H,
     alloc: Global,
     setting: &Setting<'_>,
@@ -55,53 +64,78 @@ fn level_rows<H: Threads + Sync, G: Gate>(
     level: u32,
     nodes: &[u32],
     gate: &G,
-) -> Result<Items<Result<NodeRow, Fault>>, Memory>
+) -> Result<Items<Result<NodeAnswer, Fault>>, Memory>
     requires some { 1 ≤ workers }
     requires most { workers ≤ 32 }
     requires plan { IsPlan setting.now graph.now }
     requires done { AreDoneBelow graph.now rows.now level }
     ensures { IfOk result (IsMap (IsLevelAnswer graph.now level) nodes.now) }
 {
-    let evaluate = |node: &u32| -> Result<Result<NodeRow, Fault>, Memory>
+    let evaluate = |node: &u32| -> Result<Result<NodeAnswer, Fault>, Memory>
         requires { IsPlan setting.now graph.now × AreDoneBelow graph.now rows.now level }
         ensures { IfOk result (IsLevelAnswer graph.entry.now level node.now) }
     { Ok(level_answer(alloc, setting, graph, rows, level, *node)) };
     map_level(rt, alloc, workers, level, nodes, &evaluate, gate)
 }
 
-/// Refuses with the first fault among some answers, where there is one.
-fn first_fault(found: Items<Result<NodeRow, Fault>>) -> Result<(), Fault>
-    ensures ok { OnOk result (list_all is_ok found ≡ true) }
-    ensures err { IfErr result (λ fault. Contains found (Err fault)) }
+/// An empty list for each number.
+fn no_delays(alloc: Global, count: usize) -> Result<Vec<Items<ArcDelay>>, Memory>
+    ensures { IfOk result (λ delays. delays.items ≡ replicate count []) }
 {
-    for answer in found.into_vec() {
-        let _ = answer?;
+    let mut delays = Vec::with_capacity(alloc, count)?;
+    for node in 0..count {
+        let _ = node;
+        delays.push(Items::new(alloc)).map_err(|_| Memory)?;
     }
-    Ok(())
+    Ok(delays)
 }
 
-/// Writes the rows of the nodes of a level by several threads; refuses with the first fault among the
-/// answers.
-fn put_rows<H: Threads + Sync>(
-    rt: &H,
+/// Moves what is answered for a node to its place.
+fn put_answer(
+    rows: &mut CowTable<NodeRow>,
+    delays: &mut Vec<Items<ArcDelay>>,
+    node: u32,
+    answer: NodeAnswer,
+) -> Result<(), Memory>
+    requires row { node < length rows.old }
+    requires delay { node < length delays.old.items }
+    ensures rows { OnOk result (rows.new ≡ slice_set rows.old node answer.row) }
+    ensures delays { OnOk result (delays.new.items ≡ slice_set delays.old.items node answer.delays) }
+{
+    delays[node as usize] = answer.delays;
+    rows.set(node as usize, answer.row)
+}
+
+/// Moves the answers for the nodes of a level to their places, in turn; refuses with the first fault
+/// among them.
+fn put_answers(
     graph: &Graph,
     rows: &mut CowTable<NodeRow>,
-    workers: u32,
+    delays: &mut Vec<Items<ArcDelay>>,
     level: u32,
     nodes: &[u32],
-    found: Items<Result<NodeRow, Fault>>,
+    answers: Items<Result<NodeAnswer, Fault>>,
 ) -> Result<(), Fault>
     requires nodes { AreOfLevel graph.now level nodes.now }
-    requires found { IsMap (IsLevelAnswer graph.now level) nodes.now found }
-    requires done { AreDoneBelow graph.now rows.old level }
-    ensures done { OnOk result (AreDoneBelow graph.now rows.new (level + 1)) }
+    requires answers { IsMap (IsLevelAnswer graph.now level) nodes.now answers }
+    requires rows { AreDoneBelow graph.now rows.old level }
+    requires delays { AreDelayedBelow graph.now delays.old.items level }
+    ensures rows { OnOk result (AreDoneBelow graph.now rows.new (level + 1)) }
+    ensures delays { OnOk result (AreDelayedBelow graph.now delays.new.items (level + 1)) }
     ensures err { IfErr result (IsRangeFault graph.now.stored.design) }
 {
     // The graph and the level are asked for by the contract alone.
     let _ = graph;
     let _ = level;
-    rows.put_all(rt, workers, nodes, found.as_slice())?;
-    first_fault(found)
+    let mut at = 0;
+    for answer in answers.into_vec() {
+        match answer {
+            Ok(answer) => put_answer(rows, delays, nodes[at], answer)?,
+            Err(fault) => return Err(fault),
+        }
+        at += 1;
+    }
+    Ok(())
 }
 
 /// Evaluates the nodes of each level in turn, over the rows of the lower ones.
@@ -111,6 +145,7 @@ pub(crate) fn all_levels<H: Threads + Sync, G: Gate>(
     setting: &Setting<'_>,
     graph: &Graph,
     rows: &mut CowTable<NodeRow>,
+    delays: &mut Vec<Items<ArcDelay>>,
     workers: u32,
     levels: &[Items<u32>],
     gate: &G,
@@ -121,19 +156,21 @@ pub(crate) fn all_levels<H: Threads + Sync, G: Gate>(
     requires levels { AreLevels graph.now levels.now }
     requires few { length levels.now ≤ 2 ^ 32 }
     requires rows { length rows.old ≡ node_bound graph.now.stored }
+    requires delays { length delays.old.items ≡ node_bound graph.now.stored }
     ensures done { OnOk result (AreDoneBelow graph.now rows.new (length levels.now)) }
+    ensures delayed { OnOk result (AreDelayedBelow graph.now delays.new.items (length levels.now)) }
     ensures err { IfErr result (IsRangeFault graph.now.stored.design) }
 {
     for (at, items) in levels.iter().enumerate() {
         let level = at as u32;
         let nodes = items.as_slice();
-        let found = level_rows(rt, alloc, setting, graph, rows, workers, level, nodes, gate)?;
-        put_rows(rt, graph, rows, workers, level, nodes, found)?;
+        let answers = level_answers(rt, alloc, setting, graph, rows, workers, level, nodes, gate)?;
+        put_answers(graph, rows, delays, level, nodes, answers)?;
     }
     Ok(())
 }
 
-/// The rows of all nodes, from nothing.
+/// The rows of all nodes and the delays of all arcs, from nothing.
 pub(crate) fn full_rows<H: Threads + Sync, G: Gate>(
     rt: &H,
     alloc: Global,
@@ -141,19 +178,34 @@ pub(crate) fn full_rows<H: Threads + Sync, G: Gate>(
     graph: &Graph,
     workers: u32,
     gate: &G,
-) -> Result<CowTable<NodeRow>, Fault>
+) -> Result<Found, Fault>
     requires some { 1 ≤ workers }
     requires most { workers ≤ 32 }
     requires plan { IsPlan setting.now graph.now }
-    ensures rows { IfOk result (AreRows graph.now.stored) }
+    ensures rows { IfOk result (λ found. AreRows graph.now.stored found.rows) }
+    ensures delays { IfOk result (λ found. AreAllInto graph.now found.delays) }
     ensures fine { OnOk result (AreRowsFine graph.now.stored.design) }
+    ensures within { OnOk result (AreWithin graph.now.stored.design) }
     ensures err { IfErr result (IsRangeFault graph.now.stored.design) }
 {
     setting.store.laws();
+    graph.laws();
     let levels = by_level(alloc, graph)?;
     let count = graph.count() as usize;
     let mut rows = CowTable::filled(rt, alloc, workers, count, &empty_row(alloc))?;
+    let mut delays = no_delays(alloc, count)?;
     let nodes = levels.as_slice();
-    all_levels(rt, alloc, setting, graph, &mut rows, workers, nodes, gate)?;
-    Ok(rows)
+    all_levels(
+        rt,
+        alloc,
+        setting,
+        graph,
+        &mut rows,
+        &mut delays,
+        workers,
+        nodes,
+        gate,
+    )?;
+    let delays = Items::from_vec(delays);
+    Ok(Found { rows, delays })
 }

@@ -4,14 +4,14 @@ ghost use Rattle.std.specs.Prelude.{ℕ, ◌≡◌, ◌<◌, ◌≤◌, Some, le
 ghost use Rattle.std.specs.Arc.{arc_value};
 ghost use Rattle.timing_defs.specs.Checks.{IsSound};
 ghost use Rattle.timing_defs.specs.Rows.{empty_row};
-ghost use Rattle.arc_delays.specs.Delays.{AreDelays};
+ghost use Rattle.arc_delays.specs.Delays.{AreAllInto, AreDelays, AreWithin};
 ghost use Rattle.node_rows.specs.PortTables.{ArePorts};
 ghost use Rattle.pin_graph.specs.RowTables.{AreRows, AreRowsFine, IsRangeFault};
 ghost use Rattle.arrival_engine.specs.Analysed.{AreTables, sized_rows};
 ghost use Rattle.arrival_engine.specs.Planned.{ArePlanned};
 
 use crate::nodes::empty_row;
-use crate::passes::full_rows;
+use crate::passes::{Found, full_rows};
 use arc_delays::{ArcDelays, Delayed};
 use cow_table::CowTable;
 use netlist_store::Store;
@@ -110,7 +110,7 @@ fn shared_wires<H: Threads + Sync>(
     Ok(shared(alloc, wires)?)
 }
 
-/// The rows of all nodes, over the tables of a store.
+/// The rows of all nodes and the delays of all arcs, over the tables of a store.
 #[tactic(auto, using(crate::proofs::PlanLaws::plan_over))]
 fn rows_over<H: Threads + Sync, G: Gate>(
     rt: &H,
@@ -121,13 +121,15 @@ fn rows_over<H: Threads + Sync, G: Gate>(
     gate: &G,
     wires: &Wires,
     ports: &Ports,
-) -> Result<CowTable<NodeRow>, Fault>
+) -> Result<Found, Fault>
     requires graph { graph.now.stored ≡ store.now }
     requires some { 1 ≤ workers }
     requires most { workers ≤ 32 }
     requires plan { ArePlanned store.now wires.now ports.now }
-    ensures rows { IfOk result (AreRows store.now) }
+    ensures rows { IfOk result (λ found. AreRows store.now found.rows) }
+    ensures delays { IfOk result (λ found. AreAllInto graph.now found.delays) }
     ensures fine { OnOk result (AreRowsFine store.now.design) }
+    ensures within { OnOk result (AreWithin store.now.design) }
     ensures err { IfErr result (IsRangeFault store.now.design) }
 {
     let setting = Setting {
@@ -136,35 +138,6 @@ fn rows_over<H: Threads + Sync, G: Gate>(
         ports,
     };
     full_rows(rt, alloc, &setting, graph, workers, gate)
-}
-
-/// The delays of all arcs, over the tables of a store and the rows of all nodes, to be shared.
-#[tactic(auto, using(crate::proofs::PlanLaws::setting_over))]
-fn shared_delays<H: Threads + Sync>(
-    rt: &H,
-    alloc: Global,
-    store: &Store,
-    graph: &Graph,
-    workers: u32,
-    rows: &CowTable<NodeRow>,
-    wires: &Wires,
-    ports: &Ports,
-) -> Result<Arc<ArcDelays>, Memory>
-    requires graph { graph.now.stored ≡ store.now }
-    requires some { 1 ≤ workers }
-    requires most { workers ≤ 32 }
-    requires plan { ArePlanned store.now wires.now ports.now }
-    requires rows { AreRows store.now rows.now }
-    requires fine { AreRowsFine store.now.design }
-    ensures { IfOk result (λ delays. AreDelays store.now (arc_value delays)) }
-{
-    let setting = Setting {
-        store,
-        wires,
-        ports,
-    };
-    let delays = ArcDelays::full(rt, alloc, &setting, graph, rows, workers)?;
-    shared(alloc, delays)
 }
 
 /// The slews and arrivals of all nodes, with the tables of a store.
@@ -188,10 +161,10 @@ fn with_tables<H: Threads + Sync, G: Gate>(
     ensures fine { OnOk result (AreRowsFine store.now.design) }
     ensures err { IfErr result (IsRangeFault store.now.design) }
 {
-    let rows = rows_over(rt, alloc, store, graph, workers, gate, &wires, &ports)?;
-    let delays = shared_delays(rt, alloc, store, graph, workers, &rows, &wires, &ports)?;
+    let found = rows_over(rt, alloc, store, graph, workers, gate, &wires, &ports)?;
+    let delays = shared(alloc, ArcDelays::of(store, graph, found.delays))?;
     Ok(Arrivals {
-        rows,
+        rows: found.rows,
         wires,
         ports,
         delays,
@@ -200,9 +173,10 @@ fn with_tables<H: Threads + Sync, G: Gate>(
 
 impl Arrivals {
     /// The slews and arrivals of all nodes of a store, from nothing: level by level, each level's nodes
-    /// shared between that many threads, the gate called as each piece of a level begins; then the delays
-    /// of all arcs. The rows are the same whatever the number of workers. `OutOfRange` at a net or a pin where a load, a wire
-    /// delay, or a quantity of a node leaves its limit. Takes time of the nets, nodes and arcs.
+    /// shared between that many threads, the gate called as each piece of a level begins; the delays of
+    /// the arcs into a node come with its row. The rows are the same whatever the number of workers.
+    /// `OutOfRange` at a net or a pin where a load, a wire delay, or a quantity of a node leaves its
+    /// limit. Takes time of the nets, nodes and arcs.
     pub fn full<H: Threads + Sync, G: Gate>(
         rt: &H,
         alloc: Global,

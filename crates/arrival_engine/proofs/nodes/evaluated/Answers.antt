@@ -1,10 +1,16 @@
 use Rattle.std.proofs.Common.{List, sym, subst, ◌∙◌}
 use Rattle.level_workers.specs.Mapped.{IsMap}
 use Rattle.node_rows.specs.declared.settings.Before.{Before}
+use Rattle.node_rows.proofs.ResultLaws.{handed_up}
 use Rattle.pin_graph.specs.Graphs.{fan_at}
-use Rattle.arrival_engine.specs.Analysed.{IsBefore}
-use Rattle.arrival_engine.proofs.BeforeLaws.{arcs_there, befores_told, row_given, fault_given}
+use Rattle.arrival_engine.specs.Analysed.{IsBefore, IsNodeFault}
+use Rattle.arrival_engine.proofs.BeforeLaws.{arcs_there, befores_told, none_into, as_many, delays_given, row_given, fault_given}
 use Rattle.arrival_engine.proofs.nodes.evaluated.Goals as goal
+
+pub returns-in-None-clause-delays : goal.returns-in-None-clause-delays
+returns-in-None-clause-delays c =
+    none_into c.args.graph.now c.args.setting.now.store.now c.requires.plan.same c.laws.ensures.numbered c.laws.ensures.linked c.laws-2.ensures
+    c.args.rows.now c.args.node c.requires.node c.requires.ready (sym c.place_of.ensures ∙ c.in-None.is) c.no_answer.result.delays c.no_answer.ensures.delays
 
 pub befores-requires-clause-arcs : goal.befores-requires-clause-arcs
 befores-requires-clause-arcs c =
@@ -18,16 +24,35 @@ node_row-requires-clause-before c =
     (subst (λ (xs : List Before). IsMap (IsBefore c.args.graph.now c.args.rows.now) (fan_at c.args.graph.now.ins c.args.node) xs) (sym c.as_slice.ensures.value)
     c.in_ok-found-in-Some.ensures)
 
-pub returns-in_ok-found-in-Some-clause-row : goal.returns-in_ok-found-in-Some-clause-row
-returns-in_ok-found-in-Some-clause-row c =
+pub returns-in_err-told-in-Some-clause-err : goal.returns-in_err-told-in-Some-clause-err
+returns-in_err-told-in-Some-clause-err c =
+    handed_up c.from_residual-in_err-told-in-Some.result c.in_err-told-in-Some.field-0.0 (IsNodeFault c.args.graph.now.stored c.args.node)
+    c.from_residual-in_err-told-in-Some.ensures.1
+    (fault_given c.args.graph.now c.args.setting.now.store.now c.requires.plan.same c.laws.ensures.numbered c.laws.ensures.linked c.laws-2.ensures
+    c.args.rows.now c.args.node c.requires.node c.requires.ready c.in-Some.to c.as_slice.result.now (sym c.place_of.ensures ∙ c.in-Some.is)
+    (subst (λ (xs : List Before). IsMap (IsBefore c.args.graph.now c.args.rows.now) (fan_at c.args.graph.now.ins c.args.node) xs) (sym c.as_slice.ensures.value)
+    c.in_ok-found-in-Some.ensures) c.args.setting.now.wires.now c.requires.plan.tables.wires c.requires.plan.nets c.in_err-told-in-Some.field-0.0
+    c.in_err-told-in-Some.ensures.err)
+
+pub sourced-requires : goal.sourced-requires
+sourced-requires c =
+    as_many c.args.graph.now c.args.setting.now.store.now c.requires.plan.same c.laws.ensures.numbered c.laws.ensures.linked c.laws-2.ensures
+    c.args.rows.now c.args.node c.requires.node c.requires.ready c.in-Some.to c.as_slice.result.now (sym c.place_of.ensures ∙ c.in-Some.is)
+    (subst (λ (xs : List Before). IsMap (IsBefore c.args.graph.now c.args.rows.now) (fan_at c.args.graph.now.ins c.args.node) xs) (sym c.as_slice.ensures.value)
+    c.in_ok-found-in-Some.ensures) c.as_slice-in-Some.result.now c.arcs_in.result.now (c.as_slice-in-Some.ensures ∙ c.in_ok-told-in-Some.ensures.delays) c.arcs_in.ensures
+
+pub returns-in_ok-delays-in-Some-clause-row : goal.returns-in_ok-delays-in-Some-clause-row
+returns-in_ok-delays-in-Some-clause-row c =
     row_given c.args.graph.now c.args.setting.now.store.now c.requires.plan.same c.laws.ensures.numbered c.laws.ensures.linked c.laws-2.ensures
     c.args.rows.now c.args.node c.requires.node c.requires.ready c.in-Some.to c.as_slice.result.now (sym c.place_of.ensures ∙ c.in-Some.is)
     (subst (λ (xs : List Before). IsMap (IsBefore c.args.graph.now c.args.rows.now) (fan_at c.args.graph.now.ins c.args.node) xs) (sym c.as_slice.ensures.value)
-    c.in_ok-found-in-Some.ensures) c.args.setting.now.wires.now c.requires.plan.tables.wires c.requires.plan.nets c.node_row.result c.node_row.ensures.row
+    c.in_ok-found-in-Some.ensures) c.args.setting.now.wires.now c.requires.plan.tables.wires c.requires.plan.nets c.in_ok-told-in-Some.told.row
+    c.in_ok-told-in-Some.ensures.row
 
-pub returns-in_ok-found-in-Some-clause-err : goal.returns-in_ok-found-in-Some-clause-err
-returns-in_ok-found-in-Some-clause-err c =
-    fault_given c.args.graph.now c.args.setting.now.store.now c.requires.plan.same c.laws.ensures.numbered c.laws.ensures.linked c.laws-2.ensures
+pub returns-in_ok-delays-in-Some-clause-delays : goal.returns-in_ok-delays-in-Some-clause-delays
+returns-in_ok-delays-in-Some-clause-delays c =
+    delays_given c.args.graph.now c.args.setting.now.store.now c.requires.plan.same c.laws.ensures.numbered c.laws.ensures.linked c.laws-2.ensures
     c.args.rows.now c.args.node c.requires.node c.requires.ready c.in-Some.to c.as_slice.result.now (sym c.place_of.ensures ∙ c.in-Some.is)
     (subst (λ (xs : List Before). IsMap (IsBefore c.args.graph.now c.args.rows.now) (fan_at c.args.graph.now.ins c.args.node) xs) (sym c.as_slice.ensures.value)
-    c.in_ok-found-in-Some.ensures) c.args.setting.now.wires.now c.requires.plan.tables.wires c.requires.plan.nets c.node_row.result c.node_row.ensures.err
+    c.in_ok-found-in-Some.ensures) c.as_slice-in-Some.result.now c.arcs_in.result.now (c.as_slice-in-Some.ensures ∙ c.in_ok-told-in-Some.ensures.delays) c.arcs_in.ensures
+    c.in_ok-delays-in-Some.delays c.in_ok-delays-in-Some.ensures

@@ -8,4 +8,4 @@ evaluated-requires-clause-ready c =
     c.args.rows.now c.args.level c.args.node c.requires.done (search rules) (search rules)
 
 pub returns : goal.returns
-returns c = λ low here. answer_given c.args.graph.now.stored c.args.node c.evaluated.result c.evaluated.ensures.row c.evaluated.ensures.err
+returns c = λ low here. answer_given c.args.graph.now c.args.node c.evaluated.result c.evaluated.ensures.row c.evaluated.ensures.delays c.evaluated.ensures.err

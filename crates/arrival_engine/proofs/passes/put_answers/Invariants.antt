@@ -1,0 +1,13 @@
+use Rattle.std.proofs.Common.{◌≡◌, ◌+◌, drop, length}
+use Rattle.std.specs.Vec.Iter.{into_iter_items, into_iter_len}
+use Rattle.level_workers.specs.Mapped.{IsMap}
+use Rattle.arrival_engine.specs.Analysed.{IsLevelAnswer}
+use Rattle.arrival_engine.proofs.PassLaws.{AreDoneBut}
+use Rattle.arrival_engine.proofs.passes.put_answers.Given as goal
+
+abbrev pub invariant-loop-answer : goal.invariant-loop-answer
+invariant-loop-answer l =
+    (l.at + length (into_iter_items l.answer-iterator) ≡ length l.nodes)
+    × IsMap (IsLevelAnswer l.graph l.level) (drop l.at l.nodes) (into_iter_items l.answer-iterator)
+    × AreDoneBut l.graph l.level (drop l.at l.nodes) l.rows l.delays.items
+    × (into_iter_len l.answer-iterator ≡ length (into_iter_items l.answer-iterator))
