@@ -18,7 +18,7 @@ use Rattle.timing_defs.specs.Netlist.{Pin, Node, pins, both_nodes}
 use Rattle.timing_defs.specs.Required.{back_row, empty_back}
 use Rattle.netlist_store.specs.Linked.{IsLinked}
 use Rattle.netlist_store.specs.Numbering.{Stored, IsNumbered}
-use Rattle.cow_table.specs.Writes.{put_at, written}
+use Rattle.cow_table.specs.Writes.{put_at, written, first_refused}
 use Rattle.level_workers.specs.Mapped.{IsMap}
 use Rattle.levelizer.specs.Levels.{greatest}
 use Rattle.pin_graph.specs.declared.arcs.GraphArc.{GraphArc}
@@ -127,27 +127,20 @@ pub ready_there : (g : Graphed) (s : Stored) → g.stored ≡ s → IsNumbered s
 ready_there g s same num linked is =
     ready g (subst (λ (x : Stored). IsNumbered x) (sym same) num) (subst (λ (x : Stored). IsLinked x.design) (sym same) linked) is
 
--- the answers that are left, while the first fault is looked for: they are among those that are found, and all that were passed are
--- without a fault
-pub record AreLeft (found left : List (Result BackRow Fault)) : Type 0 where
-  pub among : (r : Result BackRow Fault) → Contains left r → Contains found r
-  pub passed : All IsOk left → All IsOk found
+-- where no answer is an error each is a row, and the first error is among the answers
+pub none_refused : (answers : List (Result BackRow Fault)) → first_refused answers ≡ None → All IsOk answers
+unfolding first_refused
+none_refused [] none = All-nil IsOk
+none_refused (Ok row ∷ answers) none = All-cons IsOk (Ok row) answers refl (none_refused answers none)
+none_refused (Err f ∷ answers) none = absurd (cc)
 
-pub left_at_first : (found : List (Result BackRow Fault)) → AreLeft found found
-left_at_first found = record { among = λ r c. c; passed = λ h. h }
+pub refused_among : (answers : List (Result BackRow Fault)) (f : Fault) → first_refused answers ≡ Some f → Contains answers (Err f)
+unfolding first_refused
+refused_among [] f first = absurd (cc)
+refused_among (Ok row ∷ answers) f first = later_in (Ok row) answers (Err f) (refused_among answers f first)
+refused_among (Err g ∷ answers) f first = subst (λ (x : Fault). Contains (Err g ∷ answers) (Err x)) (some_is first) (first_in (Err g) answers)
 
-module _ (found left rest : List (Result BackRow Fault)) (r : Result BackRow Fault) (are : AreLeft found left) (first : left ≡ r ∷ rest) where
-  pub left_fewer : (row : BackRow) → r ≡ Ok row → AreLeft found rest
-  left_fewer row e = record {
-    among = λ x c. are.among x (subst (λ (xs : List (Result BackRow Fault)). Contains xs x) (sym first) (later_in r rest x c));
-    passed = λ h. are.passed (subst (λ (xs : List (Result BackRow Fault)). All IsOk xs) (sym first) (All-cons IsOk r rest (ap is_ok e) h));
-  }
-
-pub none_left : (found left : List (Result BackRow Fault)) → AreLeft found left → length left ≡ 0 → All IsOk found
-none_left found [] are none = are.passed (All-nil IsOk)
-none_left found (r ∷ rest) are none = absurd (omega (arith, none))
-
--- while the rows of a level are written: places that are left and their answers, and the nodes of the level that are done
+-- while the rows of a level are written: the places that are left with their answers, and the nodes of the level that are done
 pub record IsPutting (g : Graphed) (level : ℕ) (rows : List BackRow) (places : List ℕ) (answers : List (Result BackRow Fault)) : Type 0 where
   pub above : AreDoneFrom g rows (level + 1)
   pub sound : (k : ℕ) → Contains places k → (k < node_bound g.stored) × (level_at g k ≡ level)

@@ -1,6 +1,6 @@
 //! The pass over the levels of a graph, the highest first.
 
-ghost use Rattle.std.specs.Prelude.{ℕ, ◌≡◌, ◌+◌, ◌≤◌, ◌^◌, All, Contains, Err, length, IfOk, IfErr, IsOk, OnOk};
+ghost use Rattle.std.specs.Prelude.{ℕ, ◌≡◌, ◌+◌, ◌≤◌, ◌^◌, length, IfOk, IfErr, OnOk};
 ghost use Rattle.level_workers.specs.Mapped.{IsMap};
 ghost use Rattle.pin_graph.specs.Nodes.{node_bound};
 ghost use Rattle.pin_graph.specs.RowTables.{AreBackRows, AreBacksFine, IsRangeFault};
@@ -74,18 +74,8 @@ fn level_rows<H: Threads + Sync, A: Rows + Delayed + Sync, G: Gate>(
     map_level(rt, alloc, workers, level, nodes, &answer, gate)
 }
 
-/// Fails with the first fault among some answers.
-fn first_fault(found: Items<Result<BackRow, Fault>>) -> Result<(), Fault>
-    ensures ok { OnOk result (All IsOk found) }
-    ensures err { IfErr result (λ fault. Contains found (Err fault)) }
-{
-    for answer in found.into_vec() {
-        let _ = answer?;
-    }
-    Ok(())
-}
-
-/// Writes the rows of the nodes of a level, by several threads.
+/// Writes the rows of the nodes of a level by several threads; refuses with the first fault among the
+/// answers.
 fn put_rows<H: Threads + Sync>(
     rt: &H,
     graph: &Graph,
@@ -104,8 +94,10 @@ fn put_rows<H: Threads + Sync>(
     // The graph and the level are asked for by the contract alone.
     let _ = graph;
     let _ = level;
-    rows.put_all(rt, workers, nodes, found.as_slice())?;
-    first_fault(found)
+    match rows.put_all(rt, workers, nodes, found.into_vec())? {
+        Some(fault) => Err(fault),
+        None => Ok(()),
+    }
 }
 
 /// Evaluates the nodes of each level in turn, from the highest down, over the rows of the higher ones.

@@ -1,27 +1,21 @@
-use Rattle.std.proofs.Common.{rules, ◌≡◌, Err, length, sym, ap, ◌∙◌}
-use Rattle.std.specs.Prelude.{Contains}
-use Rattle.std.proofs.lemmas.Result.{on_ok_weaker, IfErr-weaker}
-use Rattle.timing_defs.specs.declared.faults.Fault.{Fault}
-use Rattle.pin_graph.specs.RowTables.{IsRangeFault}
+use Rattle.std.proofs.Common.{ap, length, sym, ◌∙◌}
+use Rattle.cow_table.specs.Writes.{first_refused}
 use Rattle.required_engine.specs.Worked.{IsAnswerAt}
-use Rattle.required_engine.proofs.PassLaws.{as_many, level_written, fault_is_range}
+use Rattle.required_engine.proofs.PassLaws.{as_many, level_written, fault_is_range, none_refused, refused_among}
 use Rattle.required_engine.proofs.passes.put_rows.Goals as goal
 
 pub put_all-requires-after_bounds : goal.put_all-requires-after_bounds
 put_all-requires-after_bounds g c κs within =
-    let shown : c.as_slice.result.now ≡ c.args.found = search rules in
-    as_many (IsAnswerAt c.args.graph.now c.args.level) c.args.nodes.now c.args.found c.requires.found ∙ ap length (sym shown)
+    as_many (IsAnswerAt c.args.graph.now c.args.level) c.args.nodes.now c.args.found c.requires.found ∙ sym (ap length c.into_vec.ensures)
 
-pub returns-clause-done : goal.returns-clause-done
-returns-clause-done g c =
-    let shown : c.as_slice.result.now ≡ c.args.found = search rules in
-    on_ok_weaker c.first_fault.result
-    (level_written c.args.graph.now c.args.level c.args.rows.now c.put_all.new.self c.args.nodes.now c.args.found c.as_slice.result.now c.requires.nodes
-    c.requires.found c.requires.done shown c.in_ok-put_all.ensures.ok)
-    c.first_fault.ensures.ok
+pub returns-in-None-clause-done : goal.returns-in-None-clause-done
+returns-in-None-clause-done g c =
+    let none = sym (ap first_refused c.into_vec.ensures) ∙ sym c.in_ok-fault.ensures.refused ∙ c.in-None.is in
+    level_written c.args.graph.now c.args.level c.args.rows.now c.put_all.new.self c.args.nodes.now c.args.found c.into_vec.result.items c.requires.nodes
+    c.requires.found c.requires.done c.into_vec.ensures (c.in_ok-fault.ensures.ok c.in-None.is) (none_refused c.args.found none)
 
-pub returns-clause-err : goal.returns-clause-err
-returns-clause-err g c =
-    IfErr-weaker c.first_fault.result (λ (f : Fault). Contains c.args.found (Err f)) (IsRangeFault c.args.graph.now.stored.design)
-    (fault_is_range c.args.graph.now c.args.level c.args.nodes.now c.args.found c.requires.nodes c.requires.found)
-    c.first_fault.ensures.err
+pub returns-in-Some-clause-err : goal.returns-in-Some-clause-err
+returns-in-Some-clause-err g c =
+    let first = sym (ap first_refused c.into_vec.ensures) ∙ sym c.in_ok-fault.ensures.refused ∙ c.in-Some.is in
+    fault_is_range c.args.graph.now c.args.level c.args.nodes.now c.args.found c.requires.nodes c.requires.found c.in-Some.fault
+    (refused_among c.args.found c.in-Some.fault first)
