@@ -82,7 +82,9 @@ fn longer<I, R: Drop, F: Fn(&I) -> Result<R, Memory>>(
     requires run { IsMapOf (λ x r. FnReturnsAt F.Fn f.now x (Ok r)) items.now run.from run.to run.results }
     requires more { run.to ≤ to }
     requires within { to ≤ length items.now }
-    ensures { IfOk result (λ it. IsMapOf (λ x r. FnReturnsAt F.Fn f.now x (Ok r)) items.now it.from it.to it.results) }
+    ensures from { IfOk result (λ it. it.from ≡ run.from) }
+    ensures to { IfOk result (λ it. it.to ≡ to) }
+    ensures map { IfOk result (λ it. IsMapOf (λ x r. FnReturnsAt F.Fn f.now x (Ok r)) items.now it.from it.to it.results) }
 {
     let Run {
         from,
@@ -105,7 +107,9 @@ fn fresh<I, R: Drop, F: Fn(&I) -> Result<R, Memory>>(
     requires callable { F.IsAlwaysCallable f.now }
     requires order { from ≤ to }
     requires within { to ≤ length items.now }
-    ensures { IfOk result (λ it. IsMapOf (λ x r. FnReturnsAt F.Fn f.now x (Ok r)) items.now it.from it.to it.results) }
+    ensures from { IfOk result (λ it. it.from ≡ from) }
+    ensures to { IfOk result (λ it. it.to ≡ to) }
+    ensures map { IfOk result (λ it. IsMapOf (λ x r. FnReturnsAt F.Fn f.now x (Ok r)) items.now it.from it.to it.results) }
 {
     let results = map_piece(alloc, &items[from..to], room, f)?;
     Ok(Run { from, to, results })
