@@ -18,7 +18,7 @@ Drives s pin = option_map is_driver (pin_numbered s pin) ≡ Some true
 
 -- the cell in a split of the instance that has a pin, the pin's name in it, the load of the pin's net, and the
 -- factor of cell delays; load and factor lie within their limits
-pub record IsDriven (s : Stored) (split : Split) (pin : ℕ) (driving : DrivingCell) : Type 0 where
+pub record IsDrivingCell (s : Stored) (split : Split) (pin : ℕ) (driving : DrivingCell) : Type 0 where
   pub inst : ℕ
   pub owner : owner_number s pin ≡ Some inst
   pub cell : Cell
@@ -34,5 +34,5 @@ pub record IsDriven (s : Stored) (split : Split) (pin : ℕ) (driving : DrivingC
 -- cell; an input port by nothing
 abbrev pub IsEntry : Stored → Split → ℕ → Entry → Type 0
 IsEntry s split pin Wire = option_map is_driver (pin_numbered s pin) ≡ Some false
-IsEntry s split pin (by_cell driving) = Drives s pin × IsDriven s split pin driving
+IsEntry s split pin (by_cell driving) = Drives s pin × IsDrivingCell s split pin driving
 IsEntry s split pin Port = Drives s pin × (is_some (option_and_then (λ (p : Pin). p.owner) (pin_numbered s pin)) ≡ false)

@@ -5,7 +5,7 @@ ghost use Rattle.sta_units.specs.Numbers.{limit};
 ghost use Rattle.timing_defs.specs.Rows.{load_at};
 ghost use Rattle.netlist_store.specs.Numbering.{is_number, pin_numbered, owner_number};
 ghost use Rattle.node_rows.specs.Evaluation.{IsSetting};
-ghost use Rattle.node_rows.specs.Entries.{IsDriven, IsEntry};
+ghost use Rattle.node_rows.specs.Entries.{IsDrivingCell, IsEntry};
 
 use crate::pins::{drives, own_name};
 use crate::scaling::factor_of;
@@ -56,7 +56,7 @@ fn driving_cell<'a>(setting: &Setting<'a>, split: Split, pin: u32, inst: u32) ->
     requires pin { is_number setting.now.store.now.pins pin ≡ true }
     requires owner { owner_number setting.now.store.now pin ≡ Some inst }
     requires inst { is_number setting.now.store.now.insts inst ≡ true }
-    ensures { IsDriven setting.now.store.now split pin result }
+    ensures { IsDrivingCell setting.now.store.now split pin result }
 {
     setting.store.laws();
     DrivingCell {

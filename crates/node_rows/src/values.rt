@@ -7,7 +7,7 @@ ghost use Rattle.timing_defs.specs.Rows.{slew_in, factor_of};
 ghost use Rattle.timing_defs.specs.Range.{within_some};
 ghost use Rattle.netlist_store.specs.Numbering.{is_number, pin_numbered};
 ghost use Rattle.node_rows.specs.Between.{no_values, are_within};
-ghost use Rattle.node_rows.specs.Entries.{IsDriven, IsEntry};
+ghost use Rattle.node_rows.specs.Entries.{IsDrivingCell, IsEntry};
 ghost use Rattle.node_rows.specs.WireTables.{root_slew, told_slew, told_delay, wire_at};
 ghost use Rattle.node_rows.specs.Evaluation.{IsJoined, IsSetting, IsAlong, told_values, told_wide, is_row_within, scaled_values};
 
@@ -92,7 +92,7 @@ fn inst_values(
     requires row { is_row_within before.now.row.now ≡ true }
     requires drives { option_map is_driver (pin_numbered setting.now.store.now to.pin) ≡ Some true }
     requires slew { slew_in split before.now.row.now ≡ Some slew }
-    requires cell { IsDriven setting.now.store.now split to.pin cell.now }
+    requires cell { IsDrivingCell setting.now.store.now split to.pin cell.now }
     ensures { MatchResult result (IsAlong setting.now.store.now split to before.now) (λ _. told_wide setting.now.store.now split to before.now ≡ true) }
 {
     setting.store.laws();
@@ -113,7 +113,7 @@ fn cell_values(
     requires joined { IsJoined setting.now.store.now to before.now.node }
     requires row { is_row_within before.now.row.now ≡ true }
     requires drives { option_map is_driver (pin_numbered setting.now.store.now to.pin) ≡ Some true }
-    requires cell { IsDriven setting.now.store.now split to.pin cell.now }
+    requires cell { IsDrivingCell setting.now.store.now split to.pin cell.now }
     ensures { MatchResult result (IsAlong setting.now.store.now split to before.now) (λ _. told_wide setting.now.store.now split to before.now ≡ true) }
 {
     match slew_in(before.row, split) {
