@@ -1,0 +1,341 @@
+#!/usr/bin/env python3
+"""Says where a refused document is at fault and why: explain_fault.py STATUS OUTPUT run EARLY LATE NETLIST SDC SPEF WORKERS SCRIPT
+
+STATUS is the exit status of the run, OUTPUT the file with what it wrote, and the words are those of the run. It prints
+FILE:LINE:COLUMN: CODE: the sentence of docs/FAULTS.md, the line with a caret, and what it finds of the cause. `./lizdrog` does this
+by itself after a run that ends with 2 to 6.
+"""
+import os
+import pathlib
+import re
+import stat
+import sys
+
+import design_documents as documents
+
+FAULTS = pathlib.Path(__file__).resolve().parent.parent / "docs" / "FAULTS.md"
+ROLES = {"early": 1, "late": 2, "netlist": 3, "sdc": 4, "spef": 5}
+WIDTH = 150
+ORDER = "EARLY LATE NETLIST SDC SPEF WORKERS SCRIPT"
+KINDS = [(r"\s*library\b", "a library (Liberty)", ("early", "late")), (r"\s*module\b", "a netlist (Verilog)", ("netlist",)),
+         (r"\s*\*SPEF", "parasitics (SPEF)", ("spef",)), (r"\s*(create_clock|set_units|set_input|set_output|set sdc_version)", "constraints (SDC)", ("sdc",)),
+         (r"\s*(report_|repower_|insert_|begin_eco|take\b|await\b)", "a script", ("script",))]
+
+
+def sentences():
+    """The sentence of each code, out of docs/FAULTS.md."""
+    found = {}
+    try:
+        text = FAULTS.read_text()
+    except OSError:
+        return found
+    for row in re.findall(r"^\| ([A-Z]\d+) \|(.*)\|$", text, re.M):
+        cells = [it.strip() for it in row[1].split(" | ")]
+        found[row[0]] = cells[1] if row[0][0] == "E" and len(cells) > 1 else cells[0]
+    return found
+
+
+def sentence(code):
+    return sentences().get(code, "docs/FAULTS.md has this code")
+
+
+def can_be_read_again(name):
+    try:
+        return stat.S_ISREG(os.stat(name).st_mode)
+    except OSError:
+        return False
+
+
+def shown(line):
+    return "".join(it if " " <= it <= "~" else " " if it == "\t" else "?" for it in line)
+
+
+def caret(line, column):
+    """The line, cut around the column where it is long, and a caret below that column."""
+    before, behind = 0, len(line)
+    if len(line) > WIDTH:
+        before = max(0, min(column - 1 - WIDTH // 2, len(line) - WIDTH))
+        behind = before + WIDTH
+    head, tail = ".. " if before else "", " .." if behind < len(line) else ""
+    return [f"  {head}{shown(line[before:behind])}{tail}", "  " + " " * (len(head) + column - 1 - before) + "^"]
+
+
+# ------------------------------------------------------------------------------------------------ a document's fault
+
+def explain_document(role, code, place, words):
+    at = ROLES.get(role) or (6 + int(role[6:]) if role.startswith("script") else None)
+    name = words[at] if at and at < len(words) else role
+    if not can_be_read_again(name):
+        where = "line" if role.startswith("script") else "byte"
+        return [f"{name}: {where} {place}: {code}: {sentence(code)}", f"  ({name} is no file that can be read again, so its line is not shown)"]
+    text = documents.read_text(name)
+    if role.startswith("script"):
+        line, column = place, 1
+    else:
+        line, column = documents.line_and_column(text, place)
+    lines = text.split("\n")
+    told = [f"{name}:{line}:{column}: {code}: {sentence(code)}"]
+    if line <= len(lines) and text:
+        told += caret(lines[line - 1], column)
+    ends = [f"  the text ends here, at byte {place}"] if not role.startswith("script") and place >= len(text) > 0 else []
+    return told + ends + hints(role, code, place, text, lines[line - 1] if line <= len(lines) else "")
+
+
+def hints(role, code, place, text, line):
+    """What is seen of the cause, one line each."""
+    if not text:
+        return ["  the file is empty"]
+    if text.startswith("\x1f\x8b"):
+        return ["  the file is compressed (gzip), which is not read: in bash, give <(zcat FILE) in its place"]
+    if text.startswith("\xef\xbb\xbf"):
+        return ["  the file begins with a byte order mark, which is not read: take its first three bytes away"]
+    for pattern, kind, roles in KINDS:
+        if place <= 1 and re.match(pattern, text) and role.rstrip("0123456789") not in roles:
+            return [f"  the file looks like {kind}, and stands in the place of {role}: the order is run {ORDER}"]
+    if role.startswith("script"):
+        return [f"  {it}" for it in script_hints(code, line)]
+    if role == "sdc":
+        return [f"  {it}" for it in sdc_hints(code, text, place)]
+    if code == "L6":
+        return [f"  {it}" for it in table_hints(text, place)]
+    if code == "P1" and re.match(r"\S", text[place:]) and not text[place:].startswith("*"):
+        return ["  where the row before ends with a word that is no number, that word was taken for a node, and a value was expected here"]
+    return []
+
+
+PINS = {"report_slew", "report_at", "report_rat", "report_slack"}
+KIND_WORDS = {"report_wns": 1, "report_tns": 1, "report_endpoint": 2, "report_path": 2, "report_worst": 2}
+EDITS = {"repower_gate": 2, "insert_gate": 2, "remove_gate": 1, "insert_net": 1, "remove_net": 1, "connect_pin": 2, "disconnect_pin": 1}
+OTHERS = {"take": 0, "await": 2, "begin_eco": 0, "commit_eco": 0}
+
+
+def script_hints(code, line):
+    """Why a line of a script is no command, where that can be seen in the line."""
+    words = line.split()
+    name = words[0] if words else ""
+    if "\r" in line:
+        return ["the line ends with CR LF; lines of a script end with a line feed alone: tr -d '\\r' <SCRIPT"]
+    if any(it > "~" for it in line):
+        return ["the line has a byte above 127: a script is ASCII, comments too"]
+    if "#" in line and not name.startswith("#"):
+        return ["a comment stands in a line of its own: behind a command # begins none"]
+    if ";" in line:
+        return ["a line has one command: ; ends none"]
+    if code == "C2":
+        return []
+    counts = {**{it: 3 for it in PINS}, **KIND_WORDS, **EDITS, **OTHERS}
+    if name in counts and len(words) - 1 != counts[name]:
+        return [f"{name} takes {counts[name]} words, and here are {len(words) - 1}: see docs/SCRIPTS.md"]
+    if name in PINS and (words[2] not in ("early", "late") or words[3] not in ("rise", "fall")):
+        return [f"{name} takes a pin, then early or late, then rise or fall"]
+    if name in KIND_WORDS and words[2 if name in ("report_endpoint", "report_path") else 1] not in ("setup", "hold"):
+        return [f"{name} takes setup or hold, in small letters, in this place"]
+    if name == "report_worst" and not (words[2].isdigit() and 1 <= int(words[2]) <= 100):
+        return ["report_worst takes a number from 1 to 100"]
+    if name == "await" and not (words[2].isdigit() and 1 <= int(words[2]) <= 1000):
+        return ["await takes a number of a design, then a number of looks from 1 to 1000"]
+    if name in ("begin_eco", "commit_eco"):
+        return ["a group has edits alone, at least one, and its end: begin_eco, edits, commit_eco"]
+    if name in counts or name in ("insert_buffer", "set_parasitics"):
+        return [f"the words of {name} do not fit, or it stands in a group of edits that allows no report: see docs/SCRIPTS.md"]
+    return [f"there is no command {name}: docs/SCRIPTS.md has all"] if name else []
+
+
+def sdc_hints(code, text, place):
+    word = re.match(r"[^\s;]*", text[place:]).group()
+    line = text[text.rfind("\n", 0, place) + 1:].split("\n")[0]
+    if code in ("S1", "S3") and ("$" in line or "[expr" in line or re.match(r"\s*(set\s|if\b|foreach\b|proc\b|source\b)", line)):
+        return ["Tcl is not run: no variables, [expr ..] or control. Write the values, or have the tool that wrote the file write them (write_sdc)"]
+    if code == "S2" and re.match(r"(puts|if|foreach|for|while|proc|source|expr|lappend|global)$", word):
+        return ["Tcl is not run: this is a command of Tcl"]
+    if code == "S3" and ("*" in word or "?" in word):
+        return ["there are no patterns: name each object"]
+    return ["docs/INPUT.md has what is read of SDC; tools/check_setup.py lists all lines that are not, in one run"]
+
+
+def table_hints(text, place):
+    """What is wrong with a table of a library."""
+    group = next((it for it in groups_of(documents.read_groups(text)) if it.offset == place), None)
+    if group is None:
+        return []
+    for name, words in group.complex.items():
+        for word in re.split(r"[,\s]+", " ".join(words)):
+            if word and not re.fullmatch(r"[-+]?(\d+\.?\d*|\.\d+)([eE][-+]?\d+)?", word):
+                return [f"in {name} the word `{word}` is no number"]
+    found = [it for word in group.complex.get("values", []) for it in re.split(r"[,\s]+", word) if it]
+    return [f"the table has {len(found)} values; its template {group.args[0] if group.args else ''} and indexes ask for another number, or a variable is not read"]
+
+
+def groups_of(group):
+    yield group
+    for inner in group.groups:
+        yield from groups_of(inner)
+
+
+# ------------------------------------------------------------------------------------------------ a design's fault
+
+def library_of(words, at):
+    return documents.Library(documents.read_text(words[at]))
+
+
+def explain_cell(cell, words):
+    """E3: what the libraries say of a cell, and an instance of it."""
+    told, libraries = [], {}
+    for role, at in (("early", 1), ("late", 2)):
+        library = libraries[role] = library_of(words, at)
+        if cell in library.left_out:
+            told.append(f"{words[at]}, the {role} library, has {cell}, which is passed over: {library.left_out[cell].left_out}")
+        elif cell not in library.cells:
+            told.append(f"{words[at]}, the {role} library, has no cell {cell}")
+    pair = [libraries[it].cells.get(cell) for it in ("early", "late")]
+    if all(pair):
+        told += differences(*pair)
+    netlist = documents.Netlist(documents.read_text(words[3]))
+    users = [it for it in netlist.instances.values() if it.cell == cell]
+    if users:
+        line, _ = documents.line_and_column(netlist.text, users[0].offset)
+        told.append(f"{len(users)} instances are of this cell, first {users[0].name} ({words[3]}:{line})")
+    return told
+
+
+def differences(early, late):
+    """What one of two cells has and the other lacks."""
+    told = []
+    pins = [{(name, way) for name, (way, _) in it.pins.items()} for it in (early, late)]
+    for what, one, other in (("pin", *pins), ("arc", set(early.arcs), set(late.arcs)), ("test", set(early.tests), set(late.tests))):
+        for here, there, only in (("early", "late", one - other), ("late", "early", other - one)):
+            if only:
+                some = ", ".join(" ".join(it) for it in sorted(only)[:3])
+                told.append(f"the {here} library alone has the {what}{'s' if len(only) > 1 else ''} {some}{' ..' if len(only) > 3 else ''} of {early.name}, the {there} one not")
+    return told
+
+
+def explain_net(code, net, words):
+    """E14, E15: pins of the netlist against those of the parasitics."""
+    netlist = documents.Netlist(documents.read_text(words[3]))
+    joined = documents.Joined(netlist, library_of(words, 2))
+    found = joined.nets.get(net)
+    told = [f"the netlist's net {net} is driven by {', '.join(found.drivers) or 'nothing'} and leads to {', '.join(found.sinks[:6]) or 'nothing'}"
+            f"{' ..' if len(found.sinks) > 6 else ''}"] if found else []
+    if words[5] != "none" and can_be_read_again(words[5]):
+        text = documents.read_text(words[5])
+        parasitics = documents.Spef(text).nets.get(net)
+        if found and parasitics:
+            line, _ = documents.line_and_column(text, parasitics.offset)
+            pins, named = {*found.drivers, *found.sinks}, parasitics.named_pins()
+            ends = {it for row in parasitics.ress for it in row[:2]}
+            told.append(f"its parasitics begin at {words[5]}:{line}")
+            if named - pins:
+                told.append(f"they name {', '.join(sorted(named - pins)[:6])}, which {'is' if len(named - pins) == 1 else 'are'} not on the net")
+            if parasitics.ress and pins - ends:
+                told.append(f"no resistor ends at {', '.join(sorted(pins - ends)[:6])}, which {'is' if len(pins - ends) == 1 else 'are'} on the net")
+            if code == "E14" and parasitics.ress and len(parasitics.ress) >= len(ends):
+                told.append(f"{len(parasitics.ress)} resistors join {len(ends)} nodes, so there is a loop of resistors")
+            if code == "E14" and found.drivers and parasitics.ress and found.drivers[0] not in ends:
+                told.append(f"no resistor ends at the driver {found.drivers[0]}")
+    told.append("usual causes: SPEF of another version of the netlist (one from before an ECO), a wrong row of its name map")
+    return told
+
+
+def explain_range(words):
+    """E16: the units of the documents."""
+    told = []
+    for role, at in (("early", 1), ("late", 2)):
+        library = library_of(words, at)
+        told.append(f"{words[at]} has the capacitance unit {' '.join(library.load_words or ['?'])} and a time unit of {library.time_unit / 1000:g} ps")
+    if words[5] != "none" and can_be_read_again(words[5]):
+        units = re.findall(r"^\s*(\*[CR]_UNIT\s+\S+\s+\S+)", documents.read_text(words[5])[:100000], re.M)
+        told.append(f"{words[5]} has {', '.join(' '.join(it.split()) for it in units)}")
+    return told + ["usual causes: a unit of a library, of the SPEF or of the SDC that is a thousand times too great (ff for pf, PF for FF)"]
+
+
+def lines_with(name, file):
+    """The lines of a file in which a name stands as a word."""
+    if not can_be_read_again(file):
+        return []
+    spelled = {name, name.replace(":", "/")}
+    lines = documents.read_text(file).split("\n")
+    found = [f"{file}:{number}: {shown(line)[:WIDTH]}" for number, line in enumerate(lines, 1)
+             if any(re.search(r"(?<![^\s{}\[\]])" + re.escape(it) + r"(?![^\s{}\]])", line) for it in spelled)]
+    return found[:3]
+
+
+def explain_driver(net, words):
+    joined = documents.Joined(documents.Netlist(documents.read_text(words[3])), library_of(words, 2))
+    found = joined.nets.get(net)
+    return [f"{net} is driven by {', '.join(found.drivers)}"] if found else []
+
+
+def explain_design(names, words):
+    """The lines on a fault of the linked design: `names` are its code and what it names."""
+    code, what = names[0], names[-1] if len(names) > 1 else ""
+    told = [f"{words[3]}: {code} {' '.join(names[1:])}: {sentence(code)}"]
+    if not all(can_be_read_again(it) for it in words[1:5]):
+        return told
+    if code == "E3":
+        more = explain_cell(what, words)
+    elif code in ("E14", "E15"):
+        more = explain_net(code, what, words)
+    elif code == "E16":
+        more = explain_range(words)
+    elif code == "E13":
+        more = lines_with(what, words[4])
+    elif code == "E10":
+        more = explain_driver(what, words)
+    elif code == "E2":
+        more = lines_with(what, words[5]) + ["the parasitics have this net and the netlist does not: usual cause: SPEF of another netlist"]
+    elif code == "E4":
+        more = lines_with(what.rpartition(":")[0], words[3])[:1]
+    elif code == "E11":
+        more = ["the pins are those of the loop, each leading to the next and the last to the first"]
+    else:
+        more = []
+    return told + [f"  {it}" for it in more]
+
+
+# ------------------------------------------------------------------------------------------------ the run
+
+def explain_shelf(name, how):
+    """Why a document could not be fetched."""
+    if how == "too_long":
+        return [f"{name}: the file is longer than 64 MiB, which is the most that is read"]
+    if os.path.isdir(name):
+        return [f"{name}: is a directory, not a file"]
+    try:
+        with open(name, "rb") as file:
+            file.read(1)
+    except OSError as why:
+        return [f"{name}: {why.strerror}"]
+    return [f"{name}: the program could not read it; it can be read now"]
+
+
+def explain(status, output, words):
+    """The lines that explain how a run ended; none where there is nothing to explain."""
+    line = output.split("\n")[0].split(" ")
+    try:
+        if status == 3 and line[:2] == ["fault", "design"]:
+            return explain_design(line[2:], words)
+        if status == 3 and len(line) == 4:
+            return explain_document(line[1], line[2], int(line[3]), words)
+        if status == 4:
+            return explain_shelf(" ".join(line[2:-1]), line[-1])
+    except Exception as why:  # what is explained is faulty, so whatever goes wrong here must not hide the program's own answer
+        return [f"lizdrog: the cause could not be looked up ({type(why).__name__}: {why}); docs/FAULTS.md has the code"]
+    if status == 5:
+        return ["lizdrog: the output could not be written to its end (a full disk, or a reader that has closed the pipe); what is there is its beginning"]
+    if status == 6:
+        return ["lizdrog: there was not enough memory, and nothing was written; `ulimit -v` says whether a limit is set"]
+    return []
+
+
+def main():
+    if len(sys.argv) < 11 or sys.argv[1] == "--help":
+        print(__doc__.strip())
+        return 0 if "--help" in sys.argv else 2
+    for line in explain(int(sys.argv[1]), documents.read_text(sys.argv[2]), sys.argv[3:]):
+        print(line)
+    return 0
+
+
+if __name__ == "__main__":
+    sys.exit(main())
