@@ -18,7 +18,7 @@ use std::thread::Threads;
 use timing_defs::{Items, Kind};
 
 /// The slacks of an endpoint in fs, by the number of its pin; none where no path to it is tested.
-#[derive(Debug, Clone, Copy, PartialEq, Eq, Drop)]
+#[derive(Clone, Copy, Drop)]
 pub struct EndSlacks {
     pub pin: u32,
     pub setup: Option<Fs>,

@@ -11,7 +11,7 @@ use std::marker::Model;
 use timing_defs::{Items, Split};
 
 /// The delays of an arc from a node, in fs; none where the arc brings nothing.
-#[derive(Debug, Clone, Copy, PartialEq, Eq, Drop)]
+#[derive(Clone, Copy, Drop)]
 pub struct ArcDelay {
     pub from: u32,
     pub early: Option<i64>,
@@ -19,7 +19,7 @@ pub struct ArcDelay {
 }
 
 /// The delays of the arcs into each node, by the numbers of nodes.
-#[derive(Debug, Drop)]
+#[derive(Drop)]
 pub struct ArcDelays {
     by_node: Items<Items<ArcDelay>>,
 }

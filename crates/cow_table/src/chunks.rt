@@ -12,7 +12,7 @@ use std::sync::Arc;
 pub const CHUNK: usize = 256;
 
 /// Some items that stand side by side in a table.
-#[derive(Debug, Drop)]
+#[derive(Drop)]
 pub struct Chunk<T> {
     items: Vec<T>,
 }

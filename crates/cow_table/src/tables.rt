@@ -17,7 +17,7 @@ use std::thread::Threads;
 
 /// A list whose copies share what they have in common: a copy costs one step for each 256 items,
 /// and the first write to a chunk that is shared copies that chunk alone.
-#[derive(Debug, Drop)]
+#[derive(Drop)]
 pub struct CowTable<T> {
     chunks: Vec<Arc<Chunk<T>>>,
     len: usize,

@@ -84,7 +84,7 @@ fn agreements(alloc: Global, early: &Library, late: &[Cell]) -> Result<Items<boo
 }
 
 /// The places of the cells of a late library, and which of them agree with the early one.
-#[derive(Debug, Drop)]
+#[derive(Drop)]
 pub(crate) struct CellTable {
     pub(crate) places: IndexMap<Name, u32>,
     pub(crate) agree: Items<bool>,

@@ -18,7 +18,7 @@ use std::alloc::Global;
 use timing_defs::{Items, Name, NetRc};
 
 /// What a net is tested for.
-#[derive(Debug, Clone, Copy, PartialEq, Eq, Drop)]
+#[derive(Clone, Copy, Drop)]
 pub(crate) enum NetTest {
     /// Its parasitics have more than 65,535 nodes.
     TooManyNodes,

@@ -25,7 +25,7 @@ const EDIT_LIMIT: usize = 1_000;
 const SESSION_LIMIT: u64 = 16;
 
 /// The head of an entry.
-#[derive(Debug, Clone, Copy, Drop)]
+#[derive(Clone, Copy, Drop)]
 struct EntryHead {
     session: u32,
     edits: usize,

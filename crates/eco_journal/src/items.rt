@@ -21,7 +21,7 @@ const MOST: u64 = 1_000_000_000_000;
 const LAST_NODE: u64 = 4_294_967_295;
 
 /// An item by its words: a capacitance at a node, or a resistance between two.
-#[derive(Debug, Drop)]
+#[derive(Drop)]
 pub(crate) enum Item<'a> {
     Cap(Span<'a>, Span<'a>),
     Res(Span<'a>, Span<'a>, Span<'a>),

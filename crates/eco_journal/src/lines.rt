@@ -10,7 +10,7 @@ use std::marker::Model;
 use timing_defs::Items;
 
 /// A part of a text, and the place of its first byte in it.
-#[derive(Debug, Clone, Copy, Drop)]
+#[derive(Clone, Copy, Drop)]
 pub struct Span<'a> {
     pub text: &'a [u8],
     pub at: usize,
@@ -31,7 +31,7 @@ fn word_len(bytes: &[u8]) -> usize
 }
 
 /// The lines of a text that are left. Contracts see them as a list.
-#[derive(Debug, Drop)]
+#[derive(Drop)]
 pub struct Lines<'a> {
     rest: &'a [u8],
     at: usize,
@@ -84,7 +84,7 @@ impl<'a> Lines<'a> {
 }
 
 /// The words of a line that are left. Contracts see them as a list.
-#[derive(Debug, Drop)]
+#[derive(Drop)]
 struct Words<'a> {
     rest: &'a [u8],
     at: usize,

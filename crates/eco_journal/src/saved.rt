@@ -29,7 +29,7 @@ const ONE: u32 = 1_000_000;
 const FACTOR_LIMIT: u64 = 10_000_000;
 
 /// The head of a block: its first number stands or is flawed at a place, and its count.
-#[derive(Debug, Clone, Copy, Drop)]
+#[derive(Clone, Copy, Drop)]
 enum BlockHead {
     Plain(u128),
     Scaled { flaw: Option<usize>, count: u128 },

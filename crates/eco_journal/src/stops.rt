@@ -4,7 +4,7 @@ use sta_units::Memory;
 
 /// Why the words of a line give no value: want of memory, words of another form, or a number word,
 /// which begins at that byte, that is no number or out of its range.
-#[derive(Debug, Clone, Copy, PartialEq, Eq, Drop)]
+#[derive(Clone, Copy, Drop)]
 pub enum Stop {
     Memory,
     Unfit,

@@ -3,7 +3,7 @@
 ghost use Rattle.std.specs.Prelude.{◌≡◌, ◌+◌, ◌<◌, ◌≤◌, ◌^◌};
 
 /// Some pieces of a level that follow each other, by the number of the first.
-#[derive(Debug, Clone, Copy, PartialEq, Eq, Drop)]
+#[derive(Clone, Copy, Drop)]
 pub(crate) struct Pieces {
     pub(crate) level: u32,
     pub(crate) first: u32,
@@ -38,7 +38,7 @@ impl Pieces {
 const MOST: usize = 8;
 
 /// How the items of a level are cut, in order and evenly: into pieces, and these into blocks.
-#[derive(Debug, Clone, Copy, PartialEq, Eq, Drop)]
+#[derive(Clone, Copy, Drop)]
 pub(crate) struct Cut {
     blocks: usize,
     each: usize,

@@ -4,7 +4,7 @@ use sta_units::Memory;
 use timing_defs::Items;
 
 /// Why there are no levels: the nodes of a cycle in arc order, each once, or want of memory.
-#[derive(Debug, PartialEq, Eq, Drop)]
+#[derive(Debug, Drop)]
 pub enum LevelFault {
     /// An arc leads from each of these nodes to the next, and from the last to the first.
     Cycle(Items<u32>),

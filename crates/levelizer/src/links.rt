@@ -1,7 +1,7 @@
 //! Arcs between numbered nodes.
 
 /// An arc from a node to a node, by their numbers from 0.
-#[derive(Debug, Clone, Copy, PartialEq, Eq, Drop)]
+#[derive(Clone, Copy, Drop)]
 pub struct Link {
     pub from: u32,
     pub to: u32,

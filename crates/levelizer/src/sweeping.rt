@@ -14,7 +14,7 @@ use timing_defs::Items;
 
 /// What a sweep leaves: for each node how many arcs lead to it from nodes that still wait, and, where
 /// it does not wait, its level.
-#[derive(Debug, Drop)]
+#[derive(Drop)]
 pub(crate) struct Swept {
     pub(crate) levels: Vec<u32>,
     pub(crate) waiting: Vec<usize>,

@@ -6,14 +6,14 @@ use timing_defs::{Item, Items, Lexeme, Tree};
 
 /// What is read of a text: its tree, or the statements of its `library` group that have ended before
 /// the first fault, and that fault. Statements of groups that are still open are not among them.
-#[derive(Debug, Drop)]
+#[derive(Drop)]
 pub enum Reading {
     Whole(Tree),
     Broken { items: Items<Item>, wrong: Wrong },
 }
 
 /// Why a part of the reading stops: want of memory, or a fault.
-#[derive(Debug, Clone, Copy, PartialEq, Eq, Drop)]
+#[derive(Clone, Copy, Drop)]
 pub(crate) enum Stop {
     Memory,
     Fault(Wrong),
@@ -32,7 +32,7 @@ impl From<Memory> for Stop {
 
 /// What follows a list of arguments: a group's begin, or the attribute's end, with the token behind
 /// it where there is one.
-#[derive(Debug, Drop)]
+#[derive(Drop)]
 pub(crate) enum Tail<'a> {
     Begin,
     Ended(Option<Token<'a>>),
@@ -40,7 +40,7 @@ pub(crate) enum Tail<'a> {
 
 /// A statement up to its end: the begin of a group, or an attribute with the token behind it where
 /// there is one.
-#[derive(Debug, Drop)]
+#[derive(Drop)]
 pub(crate) enum Statement<'a> {
     Opening { word: Lexeme, args: Items<Lexeme> },
     Attribute { item: Item, next: Option<Token<'a>> },

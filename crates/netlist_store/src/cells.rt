@@ -13,7 +13,7 @@ use std::marker::Model;
 use timing_defs::{Cell, Library, Name};
 
 /// A library in which cells are found by their names. Contracts see the library.
-#[derive(Debug, Drop)]
+#[derive(Drop)]
 pub(crate) struct Cells {
     library: Library,
     places: IndexMap<Name, u32>,

@@ -8,7 +8,7 @@ use std::marker::Model;
 use std::sync::Arc;
 
 /// A value that several owners hold and none changes. Contracts see the value.
-#[derive(Debug, Drop)]
+#[derive(Drop)]
 pub(crate) struct Held<T> {
     held: Arc<T>,
 }

@@ -10,7 +10,7 @@ use timing_defs::{Cell, Inst};
 
 /// An instance, with the places where its cell is looked for first in the tables of both libraries.
 /// The places save a hash of the cell's name. Contracts see the instance.
-#[derive(Debug, Drop)]
+#[derive(Drop)]
 pub(crate) struct InstRow {
     inst: Inst,
     early: usize,

@@ -18,7 +18,7 @@ use timing_defs::Name;
 const SHARDS: usize = 131_101;
 
 /// The numbers of some names. Contracts see the pairs.
-#[derive(Debug, Drop)]
+#[derive(Drop)]
 pub(crate) struct Shard {
     numbers: IndexMap<Name, u32>,
 }
@@ -100,7 +100,7 @@ fn shard_of(name: &[u8]) -> usize
 
 /// A map from names to numbers. A copy shares each shard until one of the two changes it. Contracts
 /// see the shards.
-#[derive(Debug, Drop)]
+#[derive(Drop)]
 pub(crate) struct NameMap {
     shards: CowTable<Held<Shard>>,
     alloc: Global,

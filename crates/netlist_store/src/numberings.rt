@@ -20,7 +20,7 @@ const MOST: usize = 0x7fff_ffff;
 
 /// What a number stands for: a name, or nothing. A number whose name was taken out waits until the
 /// ECO ends; then it is a gap, which may be taken, and knows the next one.
-#[derive(Debug, Drop)]
+#[derive(Drop)]
 pub(crate) enum Slot {
     Named(Held<Name>),
     Waiting,
@@ -78,7 +78,7 @@ struct Choice {
 
 /// Names with numbers, distinct both ways. Contracts see what each number stands for. The number of
 /// a name that is taken out may be used again once the ECO ends: until then it is among `left`.
-#[derive(Debug, Drop)]
+#[derive(Drop)]
 pub(crate) struct Numbering {
     slots: CowTable<Slot>,
     numbers: NameMap,

@@ -13,7 +13,7 @@ use std::marker::Model;
 
 /// Distinct numbers in order. A new one stands last, and what goes leaves the rest in order.
 /// Contracts see the list.
-#[derive(Debug, Drop)]
+#[derive(Drop)]
 pub(crate) struct Roll {
     order: CowTable<Option<u32>>,
     places: CowTable<u32>,

@@ -23,7 +23,7 @@ use timing_defs::{Cell, Constraints, Design, Dir, Inst, Name, NetRc, Port, Split
 /// for each kind, the list of the names that the numbers stand for, with gaps. A name keeps its
 /// number from a base to the stores that edits make of it. An edit gives a new store and leaves
 /// its base as it is; the two share what the edit does not change.
-#[derive(Debug, Drop)]
+#[derive(Drop)]
 pub struct Store {
     pub(crate) frame: Held<Frame>,
     pub(crate) names: Names,

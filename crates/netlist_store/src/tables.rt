@@ -16,7 +16,7 @@ use std::alloc::Global;
 use timing_defs::{Constraints, Dir, Items, NetRc, Port};
 
 /// The parts of a design that no edit changes.
-#[derive(Debug, Drop)]
+#[derive(Drop)]
 pub(crate) struct Frame {
     pub early: Cells,
     pub late: Cells,
@@ -25,7 +25,7 @@ pub(crate) struct Frame {
 }
 
 /// The names of instances, nets and pins, with their numbers.
-#[derive(Debug, Drop)]
+#[derive(Drop)]
 pub(crate) struct Names {
     pub insts: Numbering,
     pub nets: Numbering,
@@ -57,7 +57,7 @@ impl Names {
 
 /// The orders of the lists of a design: the numbers of its instances, of its nets, and of the nets
 /// with parasitics.
-#[derive(Debug, Drop)]
+#[derive(Drop)]
 pub(crate) struct Orders {
     pub insts: Roll,
     pub nets: Roll,
@@ -78,7 +78,7 @@ impl Orders {
 
 /// What a store knows of a pin: the number of its instance (none for a port), the number of its
 /// net (none where it is open or tied), and its direction.
-#[derive(Debug, Clone, Copy)]
+#[derive(Clone, Copy)]
 pub(crate) struct PinRow {
     pub owner: Option<u32>,
     pub net: Option<u32>,
@@ -93,7 +93,7 @@ impl Again for PinRow {
 
 /// What is known of each number: its instance; of a net its parasitics and the numbers of its pins;
 /// of a pin its row.
-#[derive(Debug, Drop)]
+#[derive(Drop)]
 pub(crate) struct Rows {
     pub insts: CowTable<Option<Held<InstRow>>>,
     pub rcs: CowTable<Option<Held<NetRc>>>,

@@ -22,7 +22,7 @@ use timing_defs::{Conn, Edit, Items, Name};
 /// - A resize touches the instance, and the nets of its connections.
 /// - `Connect` and `Disconnect` touch the instance of their pin, and the net.
 /// - A buffer touches its own instance, its net and the new one; its sinks name no instance.
-#[derive(Debug, Clone, PartialEq, Eq, Drop)]
+#[derive(Drop)]
 pub struct Touched {
     pub insts: Items<Name>,
     pub nets: Items<Name>,

@@ -8,7 +8,7 @@ ghost use Rattle.timing_defs.specs.Lookup.{line};
 use sta_units::rnd;
 
 /// Two neighbouring entries of an axis, the lower first.
-#[derive(Debug, Clone, Copy, Drop)]
+#[derive(Clone, Copy, Drop)]
 pub struct Span {
     pub from: i64,
     pub to: i64,

@@ -24,7 +24,7 @@ pub struct ArcEnds<'a> {
 }
 
 /// The slew at the end of arcs and their delay, in fs; none where no arc leads there.
-#[derive(Debug, Clone, Copy, PartialEq, Eq, Drop)]
+#[derive(Clone, Copy, Drop)]
 pub struct ArcValues {
     pub slew: Option<i64>,
     pub delay: Option<i64>,

@@ -9,7 +9,7 @@ use std::alloc::Global;
 use timing_defs::Items;
 
 /// The delays of an arc in both splits, in fs; none where the arc brings nothing.
-#[derive(Debug, Clone, Copy, PartialEq, Eq, Drop)]
+#[derive(Clone, Copy, Drop)]
 pub struct BothDelays {
     pub early: Option<i64>,
     pub late: Option<i64>,

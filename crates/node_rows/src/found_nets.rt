@@ -11,14 +11,14 @@ use sta_units::Memory;
 use timing_defs::Items;
 
 /// The wire to a pin, by the pin's number.
-#[derive(Debug, Clone, Copy, Drop)]
+#[derive(Clone, Copy, Drop)]
 pub(crate) struct WireTo {
     pub(crate) pin: u32,
     pub(crate) wire: PinWire,
 }
 
 /// What is found of the number of a net: its loads, and the wires to its pins where it has resistors.
-#[derive(Debug, Drop)]
+#[derive(Drop)]
 pub(crate) struct FoundNet {
     pub(crate) load: NetLoad,
     pub(crate) wires: Items<WireTo>,

@@ -9,21 +9,21 @@ use std::alloc::Global;
 use timing_defs::Split;
 
 /// The loads of a net's driver in aF.
-#[derive(Debug, Clone, Copy, PartialEq, Eq, Drop)]
+#[derive(Clone, Copy, Drop)]
 pub struct NetLoad {
     pub early: Af,
     pub late: Af,
 }
 
 /// The delay of the wire from a net's driver to a sink in fs, and its impulse in fs².
-#[derive(Debug, Clone, Copy, PartialEq, Eq, Drop)]
+#[derive(Clone, Copy, Drop)]
 pub struct SinkWire {
     pub delay: Fs,
     pub impulse: u128,
 }
 
 /// The wire to a sink in both splits.
-#[derive(Debug, Clone, Copy, PartialEq, Eq, Drop)]
+#[derive(Clone, Copy, Drop)]
 pub struct PinWire {
     pub early: SinkWire,
     pub late: SinkWire,
@@ -31,7 +31,7 @@ pub struct PinWire {
 
 /// The loads of the nets of a store, and the wires to its pins, by their numbers. A pin without
 /// resistors on the way to it has no wire.
-#[derive(Debug, Drop)]
+#[derive(Drop)]
 pub struct Wires {
     pub(crate) loads: CowTable<NetLoad>,
     pub(crate) pins: CowTable<Option<PinWire>>,

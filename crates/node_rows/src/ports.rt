@@ -17,7 +17,7 @@ use timing_defs::{Constraints, Name, PortDelay, PortLoad, PortSlew, Split, Tran}
 
 /// When a port starts: the place of a clock in the list of clocks, and the delay in fs from its
 /// rise edge.
-#[derive(Debug, Clone, Copy, PartialEq, Eq, Drop)]
+#[derive(Clone, Copy, Drop)]
 pub(crate) struct Start {
     pub(crate) clock: u32,
     pub(crate) delay: Fs,

@@ -22,7 +22,7 @@ use std::alloc::Global;
 use timing_defs::{EdgeTimes, Fault, Items, NodeRow, Place, Split};
 
 /// The slew of a node in fs and its arrivals in one split, with what the arcs into it bring.
-#[derive(Debug, Drop)]
+#[derive(Drop)]
 pub(crate) struct SplitRow {
     pub(crate) slew: Option<Fs>,
     pub(crate) times: EdgeTimes,
@@ -30,7 +30,7 @@ pub(crate) struct SplitRow {
 }
 
 /// The row of a node, and the delays of the arcs into it, in the order of the nodes before it.
-#[derive(Debug, Drop)]
+#[derive(Drop)]
 pub struct RowAndDelays {
     pub row: NodeRow,
     pub delays: Items<BothDelays>,

@@ -9,7 +9,7 @@ use timing_defs::{NodeRow, Tran};
 
 /// A node: the number of its pin in a store, its transition, and whether its pin is on the clock
 /// network.
-#[derive(Debug, Clone, Copy, PartialEq, Eq, Drop)]
+#[derive(Clone, Copy, Drop)]
 pub struct NodeAt {
     pub pin: u32,
     pub tran: Tran,

@@ -5,7 +5,7 @@ use sta_units::Memory;
 use std::alloc::AllocError;
 
 /// A quantity leaves its limit, or memory is wanting.
-#[derive(Debug, Clone, Copy, PartialEq, Eq, Drop)]
+#[derive(Clone, Copy, Drop)]
 pub(crate) enum Unfit {
     Range,
     Memory,

@@ -22,7 +22,7 @@ use worst_walks::WalkArc;
 /// arcs into each place, `arcs[starts[place]..starts[place + 1]]`, which lead from higher places to
 /// lower ones. Delays are in fs: of setup tests the late ones, of hold tests the early ones with their
 /// signs turned.
-#[derive(Debug, Clone, PartialEq, Eq, Drop)]
+#[derive(Drop)]
 pub struct FanIn {
     pub nodes: Items<u32>,
     pub starts: Items<u32>,
@@ -30,7 +30,7 @@ pub struct FanIn {
 }
 
 /// The fan-in cones of an endpoint for tests of both kinds.
-#[derive(Debug, Clone, PartialEq, Eq, Drop)]
+#[derive(Drop)]
 pub struct FanIns {
     pub setup: FanIn,
     pub hold: FanIn,

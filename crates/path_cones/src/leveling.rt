@@ -14,7 +14,7 @@ use std::alloc::Global;
 use timing_defs::Items;
 
 /// A node, with how far its level is below the greatest number.
-#[derive(Debug, Clone, Copy, Drop)]
+#[derive(Clone, Copy, Drop)]
 pub(crate) struct Leveled {
     pub(crate) depth: u32,
     pub(crate) node: u32,

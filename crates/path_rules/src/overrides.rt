@@ -8,7 +8,7 @@ use timing_defs::{Capture, Constraints, Effect, Exception, Launch};
 
 /// What the exceptions say of the paths from a launch to a capture: whether setup and hold are
 /// tested, and the numbers of cycles of each.
-#[derive(Debug, Clone, Copy, PartialEq, Eq, Drop)]
+#[derive(Clone, Copy, Drop)]
 pub struct Rule {
     pub setup_tested: bool,
     pub hold_tested: bool,

@@ -25,14 +25,14 @@ use worst_walks::{Cone, Launch, WalkEnd};
 
 /// The cone of a pin's two nodes with the launches of the paths to each, and the graph's numbers of its
 /// nodes by their places.
-#[derive(Debug, Drop)]
+#[derive(Drop)]
 pub(crate) struct PinCone {
     pub(crate) nodes: Items<u32>,
     pub(crate) cone: Cone,
 }
 
 /// The numbers of an endpoint's two nodes.
-#[derive(Debug, Clone, Copy, Drop)]
+#[derive(Clone, Copy, Drop)]
 pub(crate) struct EndNodes {
     pub(crate) rise: u32,
     pub(crate) fall: u32,

@@ -28,7 +28,7 @@ use timing_defs::{Kind, Rows, Tran};
 
 /// What a path holds of its launch node and of the test by which it counts: the launch edge, the launch
 /// node's arrival there, the capture edge, and the credit.
-#[derive(Debug, Clone, Copy, Drop)]
+#[derive(Clone, Copy, Drop)]
 pub(crate) struct Counted {
     pub(crate) launch_clock: u32,
     pub(crate) launch_tran: Tran,
@@ -39,7 +39,7 @@ pub(crate) struct Counted {
 }
 
 /// A test that is chosen, with the place of its clock pin's node in the clock tree.
-#[derive(Debug, Clone, Copy, Drop)]
+#[derive(Clone, Copy, Drop)]
 pub(crate) struct Chosen {
     pub(crate) test: NodeTest,
     pub(crate) place: Option<u32>,

@@ -13,7 +13,7 @@ use sta_units::Fs;
 use timing_defs::{NodeRow, Split, Tran};
 
 /// A launch edge: a clock's place in the list of clocks, and a transition.
-#[derive(Debug, Clone, Copy, PartialEq, Eq, Drop)]
+#[derive(Clone, Copy, Drop)]
 pub struct LaunchEdge {
     pub clock: u32,
     pub tran: Tran,

@@ -19,7 +19,7 @@ use timing_defs::{Capture, Fault, Items, Kind, Rows};
 
 /// A test of an end node: what captures there, and the place of the clock pin's node in the clock tree
 /// (none at an output port).
-#[derive(Debug, Drop)]
+#[derive(Drop)]
 pub(crate) struct EndTest {
     pub(crate) test: NodeTest,
     pub(crate) capture: Capture,

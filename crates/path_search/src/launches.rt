@@ -22,7 +22,7 @@ use timing_defs::{EdgeTime, Kind, Launch, NodeRow, Rows, Split, Tran};
 
 /// A launch node: what it launches, the transition of its launch edge, its arrival there in fs, and its
 /// place in the clock tree (none outside the clock network).
-#[derive(Debug, Drop)]
+#[derive(Drop)]
 pub(crate) struct LaunchNode {
     pub(crate) launch: Launch,
     pub(crate) tran: Tran,
@@ -31,7 +31,7 @@ pub(crate) struct LaunchNode {
 }
 
 /// The launch edge of a node, and its arrival there in fs.
-#[derive(Debug, Clone, Copy, Drop)]
+#[derive(Clone, Copy, Drop)]
 pub(crate) struct LaunchTime {
     pub(crate) edge: LaunchEdge,
     pub(crate) time: Fs,

@@ -11,7 +11,7 @@ use std::alloc::Global;
 use timing_defs::Name;
 
 /// The name of a pin, and that of its instance (none for a port).
-#[derive(Debug, Drop)]
+#[derive(Drop)]
 pub(crate) struct PinNames {
     pub(crate) pin: Name,
     pub(crate) cell: Option<Name>,

@@ -22,21 +22,21 @@ use timing_defs::{Items, Rows};
 use worst_walks::Launch;
 
 /// The tests of a pin's two nodes.
-#[derive(Debug, Drop)]
+#[derive(Drop)]
 struct PinTests {
     rise: Items<EndTest>,
     fall: Items<EndTest>,
 }
 
 /// What a node offers for the tests of a pin's two nodes.
-#[derive(Debug, Drop)]
+#[derive(Drop)]
 struct NodeOffers {
     rise: Option<i64>,
     fall: Option<i64>,
 }
 
 /// What the nodes of a list offer for a pin's two nodes.
-#[derive(Debug, Drop)]
+#[derive(Drop)]
 pub(crate) struct PinOffers {
     pub(crate) rise: Items<Launch>,
     pub(crate) fall: Items<Launch>,

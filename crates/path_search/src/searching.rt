@@ -29,7 +29,7 @@ use timing_defs::{Kind, Name, Path, Rows};
 use worst_walks::{Walk, least_slack, worst_walk};
 
 /// The slacks of an endpoint in fs; none of a kind of which no path to it is tested.
-#[derive(Debug, Clone, Copy, PartialEq, Eq, Drop)]
+#[derive(Clone, Copy, Drop)]
 pub struct EndpointSlacks {
     pub setup: Option<Fs>,
     pub hold: Option<Fs>,

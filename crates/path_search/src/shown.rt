@@ -206,7 +206,7 @@ fn add_rest(
 
 /// What a walk is read by: the places of its launch and its end node, the numbers of these nodes in the
 /// graph, and what the launch offers.
-#[derive(Debug, Clone, Copy, Drop)]
+#[derive(Clone, Copy, Drop)]
 pub(crate) struct Ends {
     pub(crate) launch: u32,
     pub(crate) end: u32,

@@ -12,7 +12,7 @@ use timing_defs::Items;
 
 /// A clock tree, or several beside each other: each parent stands before its children. Contracts
 /// see the list of its rows.
-#[derive(Debug, Drop)]
+#[derive(Drop)]
 pub struct ClockTree {
     rows: Items<TreeRow>,
 }

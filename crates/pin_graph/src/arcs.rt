@@ -1,7 +1,7 @@
 //! Arcs between nodes.
 
 /// What an arc is of.
-#[derive(Debug, Clone, Copy, PartialEq, Eq, Drop)]
+#[derive(Clone, Copy, Drop)]
 pub enum GraphKind {
     /// From a net's driver to a sink.
     Net,
@@ -12,7 +12,7 @@ pub enum GraphKind {
 }
 
 /// An arc from one node to another, both by their numbers.
-#[derive(Debug, Clone, Copy, PartialEq, Eq, Drop)]
+#[derive(Clone, Copy, Drop)]
 pub struct GraphArc {
     pub from: u32,
     pub to: u32,

@@ -29,7 +29,7 @@ use timing_defs::{Fault, Items, Name, Tran};
 /// The timing graph of a store's design, over the numbers of nodes. Contracts see the store and, by
 /// number, the arcs into and out of each node, its level, its place, and which pins are of the clock
 /// network.
-#[derive(Debug, Drop)]
+#[derive(Drop)]
 pub struct Graph {
     store: Store,
     ins: Fan,
@@ -50,7 +50,7 @@ impl Model for Graph {
 }
 
 /// What is found of nodes.
-#[derive(Debug, Drop)]
+#[derive(Drop)]
 struct NodeGraph {
     ins: Fan,
     outs: Fan,

@@ -210,7 +210,7 @@ fn turned_links(alloc: Global, links: &[Link]) -> Result<Items<Link>, Memory>
 }
 
 /// The pins that the clocks' ports reach, and those that reach registers' clock pins.
-#[derive(Debug, Drop)]
+#[derive(Drop)]
 pub(crate) struct Reaches {
     pub(crate) from_clocks: Items<bool>,
     pub(crate) to_registers: Items<bool>,

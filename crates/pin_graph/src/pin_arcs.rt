@@ -17,7 +17,7 @@ use timing_defs::{ArcKind, Cell, CellArc, CellPin, Inst, Items, Name, Split, Tra
 const FEW: usize = 16;
 
 /// An arc of an instance's cell, between two of its pins by their numbers.
-#[derive(Debug, Clone, Copy, Drop)]
+#[derive(Clone, Copy, Drop)]
 pub(crate) struct PinArc {
     pub(crate) from: u32,
     pub(crate) from_tran: Tran,

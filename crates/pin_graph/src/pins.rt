@@ -19,7 +19,7 @@ use std::alloc::Global;
 use timing_defs::{Fault, Items};
 
 /// What is kept for each pin's number, and the arcs of cells.
-#[derive(Debug, Drop)]
+#[derive(Drop)]
 pub(crate) struct PinGraph {
     /// The pin from which a net arc leads to this one.
     pub(crate) befores: Items<Option<u32>>,

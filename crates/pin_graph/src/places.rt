@@ -80,7 +80,7 @@ fn ports_nodes(alloc: Global, network: &[bool], ports: &[u32]) -> Result<Items<u
 }
 
 /// A node and its level.
-#[derive(Debug, Clone, Copy, Drop)]
+#[derive(Clone, Copy, Drop)]
 pub(crate) struct AtLevel {
     pub(crate) level: u32,
     pub(crate) node: u32,

@@ -16,7 +16,7 @@ use std::alloc::Global;
 use timing_defs::{ArcKind, Fault, Items, Name, Tran};
 
 /// How an arc enters a pin: from which pin, and whether it keeps the transition.
-#[derive(Debug, Clone, Copy, Drop)]
+#[derive(Clone, Copy, Drop)]
 pub(crate) struct Entry {
     pub(crate) from: u32,
     pub(crate) keeps: bool,

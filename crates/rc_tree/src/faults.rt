@@ -4,7 +4,7 @@ use sta_units::Memory;
 use std::alloc::AllocError;
 
 /// The first fault of a net's parasitics, in this order; or want of memory.
-#[derive(Debug, Clone, Copy, PartialEq, Eq, Drop)]
+#[derive(Clone, Copy, Drop)]
 pub enum RcFault {
     /// Resistors close a loop.
     Loop,

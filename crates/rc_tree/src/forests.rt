@@ -13,7 +13,7 @@ use std::alloc::Global;
 
 /// A place of a forest: its node, the place of its parent (none at the first place of a part), the
 /// segment to the parent with its resistance in mΩ, and the first place of its part.
-#[derive(Debug, Clone, Copy, PartialEq, Eq, Drop)]
+#[derive(Clone, Copy, Drop)]
 pub(crate) struct Row {
     pub(crate) node: usize,
     pub(crate) parent: Option<usize>,
@@ -24,14 +24,14 @@ pub(crate) struct Row {
 
 /// A forest: rows in the order in which they were found, parents before their children, and the place
 /// of each node that was found.
-#[derive(Debug, Drop)]
+#[derive(Drop)]
 pub(crate) struct Forest {
     pub(crate) rows: Vec<Row>,
     pub(crate) places: Vec<Option<usize>>,
 }
 
 /// A step from a place of the part `home`, over a segment to a node.
-#[derive(Debug, Clone, Copy, Drop)]
+#[derive(Clone, Copy, Drop)]
 struct Step {
     place: usize,
     home: usize,

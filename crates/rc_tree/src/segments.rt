@@ -13,7 +13,7 @@ use std::alloc::Global;
 use timing_defs::{Items, RcRes};
 
 /// A resistor between two nodes by their numbers, in mΩ.
-#[derive(Debug, Clone, Copy, PartialEq, Eq, Drop)]
+#[derive(Clone, Copy, Drop)]
 pub(crate) struct Segment {
     pub(crate) a: usize,
     pub(crate) b: usize,

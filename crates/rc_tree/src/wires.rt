@@ -13,7 +13,7 @@ use std::alloc::Global;
 use timing_defs::Items;
 
 /// The delay of the wire to a node in fs, and its impulse in fs².
-#[derive(Debug, Clone, Copy, PartialEq, Eq, Drop)]
+#[derive(Clone, Copy, Drop)]
 pub(crate) struct Wire {
     pub(crate) delay: i64,
     pub(crate) impulse: u128,

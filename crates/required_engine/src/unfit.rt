@@ -3,7 +3,7 @@
 use sta_units::Memory;
 
 /// A required time leaves its limit, or memory is wanting.
-#[derive(Debug, Clone, Copy, PartialEq, Eq, Drop)]
+#[derive(Clone, Copy, Drop)]
 pub(crate) enum Unfit {
     Range,
     Memory,

@@ -19,7 +19,7 @@ const LOOK_LIMIT: u64 = 1_000;
 const WORST_LIMIT: u64 = 100;
 
 /// A node: a pin, a split and a transition.
-#[derive(Debug, Drop)]
+#[derive(Drop)]
 struct Node {
     pin: Name,
     split: Split,

@@ -16,7 +16,7 @@ use timing_defs::{Command, Edit};
 
 /// What a line says: nothing, the begin or the end of a group, an edit, another command, or none of
 /// these.
-#[derive(Debug, Drop)]
+#[derive(Drop)]
 pub(crate) enum Said {
     Passed,
     Begin,

@@ -27,7 +27,7 @@ const COMMAND_LIMIT: usize = 10_000;
 const EDIT_LIMIT: usize = 1_000;
 
 /// The commands so far, and the least fault.
-#[derive(Debug, Drop)]
+#[derive(Drop)]
 struct Progress {
     commands: Items<Command>,
     fault: Option<Wrong>,
@@ -35,7 +35,7 @@ struct Progress {
 
 /// Where a line stands: outside a group, in the group that began at a line with its edits so far, or
 /// behind a line that is no command.
-#[derive(Debug, Drop)]
+#[derive(Drop)]
 enum State {
     Outside(Progress),
     Group(usize, Items<Edit>, Progress),

@@ -8,7 +8,7 @@ use crate::words::{gets_objects, is};
 use timing_defs::Code;
 
 /// A command that is read.
-#[derive(Debug, Clone, Copy, PartialEq, Eq, Drop)]
+#[derive(Clone, Copy, Drop)]
 pub(crate) enum Command {
     CreateClock,
     InputDelay,
@@ -23,7 +23,7 @@ pub(crate) enum Command {
 }
 
 /// An option without a value that has an effect.
-#[derive(Debug, Clone, Copy, PartialEq, Eq, Drop)]
+#[derive(Clone, Copy, Drop)]
 pub(crate) enum Flag {
     Min,
     Max,
@@ -41,7 +41,7 @@ pub(crate) enum Flag {
 
 /// What a written number is. Times are in the unit of time and loads in that of capacitance; cycles
 /// and the factors of derates have no unit.
-#[derive(Debug, Clone, Copy, PartialEq, Eq, Drop)]
+#[derive(Clone, Copy, Drop)]
 pub(crate) enum Quantity {
     Period,
     WaveRise,
@@ -55,7 +55,7 @@ pub(crate) enum Quantity {
 
 /// What objects are named for: the ports or the clocks that a command sets, the one clock of a
 /// delay, or the begin or the end of paths.
-#[derive(Debug, Clone, Copy, PartialEq, Eq, Drop)]
+#[derive(Clone, Copy, Drop)]
 pub(crate) enum Role {
     Ports,
     Clocks,
@@ -65,7 +65,7 @@ pub(crate) enum Role {
 }
 
 /// How objects are written: by name alone, or in brackets behind a command that gets them.
-#[derive(Debug, Clone, Copy, PartialEq, Eq, Drop)]
+#[derive(Clone, Copy, Drop)]
 pub(crate) enum Getter {
     Plain,
     Ports,
@@ -75,7 +75,7 @@ pub(crate) enum Getter {
 }
 
 /// What an option of a command means.
-#[derive(Debug, Clone, Copy, PartialEq, Eq, Drop)]
+#[derive(Clone, Copy, Drop)]
 pub(crate) enum Choice {
     /// It has no value.
     Flag(Flag),
@@ -102,7 +102,7 @@ pub(crate) enum Choice {
 }
 
 /// What the next plain word of a command stands for.
-#[derive(Debug, Clone, Copy, PartialEq, Eq, Drop)]
+#[derive(Clone, Copy, Drop)]
 pub(crate) enum Asked {
     Number(Quantity),
     Objects(Role),
@@ -111,7 +111,7 @@ pub(crate) enum Asked {
 
 /// What was read of a command: whether its number and its objects were written, which of the options
 /// that exclude each other, and where `-start` stands first.
-#[derive(Debug, Clone, Copy, PartialEq, Eq, Drop)]
+#[derive(Clone, Copy, Drop)]
 pub(crate) struct Line {
     pub command: Command,
     pub number: bool,
@@ -124,7 +124,7 @@ pub(crate) struct Line {
 
 /// A list of objects of a command: what they are named for, how they are written, and whether the
 /// list stands in brackets.
-#[derive(Debug, Clone, Copy, PartialEq, Eq, Drop)]
+#[derive(Clone, Copy, Drop)]
 pub(crate) struct Listing {
     pub line: Line,
     pub role: Role,
@@ -133,7 +133,7 @@ pub(crate) struct Listing {
 }
 
 /// More of a command: what was read of it, and whether a word that is passed over may stand next.
-#[derive(Debug, Clone, Copy, PartialEq, Eq, Drop)]
+#[derive(Clone, Copy, Drop)]
 pub(crate) struct More {
     pub line: Line,
     pub passes_word: bool,

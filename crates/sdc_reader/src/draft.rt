@@ -13,7 +13,7 @@ use std::alloc::Global;
 use timing_defs::{Items, Name, Object};
 
 /// A written number in its unit, or why there is none.
-#[derive(Debug, Clone, Copy, PartialEq, Eq, Drop)]
+#[derive(Clone, Copy, Drop)]
 pub(crate) enum Figure {
     /// None was written.
     Absent,
@@ -24,7 +24,7 @@ pub(crate) enum Figure {
 }
 
 /// The options without a value that were written. `-min` is early, `-max` is late.
-#[derive(Debug, Clone, Copy, PartialEq, Eq, Drop)]
+#[derive(Clone, Copy, Drop)]
 pub(crate) struct Flags {
     pub early: bool,
     pub late: bool,
@@ -37,7 +37,7 @@ pub(crate) struct Flags {
 }
 
 /// The list of a waveform: the place where it begins, its rise and its fall.
-#[derive(Debug, Clone, Copy, PartialEq, Eq, Drop)]
+#[derive(Clone, Copy, Drop)]
 pub(crate) struct Wave {
     pub at: Option<usize>,
     pub rise: Figure,
@@ -45,7 +45,7 @@ pub(crate) struct Wave {
 }
 
 /// A command that is being read: the place where it begins and what its options and words said last.
-#[derive(Debug, Drop)]
+#[derive(Drop)]
 pub(crate) struct Draft {
     pub command: Command,
     pub at: usize,

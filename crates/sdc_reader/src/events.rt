@@ -5,7 +5,7 @@ use sta_text::Wrong;
 use timing_defs::Name;
 
 /// A thing that the text writes. Numbers are the offsets of first bytes.
-#[derive(Debug, Drop)]
+#[derive(Drop)]
 pub(crate) enum Event {
     /// A command begins.
     Begin(Command, usize),

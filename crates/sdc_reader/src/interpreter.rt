@@ -20,7 +20,7 @@ use timing_defs::{Clock, Constraints, Derates, Exception, Items, Name, Units};
 const NO_DERATE: u32 = 1_000_000;
 
 /// What the commands so far have set, and the command that is being read.
-#[derive(Debug, Drop)]
+#[derive(Drop)]
 pub(crate) struct Interpreter {
     pub units: Units,
     pub draft: Draft,

@@ -12,7 +12,7 @@ use timing_defs::{Items, Name, PortDelay, PortLoad, PortSlew, Split, Tran};
 
 /// A port with a split, late or early, and a transition, fall or rise. A load has no transition; it
 /// stands under rise.
-#[derive(Debug, PartialEq, Eq, Hash, Drop)]
+#[derive(PartialEq, Eq, Hash, Drop)]
 pub(crate) struct Corner {
     pub port: Name,
     pub late: bool,
@@ -20,7 +20,7 @@ pub(crate) struct Corner {
 }
 
 /// A value in fs or aF, and the place of its clock from 0; a slew or a load has place 0.
-#[derive(Debug, Clone, Copy, PartialEq, Eq, Drop)]
+#[derive(Clone, Copy, Drop)]
 pub(crate) struct Amount {
     pub clock: u32,
     pub value: i64,
@@ -28,7 +28,7 @@ pub(crate) struct Amount {
 
 /// Values at corners of ports. Contracts see the list of its pairs, in the order in which the
 /// corners were first written. A look-up takes constant time on average.
-#[derive(Debug, Drop)]
+#[derive(Drop)]
 pub(crate) struct PortTable {
     amounts: IndexMap<Corner, Amount>,
 }

@@ -20,7 +20,7 @@ use timing_defs::{Entry, Items, Script};
 /// `first` is at most `2^62`, there are 1 to 16 scripts and as many sessions, and each session is
 /// within its script: its next command is one of the script or comes after the last, it holds a
 /// version where it has looked, and a draft is that of an ECO on the version that is held.
-#[derive(Debug, Drop)]
+#[derive(Drop)]
 pub struct Core {
     pub first: u64,
     pub entries: Items<Entry>,

@@ -5,7 +5,7 @@
 /// - `Level`: the level `level` of its draft, counted from 0, is merged.
 /// - `Publish`: its draft is published, or begins again where others published in between.
 /// - `Answer`: its next command is answered.
-#[derive(Debug, Clone, Copy, PartialEq, Eq, Drop)]
+#[derive(Clone, Copy, Drop)]
 pub enum Event {
     Take { session: u32 },
     Level { session: u32, level: u64 },

@@ -4,7 +4,7 @@ use timing_defs::Items;
 
 /// The sort of a row, apart from what it tells. `NotYet` has the numbers of the looks that it counts,
 /// and `Asked` is the row of a report.
-#[derive(Debug, Clone, PartialEq, Eq, Drop)]
+#[derive(Drop)]
 pub enum RowSort {
     Taken,
     Reached,
@@ -16,7 +16,7 @@ pub enum RowSort {
 
 /// The row of a command: its place in the script from 1, the number of the version that it answers
 /// for, and its sort.
-#[derive(Debug, Clone, PartialEq, Eq, Drop)]
+#[derive(Drop)]
 pub struct CoreRow {
     pub command: u32,
     pub number: u64,
@@ -24,7 +24,7 @@ pub struct CoreRow {
 }
 
 /// A draft of an ECO: the number of the version that it changes, and how many levels are merged.
-#[derive(Debug, Clone, Copy, PartialEq, Eq, Drop)]
+#[derive(Clone, Copy, Drop)]
 pub struct CoreDraft {
     pub base: u64,
     pub levels: u64,
@@ -32,7 +32,7 @@ pub struct CoreDraft {
 
 /// A session: the place of its next command from 1, the number of the version that it holds, the
 /// numbers that it looked at since its last row, its draft, and its rows in order.
-#[derive(Debug, Clone, PartialEq, Eq, Drop)]
+#[derive(Drop)]
 pub struct CoreSession {
     pub next: u32,
     pub held: Option<u64>,

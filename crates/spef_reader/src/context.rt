@@ -4,7 +4,7 @@ use crate::name_map::NameMap;
 use sta_units::Unit;
 
 /// The bytes that stand for `[` and `]` in names.
-#[derive(Debug, Clone, Copy, PartialEq, Eq, Drop)]
+#[derive(Clone, Copy, Drop)]
 pub(crate) struct Bus {
     pub opening: Option<u8>,
     pub closing: Option<u8>,
@@ -12,7 +12,7 @@ pub(crate) struct Bus {
 
 /// What the header says: the byte between an instance and its pin, the marks of buses, the units of
 /// capacitances in aF and of resistances in mΩ.
-#[derive(Debug, Clone, Copy, PartialEq, Eq, Drop)]
+#[derive(Clone, Copy, Drop)]
 pub(crate) struct Header {
     pub delimiter: Option<u8>,
     pub bus: Bus,
@@ -21,7 +21,7 @@ pub(crate) struct Header {
 }
 
 /// What a unit of the header measures.
-#[derive(Debug, Clone, Copy, PartialEq, Eq, Drop)]
+#[derive(Clone, Copy, Drop)]
 pub(crate) enum Measure {
     Capacitance,
     Resistance,
@@ -29,7 +29,7 @@ pub(crate) enum Measure {
 }
 
 /// The length of the text, and what the header and the name map have said so far.
-#[derive(Debug, Drop)]
+#[derive(Drop)]
 pub(crate) struct Context<'a> {
     pub size: usize,
     pub header: Header,

@@ -6,7 +6,7 @@ use timing_defs::{Name, RcNode};
 
 /// A thing that the text writes. A name, a node or a value is none where it has a fault, or where
 /// the header lacks what it needs.
-#[derive(Debug, Drop)]
+#[derive(Drop)]
 pub(crate) enum Event {
     /// A net begins: the offset of its section, its name, and the offset of that name.
     Net(usize, Option<Name>, usize),

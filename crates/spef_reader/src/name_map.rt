@@ -26,7 +26,7 @@ fn map_set<'a>(
 
 /// The words that indexes stand for. Contracts see the list of its rows. A look-up takes
 /// constant time on average.
-#[derive(Debug, Drop)]
+#[derive(Drop)]
 pub(crate) struct NameMap<'a> {
     rows: IndexMap<&'a [u8], &'a [u8]>,
 }

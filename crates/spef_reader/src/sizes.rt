@@ -6,7 +6,7 @@ ghost use Rattle.sta_units.specs.Numbers.{limit};
 use std::marker::Model;
 
 /// A capacitance in aF or a resistance in mΩ, from 0 to 10^12.
-#[derive(Debug, Drop)]
+#[derive(Drop)]
 pub(crate) struct Size {
     number: u64,
 }

@@ -19,7 +19,7 @@ use std::marker::Model;
 use timing_defs::{Code, Sort, Style};
 
 /// Why the reading of a text stops: want of memory, or a fault, which is the last event.
-#[derive(Debug, Clone, Copy, PartialEq, Eq, Drop)]
+#[derive(Clone, Copy, Drop)]
 pub(crate) enum Stop {
     Memory,
     Refused,
@@ -48,7 +48,7 @@ impl<T: Drop> From<AllocFailed<T>> for Stop {
 }
 
 /// The tokens that are left, with a look at the first. Contracts see their list.
-#[derive(Debug, Drop)]
+#[derive(Drop)]
 pub(crate) struct Tokens<'a> {
     first: Option<Token<'a>>,
     behind: Cursor<'a>,

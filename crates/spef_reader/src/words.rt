@@ -13,7 +13,7 @@ use sta_units::Memory;
 use std::alloc::Global;
 
 /// The sides of a node's word: a port alone, or an instance and its pin, or a net and a number.
-#[derive(Debug, Clone, Copy, Drop)]
+#[derive(Clone, Copy, Drop)]
 pub(crate) enum Sides<'a> {
     Alone(&'a [u8]),
     Joined(&'a [u8], &'a [u8]),

@@ -24,7 +24,7 @@ pub trait Gate: Sync {
 }
 
 /// The gate that holds nobody.
-#[derive(Debug, Clone, Copy, Drop)]
+#[derive(Clone, Copy, Drop)]
 pub struct NoGate;
 
 impl Gate for NoGate {

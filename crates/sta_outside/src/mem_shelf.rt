@@ -12,7 +12,7 @@ use crate::shelf::{DOCUMENT_LIMIT, Fetch, Shelf};
 use std::alloc::Global;
 
 /// A shelf in memory, which tells its documents, and fails at the calls that are planned.
-#[derive(Debug, Drop)]
+#[derive(Drop)]
 pub struct MemShelf {
     names: Vec<String>,
     docs: Vec<Vec<u8>>,

@@ -12,7 +12,7 @@ use std::alloc::Global;
 
 /// A sink in memory with room for a stated number of bytes, which tells them, and fails at the
 /// puts that are planned.
-#[derive(Debug, Drop)]
+#[derive(Drop)]
 pub struct MemSink {
     bytes: Vec<u8>,
     room: usize,

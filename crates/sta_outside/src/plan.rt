@@ -5,7 +5,7 @@ ghost use Rattle.sta_outside.specs.Plan.{next_fails, after_call, with_fault};
 
 /// The calls that fail, by their numbers from 1, with the calls and the faults so far. Both
 /// counts stand still at `2^64 - 1`.
-#[derive(Debug, Drop)]
+#[derive(Drop)]
 pub(crate) struct Plan {
     pub(crate) fails: Vec<u64>,
     pub(crate) calls: u64,

@@ -7,7 +7,7 @@ ghost use Rattle.sta_text.specs.Bytes.{begins, is_blank, is_white, line_end_len,
 
 /// A kind of word: one of Liberty, a hierarchical name of SPEF, and in Tcl a word of a command, of
 /// a list in braces, or inside brackets.
-#[derive(Debug, Clone, Copy, PartialEq, Eq, Drop)]
+#[derive(Clone, Copy, Drop)]
 pub(crate) enum WordSort {
     Attribute,
     Hierarchical,

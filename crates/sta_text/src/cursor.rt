@@ -34,7 +34,7 @@ use timing_defs::{Sort, Style};
 ///   `//` and `/* */` begin also within a word, unless behind a backslash.
 /// - Script: words of graphic bytes, and line feeds as line ends. A carriage return is `Bad`.
 ///   Comments are the reader's.
-#[derive(Debug, Drop)]
+#[derive(Drop)]
 pub struct Cursor<'a> {
     style: Style,
     context: Context,

@@ -6,7 +6,7 @@ ghost use Rattle.sta_text.specs.Faults.{rank, is_before, lesser, told_fault};
 use timing_defs::{Code, ReadFault};
 
 /// A fault of a text, with the offset of the byte where it stands.
-#[derive(Debug, Clone, Copy, PartialEq, Eq, Drop)]
+#[derive(Clone, Copy, Drop)]
 pub struct Wrong {
     pub code: Code,
     pub at: usize,

@@ -39,7 +39,7 @@ fn set_add<'a>(names: &mut IndexSet<&'a [u8]>, name: &'a [u8]) -> Result<bool, M
 
 /// A set of names that are kept elsewhere, as slices of a text. Contracts see the list of its names
 /// in the order in which they were added. A look-up takes constant time on average.
-#[derive(Debug, Drop)]
+#[derive(Drop)]
 pub struct Names<'a> {
     names: IndexSet<&'a [u8]>,
 }

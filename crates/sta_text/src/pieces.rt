@@ -12,7 +12,7 @@ use timing_defs::{Sort, Style};
 
 /// Where a piece stands: at the begin of a line (in Tcl, where a command may begin), within it, in
 /// a list in braces, in brackets, or in a list in brackets.
-#[derive(Debug, Clone, Copy, PartialEq, Eq, Drop)]
+#[derive(Clone, Copy, Drop)]
 pub(crate) enum Context {
     Fresh,
     Within,
@@ -23,7 +23,7 @@ pub(crate) enum Context {
 
 /// A piece of a text: how many bytes it has behind its first one, its sort where it is a token, and
 /// where the next piece stands.
-#[derive(Debug, Clone, Copy, Drop)]
+#[derive(Clone, Copy, Drop)]
 pub(crate) struct Piece {
     pub more: usize,
     pub sort: Option<Sort>,

@@ -29,7 +29,7 @@ fn map_set<'a>(
 /// A map from names that are kept elsewhere, as slices of a text, to numbers. Contracts see the list
 /// of its pairs in the order in which the names were first set. A look-up takes constant time on
 /// average.
-#[derive(Debug, Drop)]
+#[derive(Drop)]
 pub struct Places<'a> {
     numbers: IndexMap<&'a [u8], usize>,
 }

@@ -8,7 +8,7 @@ use timing_defs::Sort;
 
 /// A token: its slice of the source, the offsets of its first byte and of the one behind its last,
 /// and its sort. A quoted string has its quotes in its text.
-#[derive(Debug, Clone, Copy, Drop)]
+#[derive(Clone, Copy, Drop)]
 pub struct Token<'a> {
     pub text: &'a [u8],
     pub start: usize,

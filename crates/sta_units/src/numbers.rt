@@ -86,28 +86,3 @@ pub fn root(n: u128) -> u64
         Err(_) => wide_root(n),
     }
 }
-
-#[cfg(test)]
-mod tests {
-    use super::*;
-
-    #[test]
-    fn rounds_halves_upward(rt: HostRuntime) {
-        assert_eq!(rt; rnd(5, 2), 3);
-        assert_eq!(rt; rnd(-5, 2), -2);
-        assert_eq!(rt; rnd(-1, 2), 0);
-        assert_eq!(rt; rnd(7, 5), 1);
-    }
-
-    #[test]
-    fn roots_are_whole(rt: HostRuntime) {
-        for (n, want) in [
-            (0, 0),
-            (24, 4),
-            (25, 5),
-            (2_500_000_000 + 1_400_000_000, 62_449),
-        ] {
-            assert_eq!(rt; root(n), want, "at {n}");
-        }
-    }
-}

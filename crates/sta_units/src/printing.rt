@@ -32,24 +32,3 @@ pub fn print_ps(alloc: Global, v: Fs) -> Result<String, Memory>
     }
     Ok(text)
 }
-
-#[cfg(test)]
-mod tests {
-    use super::*;
-
-    #[test]
-    fn prints_picoseconds(rt: HostRuntime) -> Result<(), Memory> {
-        for (fs, want) in [
-            (-2, "-0.002"),
-            (0, "0.000"),
-            (999, "0.999"),
-            (1000, "1.000"),
-            (-1_234_567, "-1234.567"),
-            (1_000_000_000_000, "1000000000.000"),
-        ] {
-            let text = print_ps(rt.alloc(), Fs(fs))?;
-            assert_eq!(rt; text.as_str(), want);
-        }
-        Ok(())
-    }
-}

@@ -50,18 +50,3 @@ impl<L> Steps<L> {
         self.count = Count::sum(&self.count, &other.count);
     }
 }
-
-#[cfg(test)]
-mod tests {
-    use super::*;
-
-    #[test]
-    fn a_count_has_no_bytes(rt: HostRuntime) {
-        let mut steps: Steps<u8> = Steps::none();
-        steps.tick();
-        let mut more: Steps<u8> = Steps::none();
-        more.tick();
-        steps.add(more);
-        assert_eq!(rt; std::mem::size_of_val(&steps), 0);
-    }
-}

@@ -5,20 +5,20 @@ ghost use Rattle.std.specs.Prelude.{◌≡◌};
 use std::alloc::AllocError;
 
 /// A time or a slew in whole femtoseconds.
-#[derive(Debug, Clone, Copy, PartialEq, Eq, PartialOrd, Ord, Hash, Default, Drop)]
+#[derive(Debug, Clone, Copy, PartialEq, Eq, PartialOrd, Ord, Default, Drop)]
 pub struct Fs(pub i64);
 
 /// A capacitance in whole attofarads.
-#[derive(Debug, Clone, Copy, PartialEq, Eq, PartialOrd, Ord, Hash, Default, Drop)]
+#[derive(Debug, Clone, Copy, PartialEq, Eq, Drop)]
 pub struct Af(pub i64);
 
 /// A resistance in whole milliohms.
-#[derive(Debug, Clone, Copy, PartialEq, Eq, PartialOrd, Ord, Hash, Default, Drop)]
+#[derive(Debug, Clone, Copy, PartialEq, Eq, Drop)]
 pub struct Mo(pub i64);
 
 /// A unit as a power of ten, from -40 to 40: a written number times `10^ten` is the number of
 /// femtoseconds, attofarads or milliohms.
-#[derive(Debug, Clone, Copy, PartialEq, Eq, Drop)]
+#[derive(Clone, Copy, Drop)]
 pub struct Unit {
     pub ten: i32,
 }

@@ -7,7 +7,7 @@ use sta_units::{Af, Fs};
 
 /// A clock. Its period, its rise and fall within a period and its uncertainties are in fs. `port`
 /// is none for a clock without a port.
-#[derive(Debug, Clone, PartialEq, Eq, Drop)]
+#[derive(Drop)]
 pub struct Clock {
     pub name: Name,
     pub port: Option<Name>,
@@ -20,7 +20,7 @@ pub struct Clock {
 
 /// An input or output delay in fs at a port, for a split and a transition. `clock` is the place of
 /// its clock in the list of clocks, from 0.
-#[derive(Debug, Clone, PartialEq, Eq, Drop)]
+#[derive(Drop)]
 pub struct PortDelay {
     pub port: Name,
     pub split: Split,
@@ -30,7 +30,7 @@ pub struct PortDelay {
 }
 
 /// The slew in fs of an input port, for a split and a transition.
-#[derive(Debug, Clone, PartialEq, Eq, Drop)]
+#[derive(Drop)]
 pub struct PortSlew {
     pub port: Name,
     pub split: Split,
@@ -39,7 +39,7 @@ pub struct PortSlew {
 }
 
 /// The load in aF of a port, for a split.
-#[derive(Debug, Clone, PartialEq, Eq, Drop)]
+#[derive(Drop)]
 pub struct PortLoad {
     pub port: Name,
     pub split: Split,
@@ -48,7 +48,7 @@ pub struct PortLoad {
 
 /// What an exception names: a clock, a port, an instance pin (`instance:pin`), an instance, or a
 /// word of which the kind is not written.
-#[derive(Debug, Clone, PartialEq, Eq, Drop)]
+#[derive(Drop)]
 pub enum Object {
     Clock(Name),
     Port(Name),
@@ -58,7 +58,7 @@ pub enum Object {
 }
 
 /// What an exception does: it removes the test of a kind, or sets the number of cycles of a kind.
-#[derive(Debug, Clone, Copy, PartialEq, Eq, Drop)]
+#[derive(Clone, Copy, Drop)]
 pub enum Effect {
     FalseSetup,
     FalseHold,
@@ -67,7 +67,7 @@ pub enum Effect {
 }
 
 /// An exception for the paths from one of `from` to one of `to`; none stands for all.
-#[derive(Debug, Clone, PartialEq, Eq, Drop)]
+#[derive(Drop)]
 pub struct Exception {
     pub from: Option<Items<Object>>,
     pub to: Option<Items<Object>>,
@@ -76,7 +76,7 @@ pub struct Exception {
 
 /// Factors of delays in millionths, per split, for cell and register arcs and for net arcs. They
 /// are from 0 to 10,000,000; 1,000,000 changes nothing.
-#[derive(Debug, Clone, Copy, PartialEq, Eq, Drop)]
+#[derive(Clone, Copy, Drop)]
 pub struct Derates {
     pub early_cell: u32,
     pub late_cell: u32,
@@ -85,7 +85,7 @@ pub struct Derates {
 }
 
 /// The constraints of a design, each list in the order of the text.
-#[derive(Debug, Clone, PartialEq, Eq, Drop)]
+#[derive(Drop)]
 pub struct Constraints {
     pub clocks: Items<Clock>,
     pub inputs: Items<PortDelay>,

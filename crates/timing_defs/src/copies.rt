@@ -3,19 +3,16 @@
 ghost use Rattle.std.specs.Prelude.{◌≡◌, take, IfOk};
 ghost use Rattle.timing_defs.specs.declared.edits.Edit.TheVariants.{InsertBuffer};
 
-use crate::constraints::{
-    Clock, Constraints, Derates, Effect, Exception, Object, PortDelay, PortLoad, PortSlew,
-};
-use crate::design::Design;
-use crate::edge_times::{EdgeTime, EdgeTimes};
+use crate::constraints::{Clock, Object};
+use crate::edge_times::EdgeTimes;
 use crate::edits::{Eco, Edit, Entry};
 use crate::items::Items;
-use crate::kinds::{ArcKind, Dir, Kind, Split, Tran};
-use crate::library::{Cell, CellArc, CellPin, CellTest, Library, Table};
+use crate::kinds::Dir;
+use crate::library::{CellPin, Table};
 use crate::names::Name;
-use crate::netlist::{Conn, Inst, Module, Port};
-use crate::parasitics::{NetRc, Parasitics, RcCap, RcNode, RcRes};
-use crate::rows::{BackRow, NodeRow, PinCap};
+use crate::netlist::{Conn, Inst};
+use crate::parasitics::{NetRc, RcCap, RcNode, RcRes};
+use crate::rows::{BackRow, NodeRow};
 use sta_units::{Again, Memory};
 use std::alloc::Global;
 
@@ -41,50 +38,8 @@ impl Again for EdgeTimes {
     }
 }
 
-impl Again for ArcKind {
-    fn again(&self, _alloc: Global) -> Result<ArcKind, Memory> {
-        Ok(*self)
-    }
-}
-
 impl Again for Dir {
     fn again(&self, _alloc: Global) -> Result<Dir, Memory> {
-        Ok(*self)
-    }
-}
-
-impl Again for Kind {
-    fn again(&self, _alloc: Global) -> Result<Kind, Memory> {
-        Ok(*self)
-    }
-}
-
-impl Again for Split {
-    fn again(&self, _alloc: Global) -> Result<Split, Memory> {
-        Ok(*self)
-    }
-}
-
-impl Again for Tran {
-    fn again(&self, _alloc: Global) -> Result<Tran, Memory> {
-        Ok(*self)
-    }
-}
-
-impl Again for EdgeTime {
-    fn again(&self, _alloc: Global) -> Result<EdgeTime, Memory> {
-        Ok(*self)
-    }
-}
-
-impl Again for Effect {
-    fn again(&self, _alloc: Global) -> Result<Effect, Memory> {
-        Ok(*self)
-    }
-}
-
-impl Again for Derates {
-    fn again(&self, _alloc: Global) -> Result<Derates, Memory> {
         Ok(*self)
     }
 }
@@ -109,61 +64,6 @@ impl Again for CellPin {
     }
 }
 
-impl Again for CellArc {
-    fn again(&self, alloc: Global) -> Result<CellArc, Memory> {
-        Ok(CellArc {
-            from: self.from.again(alloc)?,
-            from_tran: self.from_tran.again(alloc)?,
-            to: self.to.again(alloc)?,
-            to_tran: self.to_tran.again(alloc)?,
-            kind: self.kind.again(alloc)?,
-            delay: self.delay.again(alloc)?,
-            slew: self.slew.again(alloc)?,
-        })
-    }
-}
-
-impl Again for CellTest {
-    fn again(&self, alloc: Global) -> Result<CellTest, Memory> {
-        Ok(CellTest {
-            pin: self.pin.again(alloc)?,
-            tran: self.tran.again(alloc)?,
-            clock: self.clock.again(alloc)?,
-            active: self.active.again(alloc)?,
-            kind: self.kind.again(alloc)?,
-            need: self.need.again(alloc)?,
-        })
-    }
-}
-
-impl Again for Cell {
-    fn again(&self, alloc: Global) -> Result<Cell, Memory> {
-        Ok(Cell {
-            name: self.name.again(alloc)?,
-            pins: self.pins.again(alloc)?,
-            arcs: self.arcs.again(alloc)?,
-            tests: self.tests.again(alloc)?,
-        })
-    }
-}
-
-impl Again for Library {
-    fn again(&self, alloc: Global) -> Result<Library, Memory> {
-        Ok(Library {
-            cells: self.cells.again(alloc)?,
-        })
-    }
-}
-
-impl Again for Port {
-    fn again(&self, alloc: Global) -> Result<Port, Memory> {
-        Ok(Port {
-            name: self.name.again(alloc)?,
-            dir: self.dir.again(alloc)?,
-        })
-    }
-}
-
 impl Again for Conn {
     fn again(&self, alloc: Global) -> Result<Conn, Memory> {
         Ok(Conn {
@@ -183,17 +83,6 @@ impl Again for Inst {
     }
 }
 
-impl Again for Module {
-    fn again(&self, alloc: Global) -> Result<Module, Memory> {
-        Ok(Module {
-            name: self.name.again(alloc)?,
-            ports: self.ports.again(alloc)?,
-            nets: self.nets.again(alloc)?,
-            insts: self.insts.again(alloc)?,
-        })
-    }
-}
-
 impl Again for Clock {
     fn again(&self, alloc: Global) -> Result<Clock, Memory> {
         Ok(Clock {
@@ -204,63 +93,6 @@ impl Again for Clock {
             fall: self.fall.again(alloc)?,
             unc_setup: self.unc_setup.again(alloc)?,
             unc_hold: self.unc_hold.again(alloc)?,
-        })
-    }
-}
-
-impl Again for PortDelay {
-    fn again(&self, alloc: Global) -> Result<PortDelay, Memory> {
-        Ok(PortDelay {
-            port: self.port.again(alloc)?,
-            split: self.split.again(alloc)?,
-            tran: self.tran.again(alloc)?,
-            clock: self.clock.again(alloc)?,
-            delay: self.delay.again(alloc)?,
-        })
-    }
-}
-
-impl Again for PortSlew {
-    fn again(&self, alloc: Global) -> Result<PortSlew, Memory> {
-        Ok(PortSlew {
-            port: self.port.again(alloc)?,
-            split: self.split.again(alloc)?,
-            tran: self.tran.again(alloc)?,
-            slew: self.slew.again(alloc)?,
-        })
-    }
-}
-
-impl Again for PortLoad {
-    fn again(&self, alloc: Global) -> Result<PortLoad, Memory> {
-        Ok(PortLoad {
-            port: self.port.again(alloc)?,
-            split: self.split.again(alloc)?,
-            load: self.load.again(alloc)?,
-        })
-    }
-}
-
-impl Again for Exception {
-    fn again(&self, alloc: Global) -> Result<Exception, Memory> {
-        Ok(Exception {
-            from: self.from.again(alloc)?,
-            to: self.to.again(alloc)?,
-            effect: self.effect.again(alloc)?,
-        })
-    }
-}
-
-impl Again for Constraints {
-    fn again(&self, alloc: Global) -> Result<Constraints, Memory> {
-        Ok(Constraints {
-            clocks: self.clocks.again(alloc)?,
-            inputs: self.inputs.again(alloc)?,
-            outputs: self.outputs.again(alloc)?,
-            slews: self.slews.again(alloc)?,
-            loads: self.loads.again(alloc)?,
-            exceptions: self.exceptions.again(alloc)?,
-            derates: self.derates.again(alloc)?,
         })
     }
 }
@@ -291,37 +123,6 @@ impl Again for NetRc {
             caps: self.caps.again(alloc)?,
             ress: self.ress.again(alloc)?,
             lump: self.lump.again(alloc)?,
-        })
-    }
-}
-
-impl Again for Parasitics {
-    fn again(&self, alloc: Global) -> Result<Parasitics, Memory> {
-        Ok(Parasitics {
-            nets: self.nets.again(alloc)?,
-        })
-    }
-}
-
-impl Again for Design {
-    fn again(&self, alloc: Global) -> Result<Design, Memory> {
-        Ok(Design {
-            early: self.early.again(alloc)?,
-            late: self.late.again(alloc)?,
-            ports: self.ports.again(alloc)?,
-            nets: self.nets.again(alloc)?,
-            insts: self.insts.again(alloc)?,
-            constraints: self.constraints.again(alloc)?,
-            rcs: self.rcs.again(alloc)?,
-        })
-    }
-}
-
-impl Again for PinCap {
-    fn again(&self, alloc: Global) -> Result<PinCap, Memory> {
-        Ok(PinCap {
-            pin: self.pin.again(alloc)?,
-            cap: self.cap.again(alloc)?,
         })
     }
 }

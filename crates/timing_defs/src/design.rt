@@ -9,7 +9,7 @@ use crate::parasitics::NetRc;
 
 /// A design: the libraries of the early and of the late split, the netlist, the constraints and
 /// the parasitics of the nets that have them.
-#[derive(Debug, Clone, PartialEq, Eq, Drop)]
+#[derive(Drop)]
 pub struct Design {
     pub early: Library,
     pub late: Library,

@@ -20,7 +20,7 @@ pub struct EdgeTime {
 
 /// The times of a node, one for each launch edge that has one, in the order of the clocks and rise
 /// before fall. Up to two stand in place, more in a block of their own. Contracts see the list.
-#[derive(Debug, Drop)]
+#[derive(Drop)]
 pub struct EdgeTimes {
     times: SmallVec<EdgeTime, 2>,
 }
@@ -92,37 +92,4 @@ impl EdgeTimes {
             Err(_) => Err(Memory),
         }
     }
-}
-
-impl Clone for EdgeTimes {
-    ghost use Rattle.std.specs.Prelude.{◌≡◌};
-
-    ghost is_clone = { λ x y. y ≡ x };
-
-    fn clone(&self) -> Result<EdgeTimes, AllocError> {
-        let times = SmallVec::from_slice(*self.times.allocator(), self.times.as_slice())?;
-        Ok(EdgeTimes { times })
-    }
-}
-
-impl PartialEq for EdgeTimes {
-    ghost use Rattle.std.proofs.Common.{rules};
-    ghost use Rattle.std.specs.Cmp.Lexicographic.{pointwise, lists_per};
-    ghost use Rattle.std.specs.Cmp.Rules.{comparing};
-
-    ghost eq = { pointwise ⟦<EdgeTime as PartialEq>⟧.eq };
-
-    ghost laws = { lists_per (Prim.search (comparing, rules)) };
-
-    fn eq(&self, other: &EdgeTimes) -> bool {
-        self.times.as_slice() == other.times.as_slice()
-    }
-}
-
-impl Eq for EdgeTimes {
-    ghost use Rattle.std.proofs.Common.{rules};
-    ghost use Rattle.std.specs.Cmp.Lexicographic.{lists_equiv};
-    ghost use Rattle.std.specs.Cmp.Rules.{comparing};
-
-    ghost laws = { lists_equiv (Prim.search (comparing, rules)) };
 }

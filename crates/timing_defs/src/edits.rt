@@ -12,7 +12,7 @@ use crate::parasitics::NetRc;
 /// - `InsertBuffer`: the new instance `inst` of `cell` has its input on `net` and its output on the
 ///   new net `fresh`, and the sinks leave `net` and join `fresh`.
 /// - `SetParasitics`: the net's parasitics are replaced, or dropped.
-#[derive(Debug, Clone, PartialEq, Eq, Drop)]
+#[derive(Drop)]
 pub enum Edit {
     Repower {
         inst: Name,
@@ -52,13 +52,13 @@ pub enum Edit {
 }
 
 /// Edits that are made together or not at all, in order.
-#[derive(Debug, Clone, PartialEq, Eq, Drop)]
+#[derive(Drop)]
 pub struct Eco {
     pub edits: Items<Edit>,
 }
 
 /// An entry of the journal: the edits of a session, numbered from 1.
-#[derive(Debug, Clone, PartialEq, Eq, Drop)]
+#[derive(Drop)]
 pub struct Entry {
     pub session: u32,
     pub eco: Eco,

@@ -6,14 +6,14 @@ use sta_units::Memory;
 use std::alloc::AllocError;
 
 /// Where a quantity leaves its range.
-#[derive(Debug, Clone, PartialEq, Eq, Drop)]
+#[derive(Drop)]
 pub enum Place {
     Pin(Name),
     Net(Name),
 }
 
 /// What there is too much of: pins, instances, nets, or nodes of a net.
-#[derive(Debug, Clone, PartialEq, Eq, Drop)]
+#[derive(Drop)]
 pub enum Large {
     Pins,
     Insts,
@@ -23,7 +23,7 @@ pub enum Large {
 
 /// Why a design or an edit is refused. The printed codes are `E1` to `E17` in this order, and `N2`
 /// for what is not built yet.
-#[derive(Debug, Clone, PartialEq, Eq, Drop)]
+#[derive(Drop)]
 pub enum Fault {
     /// `E1`: no instance has that name.
     UnknownInstance(Name),
@@ -89,7 +89,7 @@ impl From<AllocError> for Fault {
 
 /// Why a question has no answer: there is no such pin (`Q1`), the pin is no endpoint (`Q2`), or it
 /// is on no clock network that the question needs (`Q3`).
-#[derive(Debug, Clone, PartialEq, Eq, Drop)]
+#[derive(Drop)]
 pub enum QueryFault {
     /// `Q1`
     UnknownPin(Name),

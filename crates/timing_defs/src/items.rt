@@ -108,34 +108,3 @@ impl<T: Copy> Items<T> {
         })
     }
 }
-
-impl<T: Clone> Clone for Items<T> {
-    ghost use Rattle.std.specs.Prelude.{◌≡◌, length};
-    ghost use Rattle.std.specs.List.{AllZip};
-
-    ghost is_clone = { λ v w. AllZip T.is_clone v w × (length w ≡ length v) };
-
-    fn clone(&self) -> Result<Items<T>, AllocError> {
-        Ok(Items {
-            items: self.items.clone()?,
-        })
-    }
-}
-
-impl<T: PartialEq> PartialEq for Items<T> {
-    ghost use Rattle.std.specs.Cmp.Lexicographic.{pointwise, lists_per};
-
-    ghost eq = { pointwise T.eq };
-
-    ghost laws = { lists_per T.laws };
-
-    fn eq(&self, other: &Items<T>) -> bool {
-        self.items.as_slice() == other.items.as_slice()
-    }
-}
-
-impl<T: Eq> Eq for Items<T> {
-    ghost use Rattle.std.specs.Cmp.Lexicographic.{lists_equiv};
-
-    ghost laws = { lists_equiv T.Eq.laws };
-}

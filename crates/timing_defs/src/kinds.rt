@@ -1,7 +1,7 @@
 //! The small choices of static timing.
 
 /// Which library and which bound of an arrival: early is the least, late the greatest.
-#[derive(Debug, Clone, Copy, PartialEq, Eq, Drop)]
+#[derive(Clone, Copy, Drop)]
 pub enum Split {
     Early,
     Late,
@@ -16,21 +16,21 @@ pub enum Tran {
 }
 
 /// A kind of test.
-#[derive(Debug, Clone, Copy, PartialEq, Eq, Drop)]
+#[derive(Clone, Copy, Drop)]
 pub enum Kind {
     Setup,
     Hold,
 }
 
 /// A direction of a cell's pin or of a port, as seen from the cell or the module.
-#[derive(Debug, Clone, Copy, PartialEq, Eq, Drop)]
+#[derive(Clone, Copy, Drop)]
 pub enum Dir {
     Input,
     Output,
 }
 
 /// A kind of cell arc: combinational, or from a clock pin's active edge.
-#[derive(Debug, Clone, Copy, PartialEq, Eq, Drop)]
+#[derive(Clone, Copy, Drop)]
 pub enum ArcKind {
     Comb,
     Edge,

@@ -4,7 +4,7 @@ use crate::items::Items;
 
 /// A word or a quoted string: its text without quotes and continuations of lines, whether it was
 /// quoted, and the offset of its first byte in the source, the quote included.
-#[derive(Debug, PartialEq, Eq, Drop)]
+#[derive(Drop)]
 pub struct Lexeme {
     pub text: Items<u8>,
     pub quoted: bool,
@@ -12,7 +12,7 @@ pub struct Lexeme {
 }
 
 /// A group `word ( args ) { items }`, in the order of the text.
-#[derive(Debug, PartialEq, Eq, Drop)]
+#[derive(Drop)]
 #[cycle(tree)]
 pub struct Tree {
     pub word: Lexeme,
@@ -22,7 +22,7 @@ pub struct Tree {
 
 /// A statement of a group: a group, a complex attribute `word ( args )`, or a simple attribute
 /// `word : value`.
-#[derive(Debug, PartialEq, Eq, Drop)]
+#[derive(Drop)]
 #[cycle(tree)]
 pub enum Item {
     Group(Tree),

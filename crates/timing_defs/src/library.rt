@@ -9,7 +9,7 @@ use sta_units::{Af, Unit};
 /// has one value for each pair, row by row of `xs`. Of a delay table (delay or slew, in fs) `xs` is
 /// the slew in fs and `ys` the load in aF. Of a constraint table (in fs) `xs` is the clock's slew
 /// and `ys` the data's slew, both in fs.
-#[derive(Debug, Clone, PartialEq, Eq, Drop)]
+#[derive(Drop)]
 pub struct Table {
     pub xs: Items<i64>,
     pub ys: Items<i64>,
@@ -17,7 +17,7 @@ pub struct Table {
 }
 
 /// A pin of a cell, with its capacitance in aF.
-#[derive(Debug, Clone, PartialEq, Eq, Drop)]
+#[derive(Drop)]
 pub struct CellPin {
     pub name: Name,
     pub dir: Dir,
@@ -26,7 +26,7 @@ pub struct CellPin {
 
 /// An arc of a cell, from a transition of one pin to a transition of another, with the tables of
 /// its delay and of the slew at its end.
-#[derive(Debug, Clone, PartialEq, Eq, Drop)]
+#[derive(Drop)]
 pub struct CellArc {
     pub from: Name,
     pub from_tran: Tran,
@@ -39,7 +39,7 @@ pub struct CellArc {
 
 /// A setup or hold test of a transition of a data pin against the active edge of a clock pin.
 /// `need` gives the setup or hold time in fs.
-#[derive(Debug, Clone, PartialEq, Eq, Drop)]
+#[derive(Drop)]
 pub struct CellTest {
     pub pin: Name,
     pub tran: Tran,
@@ -50,7 +50,7 @@ pub struct CellTest {
 }
 
 /// A cell: its pins, arcs and tests in the order of the text.
-#[derive(Debug, Clone, PartialEq, Eq, Drop)]
+#[derive(Drop)]
 pub struct Cell {
     pub name: Name,
     pub pins: Items<CellPin>,
@@ -59,13 +59,13 @@ pub struct Cell {
 }
 
 /// A library: its cells in the order of the text.
-#[derive(Debug, Clone, PartialEq, Eq, Drop)]
+#[derive(Drop)]
 pub struct Library {
     pub cells: Items<Cell>,
 }
 
 /// The units of a library: of its times (to fs) and of its capacitances (to aF).
-#[derive(Debug, Clone, Copy, PartialEq, Eq, Drop)]
+#[derive(Clone, Copy, Drop)]
 pub struct Units {
     pub time: Unit,
     pub cap: Unit,

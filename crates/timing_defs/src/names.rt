@@ -13,7 +13,7 @@ use std::marker::Model;
 
 /// A name: at least one byte, each from 33 to 126. Names are ordered by their bytes. An instance
 /// pin is named `instance:pin`, a port by its own name.
-#[derive(Debug, Drop)]
+#[derive(Drop)]
 pub struct Name {
     bytes: Vec<u8>,
 }

@@ -9,7 +9,7 @@ use sta_units::Fs;
 
 /// A question: slew, arrivals, required times or graph slack of a node; slack or worst path of an
 /// endpoint; worst slack, total negative slack or the worst endpoints (at most `count`) of a kind.
-#[derive(Debug, Clone, PartialEq, Eq, Drop)]
+#[derive(Clone, Drop)]
 pub enum Query {
     Slew { pin: Name, split: Split, tran: Tran },
     At { pin: Name, split: Split, tran: Tran },
@@ -23,7 +23,7 @@ pub enum Query {
 }
 
 /// An endpoint with its slack in fs.
-#[derive(Debug, Clone, PartialEq, Eq, Drop)]
+#[derive(Drop)]
 pub struct EndRow {
     pub pin: Name,
     pub slack: Fs,
@@ -31,7 +31,7 @@ pub struct EndRow {
 
 /// The answer to a question: one time in fs or none, times per launch edge, a path or none, or
 /// endpoints from the least slack on.
-#[derive(Debug, Clone, PartialEq, Eq, Drop)]
+#[derive(Drop)]
 pub enum Report {
     Value(Option<Fs>),
     Times(Items<EdgeTime>),

@@ -9,14 +9,14 @@ use crate::names::Name;
 use sta_units::{Af, Fs};
 
 /// A pin with its capacitance in aF.
-#[derive(Debug, Clone, PartialEq, Eq, Drop)]
+#[derive(Drop)]
 pub struct PinCap {
     pub pin: Name,
     pub cap: Af,
 }
 
 /// Where a path is launched: the launch pin, the instance of that pin (none for a port), and the clock's place in the list of clocks.
-#[derive(Debug, Clone, PartialEq, Eq, Drop)]
+#[derive(Drop)]
 pub struct Launch {
     pub pin: Name,
     pub cell: Option<Name>,
@@ -25,7 +25,7 @@ pub struct Launch {
 
 /// Where a path is captured: the endpoint, its instance (none for an output port), and the clock's
 /// place in the list of clocks.
-#[derive(Debug, Clone, PartialEq, Eq, Drop)]
+#[derive(Drop)]
 pub struct Capture {
     pub pin: Name,
     pub cell: Option<Name>,
@@ -34,7 +34,7 @@ pub struct Capture {
 
 /// The row of a node (a pin with a transition): its slews in fs, none where nothing reaches it,
 /// and its arrivals per launch edge, of both splits.
-#[derive(Debug, Clone, PartialEq, Eq, Drop)]
+#[derive(Drop)]
 pub struct NodeRow {
     pub early_slew: Option<Fs>,
     pub late_slew: Option<Fs>,
@@ -43,14 +43,14 @@ pub struct NodeRow {
 }
 
 /// The required times of a node per launch edge, of both splits.
-#[derive(Debug, Clone, PartialEq, Eq, Drop)]
+#[derive(Drop)]
 pub struct BackRow {
     pub early: EdgeTimes,
     pub late: EdgeTimes,
 }
 
 /// A node of a path with its arrival in fs.
-#[derive(Debug, Clone, PartialEq, Eq, Drop)]
+#[derive(Drop)]
 pub struct PathNode {
     pub pin: Name,
     pub tran: Tran,
@@ -59,7 +59,7 @@ pub struct PathNode {
 
 /// A timing path from its start to its endpoint, with its slack and its credit in fs, and its
 /// launch and capture edges (a clock's place in the list of clocks and a transition).
-#[derive(Debug, Clone, PartialEq, Eq, Drop)]
+#[derive(Drop)]
 pub struct Path {
     pub nodes: Items<PathNode>,
     pub slack: Fs,

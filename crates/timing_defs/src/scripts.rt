@@ -8,7 +8,7 @@ use sta_units::Fs;
 
 /// A command of a session: take the newest version, wait until a version of at least `number` is
 /// there (with at most `looks` looks), ask, or change the design.
-#[derive(Debug, Clone, PartialEq, Eq, Drop)]
+#[derive(Drop)]
 pub enum Command {
     Take,
     Await { number: u64, looks: u32 },
@@ -17,13 +17,13 @@ pub enum Command {
 }
 
 /// The commands of a session, in order.
-#[derive(Debug, Clone, PartialEq, Eq, Drop)]
+#[derive(Drop)]
 pub struct Script {
     pub commands: Items<Command>,
 }
 
 /// The answer to a command. `NotYet` has the number of the version at each look.
-#[derive(Debug, Clone, PartialEq, Eq, Drop)]
+#[derive(Drop)]
 pub enum Answer {
     Taken,
     Reached,
@@ -36,7 +36,7 @@ pub enum Answer {
 
 /// The row of a command: its place from 1, the question where it asks, the number of the version
 /// that it answers for, and the answer.
-#[derive(Debug, Clone, PartialEq, Eq, Drop)]
+#[derive(Drop)]
 pub struct Row {
     pub command: u32,
     pub query: Option<Query>,
@@ -45,14 +45,14 @@ pub struct Row {
 }
 
 /// The rows of a session, in the order of its commands.
-#[derive(Debug, Clone, PartialEq, Eq, Drop)]
+#[derive(Drop)]
 pub struct Transcript {
     pub rows: Items<Row>,
 }
 
 /// The last version: its number, and the worst slack (none where there is none) and the total
 /// negative slack of both kinds, in fs.
-#[derive(Debug, Clone, Copy, PartialEq, Eq, Drop)]
+#[derive(Clone, Copy, Drop)]
 pub struct Totals {
     pub number: u64,
     pub setup_wns: Option<Fs>,

@@ -12,7 +12,7 @@ pub enum Sort {
 }
 
 /// How a text is cut into tokens.
-#[derive(Debug, Clone, Copy, PartialEq, Eq, Drop)]
+#[derive(Clone, Copy, Drop)]
 pub enum Style {
     Liberty,
     Verilog,

@@ -25,7 +25,7 @@ use timing_defs::{Answer, Fault, Items, Row, Script, Transcript};
 const FIRST: u64 = 0;
 
 /// What a run ends with: its status, and what it writes.
-#[derive(Debug, Drop)]
+#[derive(Drop)]
 pub(crate) struct End {
     pub(crate) status: u8,
     pub(crate) text: Vec<u8>,

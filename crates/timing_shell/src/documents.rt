@@ -27,7 +27,7 @@ use timing_defs::{
 use verilog_netlist::read_module;
 
 /// A document of a run.
-#[derive(Debug, Clone, Copy, PartialEq, Eq, Drop)]
+#[derive(Clone, Copy, Drop)]
 pub(crate) enum Role {
     Early,
     Late,
@@ -38,7 +38,7 @@ pub(crate) enum Role {
 }
 
 /// Why the shelf did not give a document.
-#[derive(Debug, Clone, Copy, PartialEq, Eq, Drop)]
+#[derive(Clone, Copy, Drop)]
 pub(crate) enum How {
     Failed,
     Absent,
@@ -47,7 +47,7 @@ pub(crate) enum How {
 
 /// Why the documents of a run were not read: one has a fault at a place, the shelf did not give one,
 /// or want of memory.
-#[derive(Debug, Clone, Copy, PartialEq, Eq, Drop)]
+#[derive(Clone, Copy, Drop)]
 pub(crate) enum Stop {
     Refused(Role, Code, u64),
     Missing(Role, How),
@@ -55,7 +55,7 @@ pub(crate) enum Stop {
 }
 
 /// The values of the documents of a run.
-#[derive(Debug, Drop)]
+#[derive(Drop)]
 pub(crate) struct Documents {
     pub(crate) early: Library,
     pub(crate) late: Library,

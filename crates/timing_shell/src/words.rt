@@ -8,7 +8,7 @@ ghost use Rattle.timing_shell.specs.Words.{number_behind, workers_of, is_operand
 
 /// What a command line asks for: the names of the documents, and the number of workers, from 1 to
 /// 32. It borrows the words.
-#[derive(Debug, Clone, Copy, Drop)]
+#[derive(Clone, Copy, Drop)]
 pub(crate) struct Run<'a> {
     pub(crate) early: &'a str,
     pub(crate) late: &'a str,

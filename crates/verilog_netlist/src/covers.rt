@@ -12,7 +12,7 @@ use std::marker::Model;
 use timing_defs::Items;
 
 /// The numbers from `low` to `high`, both among them.
-#[derive(Debug, Clone, Copy, Drop)]
+#[derive(Clone, Copy, Drop)]
 pub(crate) struct Stretch {
     pub low: u128,
     pub high: u128,
@@ -20,7 +20,7 @@ pub(crate) struct Stretch {
 
 /// Stretches in the order of their lower ends, each with the greatest upper end up to it. Contracts
 /// see the list of the stretches.
-#[derive(Debug, Drop)]
+#[derive(Drop)]
 pub(crate) struct Cover {
     stretches: Vec<Stretch>,
     reaches: Items<u128>,

@@ -14,7 +14,7 @@ use std::alloc::AllocFailed;
 use timing_defs::Code;
 
 /// Why the reading of a text stops: want of memory, or a fault, which is the last event.
-#[derive(Debug, Clone, Copy, PartialEq, Eq, Drop)]
+#[derive(Clone, Copy, Drop)]
 pub(crate) enum Stop {
     Memory,
     Refused,

@@ -139,7 +139,7 @@ fn declare_event(alloc: Global, known: &mut Known, event: &Event) -> Result<Opti
 }
 
 /// The first fault of a declaration, where one has a fault, and all declared nets.
-#[derive(Debug, Drop)]
+#[derive(Drop)]
 pub(crate) struct Declarations<'a> {
     pub fault: Option<Wrong>,
     pub nets: Declared<'a>,

@@ -4,7 +4,7 @@ use sta_text::Wrong;
 use timing_defs::Name;
 
 /// Where and as what a name is declared.
-#[derive(Debug, Clone, Copy, PartialEq, Eq, Drop)]
+#[derive(Clone, Copy, Drop)]
 pub(crate) enum Role {
     HeaderInput,
     HeaderOutput,
@@ -14,14 +14,14 @@ pub(crate) enum Role {
 }
 
 /// The range of a vector, `[first:last]`.
-#[derive(Debug, Clone, Copy, PartialEq, Eq, Drop)]
+#[derive(Clone, Copy, Drop)]
 pub(crate) struct Span {
     pub first: u32,
     pub last: u32,
 }
 
 /// How names are declared: their role, and the range where they are vectors.
-#[derive(Debug, Clone, Copy, PartialEq, Eq, Drop)]
+#[derive(Clone, Copy, Drop)]
 pub(crate) struct Kind {
     pub role: Role,
     pub span: Option<Span>,
@@ -29,7 +29,7 @@ pub(crate) struct Kind {
 
 /// What a pin is connected to: nothing or a constant, a name alone, or a bit of a vector, which is
 /// given by its own name.
-#[derive(Debug, Drop)]
+#[derive(Drop)]
 pub(crate) enum Net {
     Tied,
     Alone(Name, usize),
@@ -37,7 +37,7 @@ pub(crate) enum Net {
 }
 
 /// A thing that the text writes, with the offset of its name.
-#[derive(Debug, Drop)]
+#[derive(Drop)]
 pub(crate) enum Event {
     /// The module's name.
     Module(Name),

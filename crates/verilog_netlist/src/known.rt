@@ -13,7 +13,7 @@ use std::marker::Model;
 use timing_defs::Name;
 
 /// What is declared so far: the bits of ports, those of wires, and all of them.
-#[derive(Debug, Drop)]
+#[derive(Drop)]
 pub(crate) struct Known {
     pub ports: NetSet,
     pub wires: NetSet,
@@ -22,7 +22,7 @@ pub(crate) struct Known {
 
 /// All declared nets: those up to the first fault of a declaration as a set, and what the events from there on
 /// declare. Contracts see the list of their names.
-#[derive(Debug, Drop)]
+#[derive(Drop)]
 pub(crate) struct Declared<'a> {
     nets: NetSet,
     events: &'a [Event],

@@ -147,7 +147,7 @@ fn alone<'a>(alloc: Global, events: &'a [Event]) -> Result<Names<'a>, Memory>
 }
 
 /// What the declarations of some events have.
-#[derive(Debug, Drop)]
+#[derive(Drop)]
 pub(crate) struct Late<'a> {
     alone: Names<'a>,
     places: Places<'a>,

@@ -52,7 +52,7 @@ fn any_bit(alloc: Global, nets: &[Name], span: Span, name: &Name) -> Result<bool
 
 /// A set of nets. Contracts see the list of their names, in the order in which they were added. A
 /// look-up takes constant time on average.
-#[derive(Debug, Drop)]
+#[derive(Drop)]
 pub(crate) struct NetSet {
     names: IndexSet<Name>,
 }

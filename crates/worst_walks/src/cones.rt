@@ -6,7 +6,7 @@ ghost use Rattle.worst_walks.specs.Walks.{IsCone, IsEnd};
 use timing_defs::Items;
 
 /// An arc from a node into the node that lists it, with its delay in fs (for hold tests negated).
-#[derive(Debug, Clone, Copy, PartialEq, Eq, Drop)]
+#[derive(Clone, Copy, Drop)]
 pub struct WalkArc {
     pub from: u32,
     pub delay: i64,
@@ -14,14 +14,14 @@ pub struct WalkArc {
 
 /// A node at which walks to an end node begin. A walk with the delay sum `s` has the slack
 /// `offer - s`, in fs.
-#[derive(Debug, Clone, Copy, PartialEq, Eq, Drop)]
+#[derive(Clone, Copy, Drop)]
 pub struct Launch {
     pub node: u32,
     pub offer: i64,
 }
 
 /// An end node, with the launches from which walks to it are looked for.
-#[derive(Debug, Clone, PartialEq, Eq, Drop)]
+#[derive(Drop)]
 pub struct WalkEnd {
     pub node: u32,
     pub launches: Items<Launch>,
@@ -33,7 +33,7 @@ pub struct WalkEnd {
 ///
 /// A search asks for less than `2^22` nodes, at most one arc between two nodes, delays of at most
 /// `10^12` fs and offers of at most `10^18` fs on either side of 0.
-#[derive(Debug, Clone, PartialEq, Eq, Drop)]
+#[derive(Drop)]
 pub struct Cone {
     pub count: u32,
     pub starts: Items<u32>,
@@ -43,7 +43,7 @@ pub struct Cone {
 
 /// A walk with its slack in fs: the place of its end node in the cone's list of ends, the place of
 /// its launch in the list of that end node, and its nodes from the launch to the end node.
-#[derive(Debug, Clone, PartialEq, Eq, Drop)]
+#[derive(Drop)]
 pub struct Walk {
     pub slack: i64,
     pub launch: u32,

@@ -34,7 +34,7 @@ pub trait WalkOrder {
 }
 
 /// The order of nodes by their numbers.
-#[derive(Debug, Clone, Copy, PartialEq, Eq, Drop)]
+#[derive(Clone, Copy, Drop)]
 pub(crate) struct ByNumber;
 
 impl WalkOrder for ByNumber {

@@ -14,7 +14,7 @@ use std::alloc::Global;
 
 /// The best walk from a node to the end node: its delay sum in fs and the node that follows, which
 /// at the end node is itself.
-#[derive(Debug, Clone, Copy, PartialEq, Eq, Drop)]
+#[derive(Clone, Copy, Drop)]
 pub(crate) struct Entry {
     pub(crate) total: i64,
     pub(crate) next: u32,

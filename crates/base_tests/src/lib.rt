@@ -1,0 +1,5 @@
+//! Tests of the small libraries, by their public calls.
+#![tactic(auto)]
+
+#[cfg(test)]
+mod units;
