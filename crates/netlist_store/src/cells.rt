@@ -70,6 +70,9 @@ impl Cells {
         Ok(Cells { library, places })
     }
 
+    /// Gives the table up.
+    pub(crate) fn discard(self) {}
+
     /// The cell of a name; none where the library has none. Takes no memory.
     pub(crate) fn cell(&self, name: &Name) -> Option<&Cell>
         ensures { option_copied result ≡ cell_named self.now.cells name.now }

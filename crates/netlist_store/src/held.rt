@@ -41,6 +41,9 @@ impl<T: Drop> Held<T> {
 }
 
 impl<T: Drop> Held<T> {
+    /// Gives the value up.
+    pub(crate) fn discard(self) {}
+
     /// One owner more.
     pub(crate) fn share(&self) -> Result<Held<T>, Memory>
         ensures { IfOk result (λ held. held ≡ self.now) }

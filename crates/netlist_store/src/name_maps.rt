@@ -138,6 +138,9 @@ impl NameMap {
         Ok(NameMap { shards, alloc })
     }
 
+    /// Gives the map up.
+    pub(crate) fn discard(self) {}
+
     /// The number of a name.
     pub(crate) fn number(&self, name: &Name) -> Option<u32>
         ensures { result ≡ number_under self.now name.now }

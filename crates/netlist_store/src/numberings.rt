@@ -59,6 +59,9 @@ fn name_in(slots: &CowTable<Slot>, number: u32) -> Option<&Held<Name>>
     }
 }
 
+/// Gives slots and numbers up.
+fn give_up(_slots: CowTable<Slot>, _left: Items<u32>) {}
+
 /// Whether a number waits to be released.
 fn waits(slots: &CowTable<Slot>, number: u32) -> bool
     ensures { result ≡ option_map_or is_waiting (slice_get slots.now number) false }
@@ -113,6 +116,19 @@ impl Numbering {
             left: Items::new(alloc),
             alloc,
         })
+    }
+
+    /// Gives the names up.
+    pub(crate) fn discard(self) {
+        let Numbering {
+            slots,
+            numbers,
+            free: _,
+            left,
+            alloc: _,
+        } = self;
+        numbers.discard();
+        give_up(slots, left);
     }
 
     /// A copy, which shares what neither changes.

@@ -41,6 +41,9 @@ impl Roll {
         }
     }
 
+    /// Gives the numbers up.
+    pub(crate) fn discard(self) {}
+
     /// A copy, which shares what neither changes.
     pub(crate) fn copy(&self) -> Result<Roll, Memory>
         ensures { IfOk result (λ copy. copy ≡ self.now) }

@@ -73,6 +73,20 @@ impl Store {
         })
     }
 
+    /// Gives the store up.
+    pub fn discard(self) {
+        let Store {
+            frame,
+            names,
+            rows,
+            orders,
+        } = self;
+        frame.discard();
+        names.discard();
+        rows.discard();
+        orders.discard();
+    }
+
     /// A copy, which shares what neither changes.
     pub fn copy(&self) -> Result<Store, Memory>
         ensures { IfOk result (λ copy. copy ≡ self.now) }

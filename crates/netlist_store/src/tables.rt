@@ -24,6 +24,24 @@ pub(crate) struct Frame {
     pub constraints: Constraints,
 }
 
+impl Frame {
+    /// Gives the parts up.
+    pub(crate) fn discard(self) {
+        let Frame {
+            early,
+            late,
+            ports,
+            constraints,
+        } = self;
+        early.discard();
+        late.discard();
+        give_up(ports, constraints);
+    }
+}
+
+/// Gives ports and constraints up.
+fn give_up(_ports: Items<Port>, _constraints: Constraints) {}
+
 /// The names of instances, nets and pins, with their numbers.
 #[derive(Drop)]
 pub(crate) struct Names {
@@ -42,6 +60,14 @@ impl Names {
         self.insts.laws();
         self.nets.laws();
         self.pins.laws();
+    }
+
+    /// Gives the names up.
+    pub(crate) fn discard(self) {
+        let Names { insts, nets, pins } = self;
+        insts.discard();
+        nets.discard();
+        pins.discard();
     }
 
     /// A copy, which shares what neither changes.
@@ -65,6 +91,14 @@ pub(crate) struct Orders {
 }
 
 impl Orders {
+    /// Gives the orders up.
+    pub(crate) fn discard(self) {
+        let Orders { insts, nets, rcs } = self;
+        insts.discard();
+        nets.discard();
+        rcs.discard();
+    }
+
     /// A copy, which shares what neither changes.
     pub(crate) fn copy(&self) -> Result<Orders, Memory>
         ensures { IfOk result (λ copy. copy ≡ self.now) }
@@ -102,6 +136,9 @@ pub(crate) struct Rows {
 }
 
 impl Rows {
+    /// Gives the rows up.
+    pub(crate) fn discard(self) {}
+
     /// A copy, which shares what neither changes.
     pub(crate) fn copy(&self) -> Result<Rows, Memory>
         ensures { IfOk result (λ copy. copy ≡ self.now) }
