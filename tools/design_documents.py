@@ -3,6 +3,7 @@
 They are plain and forgiving: what they do not know they pass over. They are no check and nothing of them is proved: whether a document
 is accepted, and what it means, the program alone says.
 """
+import decimal
 import re
 
 RISE, FALL = "rise", "fall"
@@ -469,7 +470,7 @@ SECTIONS = {"*NAME_MAP", "*PORTS", "*PHYSICAL_PORTS", "*POWER_NETS", "*GROUND_NE
             "*DEFINE", "*PDEFINE", "*VARIATION_PARAMETERS"}
 PASSED_OVER = {"*PORTS", "*PHYSICAL_PORTS", "*POWER_NETS", "*GROUND_NETS"}
 PARTS = {"*CONN", "*CAP", "*RES", "*END", "*INDUC"}
-CAP_UNITS, RES_UNITS = {"PF": 1e6, "FF": 1e3}, {"OHM": 1e3, "KOHM": 1e6}
+CAP_UNITS, RES_UNITS = {"PF": 1000000, "FF": 1000}, {"OHM": 1000, "KOHM": 1000000}
 
 
 class SpefNet:
@@ -493,7 +494,7 @@ class Spef:
         self.words = [(it.group(1), it.start(1)) for it in SPEF_TOKEN.finditer(text) if it.group(1)]
         self.at, self.map, self.nets, self.passed_over = 0, {}, {}, {}
         self.odd_words = []
-        self.delimiter, self.bus, self.cap_unit, self.res_unit = ":", "", 1e3, 1e3
+        self.delimiter, self.bus, self.cap_unit, self.res_unit = ":", "", 1000, 1000
         section = None
         while self.at < len(self.words):
             section = self.step(section)
@@ -529,11 +530,14 @@ class Spef:
             self.bus = self.word() + (self.word(1) if not self.word(1).startswith("*") else "")
         elif word in ("*C_UNIT", "*R_UNIT"):
             units = CAP_UNITS if word == "*C_UNIT" else RES_UNITS
-            value = numbers([self.word()], units.get(self.word(1), 1e3))
-            if value and word == "*C_UNIT":
-                self.cap_unit = value[0]
-            elif value:
-                self.res_unit = value[0]
+            try:
+                value = decimal.Decimal(self.word()) * units.get(self.word(1), 1000)
+            except ArithmeticError:
+                return
+            if word == "*C_UNIT":
+                self.cap_unit = value
+            else:
+                self.res_unit = value
 
     def spelled(self, word):
         """A name without its escapes, the bus delimiters as brackets."""
@@ -560,9 +564,13 @@ class Spef:
         return f"#{int(behind)}" if name == net and behind.isdigit() else f"{name}:{self.spelled(behind)}"
 
     def value(self, word, unit):
+        """A number or triplet times its unit, rounded to the nearest, halves upward; 0 where it is none."""
         parts = word.split(":")
-        found = numbers([parts[1] if len(parts) == 3 else word], unit)
-        return int(found[0] + 0.5) if found else 0
+        try:
+            exact = decimal.Decimal(parts[1] if len(parts) == 3 else word) * decimal.Decimal(unit)
+            return int((exact + decimal.Decimal("0.5")).to_integral_value(decimal.ROUND_FLOOR))
+        except (ArithmeticError, ValueError):
+            return 0
 
     def net(self, offset):
         name = self.name(self.word())
@@ -577,6 +585,8 @@ class Spef:
             else:
                 self.row(net, part)
         self.at += self.word() == "*END"
+        own = {*net.pins, *(it for row in net.ress for it in row[:2])}
+        net.caps = [(next((it for it in nodes if it in own or it.startswith("#")), nodes[0]), value) for nodes, value in net.caps]
 
     def row(self, net, part):
         """One row of a part of a net."""
@@ -590,8 +600,7 @@ class Spef:
         elif part == "*CAP":
             two = not re.fullmatch(r"[-+]?[\d.][\d.eE:+-]*", self.word(2))
             nodes = [self.node(self.word(it), net.name) for it in ((1, 2) if two else (1,))]
-            own = [it for it in nodes if it in net.pins or it.startswith("#")]
-            net.caps.append(((own or nodes)[0], self.value(self.word(3 if two else 2), self.cap_unit)))
+            net.caps.append((nodes, self.value(self.word(3 if two else 2), self.cap_unit)))
             self.at += 4 if two else 3
         else:
             self.at += 1

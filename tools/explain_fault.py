@@ -36,7 +36,8 @@ def sentences():
 
 
 def sentence(code):
-    return sentences().get(code, "docs/FAULTS.md has this code")
+    """The first sentence of a code."""
+    return sentences().get(code, "docs/FAULTS.md has this code").split(". ")[0]
 
 
 def can_be_read_again(name):
@@ -246,7 +247,7 @@ def explain_range(words):
     if words[5] != "none" and can_be_read_again(words[5]):
         units = re.findall(r"^\s*(\*[CR]_UNIT\s+\S+\s+\S+)", documents.read_text(words[5])[:100000], re.M)
         told.append(f"{words[5]} has {', '.join(' '.join(it.split()) for it in units)}")
-    return told + ["usual causes: a unit of a library, of the SPEF or of the SDC that is a thousand times too great (ff for pf, PF for FF)"]
+    return told + ["usual cause: a unit of a library, of the SPEF or of the SDC that is wrong by a thousand, such as ff for pf"]
 
 
 def lines_with(name, file):

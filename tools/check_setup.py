@@ -1,0 +1,428 @@
+#!/usr/bin/env python3
+"""Looks over the documents of a design for what is accepted and yet hardly meant: check_setup.py EARLY LATE NETLIST SDC SPEF [options]
+
+It lists, each with a count and some names: commands of the SDC that are not read, all in one run; clocks without registers; registers
+without a clock; inputs without a delay; endpoints without a test; undriven nets and open inputs; nets without parasitics, and parasitics
+that do not fit their net; arcs whose early delay exceeds the late one; derates that are crossed; exceptions that match nothing; timing
+types that are passed over; sections of the SPEF that are. Exit status 1 where it finds something, 0 where it does not; lines that begin
+with `note` are no findings.
+
+  --program FILE   ask this program (./lizdrog, say) for the slack of each endpoint, and list those without a tested path
+  --all            list all names, not the first ten
+It reads the documents itself, in a plain way, and proves nothing.
+"""
+import argparse
+import os
+import pathlib
+import subprocess
+import sys
+import tempfile
+
+import design_documents as documents
+
+SHOWN = 10
+READ = {
+    "create_clock": {"-period": 1, "-name": 1, "-waveform": 1},
+    "set_input_delay": {"-clock": 1, "-min": 0, "-max": 0, "-rise": 0, "-fall": 0},
+    "set_output_delay": {"-clock": 1, "-min": 0, "-max": 0, "-rise": 0, "-fall": 0},
+    "set_input_transition": {"-clock": 1, "-min": 0, "-max": 0, "-rise": 0, "-fall": 0},
+    "set_load": {"-min": 0, "-max": 0, "-pin_load": 0, "-rise": 0, "-fall": 0},
+    "set_clock_uncertainty": {"-setup": 0, "-hold": 0},
+    "set_false_path": {"-setup": 0, "-hold": 0, "-from": 1, "-to": 1},
+    "set_multicycle_path": {"-setup": 0, "-hold": 0, "-from": 1, "-to": 1, "-start": 0, "-end": 0},
+    "set_timing_derate": {"-early": 0, "-late": 0, "-cell_delay": 0, "-net_delay": 0},
+}
+PASSED_OVER = {"current_design", "group_path", "set_propagated_clock", "set_operating_conditions", "set_wire_load_mode",
+               "set_wire_load_model", "set_max_area", "set_max_fanout", "set_max_transition", "set_max_capacitance"}
+UNCHECKED = {"set_max_fanout", "set_max_transition", "set_max_capacitance", "set_max_area"}
+LEFT_OUT = {"create_generated_clock", "set_clock_latency", "set_case_analysis", "set_clock_transition", "set_max_delay", "set_min_delay",
+            "set_driving_cell", "set_disable_timing"}
+LEFT_OUT_OPTIONS = {"-through", "-clock_fall", "-add_delay"}
+GETTERS = {"get_ports", "get_clocks", "get_pins", "get_cells"}
+KNOWN_TYPES = {"recovery_rising", "recovery_falling", "removal_rising", "removal_falling", "preset", "clear", "three_state_enable",
+               "three_state_disable", "three_state_enable_rise", "three_state_enable_fall", "three_state_disable_rise",
+               "three_state_disable_fall", "skew_rising", "skew_falling", "min_pulse_width", "minimum_period", "max_clock_tree_path",
+               "min_clock_tree_path", "retaining_time", "nochange_high_high", "nochange_high_low", "nochange_low_high", "nochange_low_low",
+               "non_seq_setup_rising", "non_seq_setup_falling", "non_seq_hold_rising", "non_seq_hold_falling", "combinational_rise",
+               "combinational_fall"}
+
+
+class Findings:
+    """What was found: a text with the names that it is about."""
+
+    def __init__(self, shows_all):
+        self.most, self.count = None if shows_all else SHOWN, 0
+
+    def add(self, text, names, is_note=False):
+        names = list(names)
+        if not names:
+            return
+        self.count += 0 if is_note else len(names)
+        print(f"{'note: ' if is_note else ''}{len(names)} {text}")
+        for name in names[:self.most]:
+            print(f"  {name}")
+        if self.most and len(names) > self.most:
+            print(f"  .. and {len(names) - self.most} more (--all)")
+
+
+# ------------------------------------------------------------------------------------------------ constraints
+
+def option_faults(command):
+    """What is not read of a command that is: its options and its forms."""
+    options, takes, plain = READ[command.name], 0, []
+    for word in command.words:
+        is_option = word.sort == "plain" and word.text.startswith("-") and not word.text[1:2].isdigit() and word.text[1:2] != "."
+        if takes:
+            takes -= 1
+        elif is_option and word.text in LEFT_OUT_OPTIONS:
+            yield word.text, "S3"
+        elif is_option and word.text not in options:
+            is_between = command.name == "set_clock_uncertainty" and word.text in ("-from", "-to", "-rise_from", "-fall_from", "-rise_to", "-fall_to")
+            yield word.text, "S3" if is_between or command.name == "set_timing_derate" else "S1"
+        elif is_option:
+            takes = options[word.text]
+        else:
+            plain.append(word)
+        if word.sort not in ("plain", "list"):
+            if word.sort.startswith(("get_", "all_")) and word.sort not in GETTERS:
+                yield word.text, "S3"
+            elif word.sort not in GETTERS:
+                yield word.text, "S1"
+        for name in word.names if word.sort in ("list", *GETTERS) or not is_option else []:
+            if "*" in name or "?" in name or name.startswith("$"):
+                yield name, "S3"
+    if command.name in ("set_input_delay", "set_output_delay") and not command.has("-clock"):
+        yield "no -clock", "S3"
+    if command.name == "set_multicycle_path" and command.has("-setup") and command.has("-hold"):
+        yield "-setup beside -hold", "S3"
+
+
+def sdc_faults(text, commands, file):
+    """Each command that is not read, with its line and code."""
+    for command in commands:
+        line, _ = documents.line_and_column(text, command.offset)
+        shown = f"{file}:{line}: {command.name}"
+        name = command.name
+        if name in READ:
+            for word, code in option_faults(command):
+                yield f"{shown} {word} ({code})"
+        elif name == "set_units" or name in PASSED_OVER or name == "set" and command.words and command.words[0].text == "sdc_version":
+            continue
+        elif name == "set" or name.startswith(("$", "[", "{")):
+            yield f"{shown} {command.words[0].text if command.words else ''} (Tcl is not run)"
+        elif name in LEFT_OUT or name.startswith(("get_", "all_")) and name not in GETTERS:
+            yield f"{shown} (S3)"
+        else:
+            yield f"{shown} (S2)"
+
+
+def names_of(word):
+    return [it for it in word.names] if word else []
+
+
+class Constraints:
+    """What the checks ask of the constraints."""
+
+    def __init__(self, commands):
+        self.commands, self.clocks, self.inputs, self.outputs, self.derates = commands, {}, {}, {}, {}
+        for command in commands:
+            if command.name == "create_clock":
+                self.clock(command)
+            elif command.name in ("set_input_delay", "set_output_delay"):
+                self.delay(command)
+            elif command.name == "set_timing_derate":
+                self.derate(command)
+
+    def plain(self, command):
+        """The words that are no options and no option's value."""
+        options, found, takes = READ[command.name], [], 0
+        for word in command.words:
+            if takes:
+                takes -= 1
+            elif word.sort == "plain" and word.text in options:
+                takes = options[word.text]
+            else:
+                found.append(word)
+        return found
+
+    def clock(self, command):
+        objects, name = self.plain(command), command.after("-name")
+        ports = [it for word in objects for it in names_of(word)]
+        label = name.text if name else ports[0] if ports else None
+        if label:
+            self.clocks[label] = ports[0] if ports else None
+
+    def splits(self, command):
+        chosen = [split for option, split in (("-min", "early"), ("-max", "late")) if command.has(option)]
+        return chosen or ["early", "late"]
+
+    def delay(self, command):
+        ports = [it for word in self.plain(command)[1:] for it in names_of(word)]
+        table = self.inputs if command.name == "set_input_delay" else self.outputs
+        for port in ports:
+            table.setdefault(port, set()).update(self.splits(command))
+
+    def derate(self, command):
+        numbers = documents.numbers([it.text for it in self.plain(command)], 1)
+        splits = [it for it in ("early", "late") if command.has(f"-{it}")] or ["early", "late"]
+        kinds = [it for it in ("cell", "net") if command.has(f"-{it}_delay")] or ["cell", "net"]
+        for split in splits if numbers else []:
+            self.derates.update({(split, kind): numbers[0] for kind in kinds})
+
+
+# ------------------------------------------------------------------------------------------------ the design
+
+def clock_network(joined, ports):
+    """The pins that clocks reach by nets and combinational arcs."""
+    seen, todo = set(), [it for it in ports if joined.netlist.ports.get(it) == "input"]
+    while todo:
+        pin = todo.pop()
+        if pin in seen:
+            continue
+        seen.add(pin)
+        net = joined.nets.get(joined.net_of.get(pin))
+        if net and pin in net.drivers:
+            todo += net.sinks
+        instance, _, own = pin.rpartition(":")
+        if instance and not (net and pin in net.drivers):
+            cell = joined.library.cells.get(joined.netlist.instances[instance].cell)
+            todo += {f"{instance}:{arc[2]}" for arc in cell.arcs if arc[0] == own and arc[4] == "comb"} if cell else []
+    return seen
+
+
+def registers(joined):
+    """Each instance with clock pins, with its cell."""
+    for instance in joined.netlist.instances.values():
+        cell = joined.library.cells.get(instance.cell)
+        if cell and cell.clock_pins():
+            yield instance, cell
+
+
+def check_clocks(findings, joined, constraints, network):
+    findings.add("design without a clock: nothing is tested", [] if constraints.clocks else ["no create_clock is read"])
+    reached = {f"{instance.name}:{pin}" for instance, cell in registers(joined) for pin in cell.clock_pins()}
+    idle = [f"{name} on {port}" for name, port in constraints.clocks.items()
+            if port is not None and not reached & clock_network(joined, [port])]
+    findings.add("clocks that reach no register", idle)
+    unclocked = [f"{instance.name} ({instance.cell})" for instance, cell in registers(joined)
+                 if not any(f"{instance.name}:{pin}" in network for pin in cell.clock_pins())]
+    findings.add("registers without a clock: their data pins are not tested", unclocked)
+
+
+def check_ports(findings, joined, constraints):
+    ports, clock_ports = joined.netlist.ports, set(constraints.clocks.values())
+    for name, table, way, what in (("input", constraints.inputs, "input", "have no arrival there"), ("output", constraints.outputs, "output", "are not tested there")):
+        lacking = [f"{port}: {' and '.join(sorted({'early', 'late'} - table.get(port, set())))}" for port in sorted(ports)
+                   if ports[port] == way and port not in clock_ports and table.get(port, set()) != {"early", "late"}]
+        findings.add(f"{name}s without a set_{name}_delay, which {what}", lacking)
+
+
+def check_nets(findings, joined):
+    undriven = [f"{net.name} ({', '.join(net.sinks[:3])})" for net in joined.nets.values() if not net.drivers and net.sinks]
+    findings.add("nets without a driver", sorted(undriven))
+    findings.add("nets with several drivers (E10)", sorted(f"{it.name} ({', '.join(it.drivers[:3])})" for it in joined.nets.values() if len(it.drivers) > 1))
+    missing, unknown, open_inputs = {}, [], []
+    for instance in joined.netlist.instances.values():
+        cell = joined.library.cells.get(instance.cell)
+        if cell is None:
+            missing.setdefault(instance.cell, []).append(instance.name)
+            continue
+        unknown += [f"{instance.name}:{pin} ({instance.cell})" for pin in instance.nets if pin not in cell.pins]
+        open_inputs += [f"{instance.name}:{pin}" for pin, (way, _) in cell.pins.items() if way == "input" and pin not in instance.nets]
+    findings.add("cells that the late library lacks (E3)", sorted(f"{cell} ({len(names)} instances, first {names[0]})" for cell, names in missing.items()))
+    findings.add("connections to pins that the cell lacks (E4)", unknown)
+    findings.add("inputs of instances that are left open", open_inputs)
+
+
+def check_parasitics(findings, joined, name):
+    text = documents.read_text(name)
+    spef = documents.Spef(text)
+    bare = sorted(net.name for net in joined.nets.values() if net.drivers and net.sinks and net.name not in spef.nets)
+    findings.add("nets without parasitics", bare)
+    findings.add("nets of the SPEF that the netlist lacks (E2)", sorted(it for it in spef.nets if it not in joined.nets))
+    findings.add("nets whose parasitics do not fit (E14, E15)", sorted(filter(None, (misfit(joined, it) for it in spef.nets.values()))))
+    odd = [f"{name}:{documents.line_and_column(text, offset)[0]}: {word} behind {section}" for word, offset, section in spef.odd_words]
+    findings.add("words that begin with * and are passed over with what follows", odd)
+    findings.add("sections of the SPEF that are passed over", [f"{section}, {count} words" for section, count in spef.passed_over.items()], True)
+
+
+def misfit(joined, parasitics):
+    """Why the parasitics of a net do not fit, or none."""
+    net = joined.nets.get(parasitics.name)
+    if net is None:
+        return None
+    if not net.drivers:
+        return f"{net.name}: no driver"
+    pins = {*net.drivers, *net.sinks}
+    strange = parasitics.named_pins() - pins
+    if strange:
+        return f"{net.name}: {', '.join(sorted(strange)[:3])} not on the net"
+    if not parasitics.ress:
+        return None
+    ends = {it for row in parasitics.ress for it in row[:2]}
+    if pins - ends:
+        return f"{net.name}: no resistor at {', '.join(sorted(pins - ends)[:3])}"
+    return f"{net.name}: {len(parasitics.ress)} resistors over {len(ends)} nodes are no tree" if len(parasitics.ress) != len(ends) - 1 else None
+
+
+def check_libraries(findings, early, late, netlist, derates, same):
+    used = sorted({it.cell for it in netlist.instances.values()})
+    for library, role in ((early, "early"), (late, "late")):
+        types = {}
+        for cell in used:
+            for kind, count in (library.cells[cell].passed_over if cell in library.cells else {}).items():
+                types.setdefault(kind, []).append(cell)
+        strange = [f"{kind} in {len(cells)} cells, first {cells[0]}" for kind, cells in sorted(types.items()) if kind not in KNOWN_TYPES]
+        findings.add(f"timing types of used cells of the {role} library that Liberty does not have, passed over", strange)
+        findings.add(f"timing types of used cells of the {role} library that are passed over",
+                     [f"{kind} in {len(cells)} cells, first {cells[0]}" for kind, cells in sorted(types.items()) if kind in KNOWN_TYPES], True)
+    factors = {(split, kind): derates.get((split, kind), 1.0) for split in ("early", "late") for kind in ("cell", "net")}
+    findings.add("derates that are crossed: early above late", [f"{kind} delays: early {factors['early', kind]:g}, late {factors['late', kind]:g}"
+                                                                 for kind in ("cell", "net") if factors["early", kind] > factors["late", kind]])
+    if same:
+        return
+    differing = [f"{cell}: {'; '.join(differences(early.cells[cell], late.cells[cell]))}" for cell in used
+                 if cell in early.cells and cell in late.cells and differences(early.cells[cell], late.cells[cell])]
+    findings.add("cells that differ between the libraries (E3)", differing)
+    findings.add("cells that the early library lacks (E3)", [it for it in used if it not in early.cells and it in late.cells])
+    crossed = [f"{cell} {' '.join(arc[:4])}" for cell in used if cell in early.cells and cell in late.cells
+               for arc in sorted(late.cells[cell].arcs) if is_crossed(early.cells[cell], late.cells[cell], arc, factors)]
+    findings.add("arcs whose early delay exceeds the late one at some entry", crossed)
+
+
+def differences(early, late):
+    parts = [("pins", {(name, way) for name, (way, _) in early.pins.items()}, {(name, way) for name, (way, _) in late.pins.items()}),
+             ("arcs", set(early.arcs), set(late.arcs)), ("tests", set(early.tests), set(late.tests))]
+    return [f"other {what}" for what, one, other in parts if one != other]
+
+
+def is_crossed(early, late, arc, factors):
+    """Whether the early delay is above the late one at some entry of the early tables."""
+    if arc not in early.arcs:
+        return False
+    latest = [delay for delay, _ in late.arcs[arc]]
+    for table, _ in early.arcs[arc]:
+        for x in table.xs:
+            for y in table.ys:
+                values = [it for it in (late_table.at(x, y) for late_table in latest) if it is not None]
+                value = table.at(x, y)
+                if values and value is not None and value * factors["early", "cell"] > max(values) * factors["late", "cell"] + 1:
+                    return True
+    return False
+
+
+# ------------------------------------------------------------------------------------------------ exceptions and endpoints
+
+def matches_nothing(joined, constraints, network, word, option):
+    """Names of an object word that match no path, with why."""
+    ports, made = joined.netlist.ports, joined.netlist.instances
+    for name in names_of(word):
+        pin = documents.pin_word(name)
+        instance = made.get(name)
+        cell = joined.library.cells.get(instance.cell) if instance else None
+        if word.sort == "get_clocks":
+            if name not in constraints.clocks:
+                yield f"{name}: no such clock"
+        elif word.sort == "get_pins" or word.sort != "get_cells" and pin in joined.net_of and ":" in pin and name not in constraints.clocks and name not in ports:
+            own = made.get(pin.rpartition(":")[0])
+            if option == "-from" and pin not in network:
+                yield f"{name}: no path is launched there; name the register's clock pin"
+            elif option == "-to" and (own is None or pin.rpartition(":")[2] not in (joined.library.cells[own.cell].data_pins() if own.cell in joined.library.cells else ())):
+                yield f"{name}: no endpoint"
+        elif cell is not None and name not in constraints.clocks and name not in ports:
+            if option == "-from" and not any(f"{name}:{it}" in network for it in cell.pins):
+                yield f"{name}: no clock reaches this instance"
+            elif option == "-to" and not cell.data_pins():
+                yield f"{name}: this instance has no data pin"
+        elif name in ports and name not in constraints.clocks:
+            if ports[name] != ("input" if option == "-from" else "output"):
+                yield f"{name}: a port of the wrong direction (E13)"
+        elif name not in constraints.clocks and cell is None and pin not in joined.net_of:
+            yield f"{name}: not there (E13)"
+
+
+def check_exceptions(findings, joined, constraints, network, text, file):
+    empty, gone = [], []
+    for command in constraints.commands:
+        line, _ = documents.line_and_column(text, command.offset)
+        if command.name in ("set_false_path", "set_multicycle_path"):
+            for option in ("-from", "-to"):
+                word = command.after(option)
+                empty += [f"{file}:{line}: {command.name} {option} {it}" for it in matches_nothing(joined, constraints, network, word, option)] if word else []
+        elif command.name in READ and command.name not in ("set_timing_derate", "set_clock_uncertainty"):
+            words = constraints.plain(command)[0 if command.name == "create_clock" else 1:]
+            way = "output" if command.name in ("set_output_delay", "set_load") else "input"
+            gone += [f"{file}:{line}: {command.name}: {name}" for word in words if word.sort in ("plain", "list", "get_ports") for name in names_of(word)
+                     if joined.netlist.ports.get(name) is None or command.name != "set_load" and joined.netlist.ports[name] != way]
+    findings.add("objects of exceptions that match no path", empty)
+    findings.add("ports of constraints that are not there or have the wrong direction (E13)", gone)
+
+
+def ask_endpoints(program, files, endpoints):
+    """The slack of each endpoint of each kind, by the program; none where it gives no output."""
+    questions = [(pin, kind) for kind in ("setup", "hold") for pin in endpoints]
+    answers = {}
+    for at in range(0, len(questions), 10000):
+        part = questions[at:at + 10000]
+        with tempfile.NamedTemporaryFile("w", suffix=".eco") as script:
+            script.writelines(f"report_endpoint {pin} {kind}\n" for pin, kind in part)
+            script.flush()
+            ran = subprocess.run([program, "run", *files, "1", script.name], capture_output=True, text=True, check=False)
+        if ran.returncode not in (0, 1):
+            print(f"note: the program refuses the documents: {ran.stdout.strip()}")
+            sys.stdout.write(ran.stderr)
+            return None
+        rows = [it.split() for it in ran.stdout.split("\n") if it[:1].isdigit()]
+        answers.update((part[int(row[0]) - 1], row[3] if row[2] == "endpoint" else " ".join(row[2:4])) for row in rows)
+    return answers
+
+
+def check_endpoints(findings, program, files, joined):
+    answers = ask_endpoints(program, files, joined.endpoints())
+    if answers is None:
+        findings.count += 1
+        return
+    for kind in ("setup", "hold"):
+        untested = [f"{pin}{' (no clock reaches it)' if said.startswith('no ') else ''}" for (pin, asked), said in answers.items()
+                    if asked == kind and (said == "none" or said.startswith("no "))]
+        findings.add(f"endpoints without a tested {kind} path, by the program", untested)
+
+
+# ------------------------------------------------------------------------------------------------ the command
+
+def main():
+    parser = argparse.ArgumentParser(description=__doc__, formatter_class=argparse.RawDescriptionHelpFormatter)
+    for name in ("early", "late", "netlist", "sdc", "spef"):
+        parser.add_argument(name)
+    parser.add_argument("--program")
+    parser.add_argument("--all", action="store_true")
+    given = parser.parse_args()
+    try:
+        text, netlist = documents.read_text(given.sdc), documents.Netlist(documents.read_text(given.netlist))
+        same = os.path.samefile(given.early, given.late)
+        late = documents.Library(documents.read_text(given.late))
+        early = late if same else documents.Library(documents.read_text(given.early))
+    except OSError as why:
+        sys.exit(f"check_setup: {why}")
+    findings, joined = Findings(given.all), documents.Joined(netlist, late)
+    commands = documents.read_commands(text)
+    constraints = Constraints(commands)
+    network = clock_network(joined, [port for port in constraints.clocks.values() if port])
+    findings.add("commands or options of the SDC that are not read", sdc_faults(text, commands, given.sdc))
+    findings.add("commands of the SDC that are passed over", [it.name for it in commands if it.name in UNCHECKED], True)
+    check_clocks(findings, joined, constraints, network)
+    check_ports(findings, joined, constraints)
+    check_nets(findings, joined)
+    if given.spef != "none":
+        check_parasitics(findings, joined, given.spef)
+    check_libraries(findings, early, late, netlist, constraints.derates, same)
+    check_exceptions(findings, joined, constraints, network, text, given.sdc)
+    if given.program:
+        program = given.program if os.sep not in given.program else str(pathlib.Path(given.program).resolve())
+        check_endpoints(findings, program, [given.early, given.late, given.netlist, given.sdc, given.spef], joined)
+    print(f"check_setup: {findings.count} findings" if findings.count else "check_setup: nothing found")
+    return 1 if findings.count else 0
+
+
+if __name__ == "__main__":
+    sys.exit(main())

@@ -1,0 +1,114 @@
+#!/usr/bin/env python3
+"""Turns the ECOs of a journal into a script, or into Tcl for layout tools: convert_journal.py OUTPUT [--to script|tcl] [--first N] [--last N]
+
+OUTPUT is the output of a run, or its journal alone. An ECO of several edits becomes a group of the script. --first and --last give the
+numbers of the entries to take (default: all).
+
+The Tcl has the words of OpenSTA's editing commands: replace_cell, make_instance, delete_instance, make_net, delete_net, connect_pin,
+disconnect_pin, and for buffers insert_buffer NET INSTANCE NEW_NET CELL SINKS, which the head of the file defines by the others; a tool
+with other words needs other definitions there. Parasitics are comments, since a layout tool makes the wires itself. Edits that take
+each other back (a cell put in and taken out again) stay, as the journal has them.
+"""
+import argparse
+import sys
+
+import design_documents as documents
+
+HEAD = """# Edits of a Lizdrog journal, in the words of OpenSTA. Another tool: define these three for it, and replace_cell and the like.
+proc pin_names {instance way} {
+  set names {}
+  foreach pin [get_pins $instance/*] {
+    if {[get_property $pin direction] eq $way} { lappend names [get_full_name $pin] }
+  }
+  return $names
+}
+proc net_of_pin {pin} { return [get_full_name [get_nets -of_objects [get_pins $pin]]] }
+proc insert_buffer {net instance new_net cell sinks} {
+  make_net $new_net
+  make_instance $instance $cell
+  connect_pin $net [pin_names $instance input]
+  connect_pin $new_net [pin_names $instance output]
+  foreach sink $sinks {
+    disconnect_pin $net $sink
+    connect_pin $new_net $sink
+  }
+}
+"""
+
+
+def read_journal(text):
+    """The edits of each entry."""
+    lines = text.split("\n")
+    head = lines[0].split(" ")
+    if head[0] != "journal" or len(head) != 3 or not head[2].isdigit():
+        raise ValueError(f"this begins with no journal: {lines[0][:60]}")
+    entries, at = [], 1
+    for _ in range(int(head[2])):
+        words = lines[at].split(" ") if at < len(lines) else [""]
+        if words[0] != "entry":
+            raise ValueError(f"line {at + 1} is no entry of the journal")
+        entries.append(lines[at + 1:at + 1 + int(words[5])])
+        at += 1 + int(words[5])
+    return entries
+
+
+def as_script(entries, first):
+    for number, edits in enumerate(entries, first):
+        yield f"# entry {number} of the journal"
+        if len(edits) == 1:
+            yield edits[0]
+        else:
+            yield from ("begin_eco", *edits, "commit_eco")
+
+
+def braced(name):
+    """A name as a word of Tcl."""
+    return name if all(it.isalnum() or it in "_/" for it in name) else "{" + name + "}"
+
+
+def tcl_pin(word):
+    instance, _, pin = word.rpartition(":")
+    return braced(f"{instance}/{pin}" if instance else pin)
+
+
+def tcl_edit(edit):
+    """The command of an edit."""
+    name, *words = edit.split(" ")
+    plain = {"repower_gate": "replace_cell", "insert_gate": "make_instance", "remove_gate": "delete_instance", "insert_net": "make_net",
+             "remove_net": "delete_net"}
+    if name in plain:
+        return " ".join([plain[name], *map(braced, words)])
+    if name == "connect_pin":
+        return f"connect_pin {braced(words[1])} {tcl_pin(words[0])}"
+    if name == "disconnect_pin":
+        return f"disconnect_pin [net_of_pin {tcl_pin(words[0])}] {tcl_pin(words[0])}"
+    if name == "insert_buffer":
+        return f"insert_buffer {' '.join(map(braced, words[:2]))} {braced(words[2])} {braced(words[3])} {{{' '.join(map(tcl_pin, words[4:]))}}}"
+    return f"# {edit}"
+
+
+def as_tcl(entries, first):
+    yield HEAD
+    for number, edits in enumerate(entries, first):
+        yield f"# entry {number} of the journal"
+        yield from map(tcl_edit, edits)
+
+
+def main():
+    parser = argparse.ArgumentParser(description=__doc__, formatter_class=argparse.RawDescriptionHelpFormatter)
+    parser.add_argument("output")
+    parser.add_argument("--to", choices=["script", "tcl"], default="script")
+    parser.add_argument("--first", type=int, default=1)
+    parser.add_argument("--last", type=int)
+    given = parser.parse_args()
+    try:
+        entries = read_journal(documents.read_text(given.output))
+    except (ValueError, IndexError) as why:
+        sys.exit(f"convert_journal: {given.output}: {why}")
+    chosen = entries[given.first - 1:given.last]
+    for line in (as_tcl if given.to == "tcl" else as_script)(chosen, given.first):
+        print(line)
+
+
+if __name__ == "__main__":
+    main()

@@ -1,0 +1,386 @@
+#!/usr/bin/env python3
+"""Joins a script with the output of its run: read_answers.py SCRIPT OUTPUT [options]
+
+It prints a line for each row with its question, as `report_endpoint r2:D setup -> 936.500 ps (design 1)`, and paths and lists below it.
+
+  --netlist NETLIST --library LIBRARY   beside each pin of a path its cell, the net that it drives and its number of sinks, as they are in
+                                        the design of the row (ECOs of the journal included)
+  --json, --csv                         the rows for programs, in place of the lines
+  --failing                             the endpoints of negative slack, counted and listed, worst first
+  --histogram                           how many endpoints have which slack, as text
+  --svg FILE                            the same as a picture
+  --design N                            for these three: the design whose rows count (default: the last one with endpoints)
+
+Endpoints are those of the script's report_endpoint and report_worst; tools/endpoint_questions.py writes a script that asks all.
+"""
+import argparse
+import csv
+import json
+import re
+import sys
+
+import design_documents as documents
+import explain_fault
+
+QUESTIONS = {"Q1": "there is no such pin", "Q2": "it is no endpoint", "Q3": "no clock reaches this register for a test of this kind"}
+
+
+# ------------------------------------------------------------------------------------------------ the script and the output
+
+class Command:
+    """A command of a script: its words, its lines, and where it begins."""
+
+    def __init__(self, number, line, lines):
+        self.number, self.line, self.lines = number, line, lines
+        self.words = lines[0].split()
+
+    def text(self):
+        return " ".join(self.words) if len(self.lines) == 1 else f"begin_eco ({len(self.lines) - 2} edits)"
+
+
+def read_script(text):
+    """The commands of a script, groups as one."""
+    commands, group = [], None
+    for number, line in enumerate(text.split("\n"), 1):
+        words = line.split()
+        if not words or words[0].startswith("#"):
+            continue
+        if group is not None:
+            group.append(" ".join(words))
+        if words[0] == "begin_eco":
+            group, begin = ["begin_eco"], number
+        elif words[0] == "commit_eco" and group is not None:
+            commands.append(Command(len(commands) + 1, begin, group))
+            group = None
+        elif group is None:
+            commands.append(Command(len(commands) + 1, number, [line]))
+    return commands
+
+
+class Row:
+    """A row of a session: command, design, what it is, and what belongs to it."""
+
+    def __init__(self, words, below):
+        self.command, self.design, self.sort = int(words[0]), int(words[1]), words[2]
+        self.words, self.below = words[3:], below
+
+
+class Output:
+    """The output of a run: the ECOs of its journal, the rows of its sessions, and its last line."""
+
+    def __init__(self, text):
+        self.ecos, self.sessions, self.final = [], [], None
+        lines, at = text.split("\n"), 0
+        if not lines[0].startswith("journal"):
+            raise ValueError(f"this is no output of a run: {lines[0][:60]}")
+        while at < len(lines):
+            words = lines[at].split(" ")
+            at += 1
+            if words[0] == "entry":
+                self.ecos.append(lines[at:at + int(words[5])])
+                at += int(words[5])
+            elif words[0] == "session":
+                self.sessions.append([])
+            elif words[0] == "final":
+                self.final = words[1:]
+            elif self.sessions and words[0].isdigit():
+                count = self.lines_below(words)
+                self.sessions[-1].append(Row(words, [it.split(" ") for it in lines[at:at + count]]))
+                at += count
+
+    @staticmethod
+    def lines_below(words):
+        """How many lines of a path or a list of endpoints belong to a row."""
+        if words[2] == "worst":
+            return int(words[3])
+        return int(words[-1]) if words[2] == "path" and words[3] != "none" else 0
+
+
+# ------------------------------------------------------------------------------------------------ the design of a row
+
+class Edited:
+    """A netlist with its library, taken through the ECOs of a journal one after the other."""
+
+    def __init__(self, netlist, library, ecos):
+        self.netlist, self.library, self.ecos, self.number, self.joined = netlist, library, ecos, 0, None
+
+    def at(self, number):
+        """The design of this number; numbers may not fall."""
+        while self.number < min(number, len(self.ecos)):
+            for edit in self.ecos[self.number]:
+                self.edit(edit.split())
+            self.number, self.joined = self.number + 1, None
+        if self.joined is None:
+            self.joined = documents.Joined(self.netlist, self.library)
+        return self.joined
+
+    def pin(self, word):
+        instance, _, pin = word.rpartition(":")
+        return self.netlist.instances[instance], pin
+
+    def edit(self, words):
+        name, made = words[0], self.netlist.instances
+        if name == "repower_gate":
+            made[words[1]].cell = words[2]
+        elif name == "insert_gate":
+            made[words[1]] = documents.Instance(words[1], words[2], 0)
+        elif name == "remove_gate":
+            del made[words[1]]
+        elif name in ("connect_pin", "disconnect_pin"):
+            instance, pin = self.pin(words[1])
+            instance.nets[pin] = words[2] if name == "connect_pin" else None
+        elif name == "insert_buffer":
+            net, inst, fresh, cell = words[1:5]
+            buffer = made[inst] = documents.Instance(inst, cell, 0)
+            for pin, (way, _) in self.library.cells[cell].pins.items():
+                buffer.nets[pin] = net if way == "input" else fresh
+            for sink in words[5:]:
+                instance, pin = self.pin(sink)
+                instance.nets[pin] = fresh
+
+
+def beside(design, pin, direction):
+    """What stands beside a pin of a path: its cell, and where it drives a net that net with its number of sinks."""
+    net = design.nets.get(design.net_of.get(pin))
+    cell = design.cell_of(pin) or f"{direction} port"
+    drives = net is not None and pin in net.drivers
+    return {"cell": cell, "net": net.name if drives else None, "fanout": len(net.sinks) if drives else None}
+
+
+def path_lines(row, edited):
+    """The pins of a path with the delay of each stage, and what stands beside them."""
+    design, before, found = edited.at(row.design) if edited else None, None, []
+    for pin, edge, time in row.below:
+        value = thousandths(time)
+        line = {"pin": pin, "edge": edge, "time": time, "stage": None if before is None else picoseconds(value - before)}
+        if design:
+            line.update(beside(design, pin, "input" if before is None else "output"))
+        found.append(line)
+        before = value
+    return found
+
+
+def thousandths(time):
+    """A printed time as a whole number of femtoseconds."""
+    return int(time.replace(".", ""))
+
+
+def picoseconds(value):
+    sign, value = "-" if value < 0 else "", abs(value)
+    return f"{sign}{value // 1000}.{value % 1000:03d}"
+
+
+# ------------------------------------------------------------------------------------------------ lines for people
+
+def answer_text(row):
+    """The answer of a row, in a line."""
+    words = row.words
+    if row.sort in ("taken", "reached", "accepted"):
+        return row.sort
+    if row.sort == "not_yet":
+        return f"not yet, after {words[0]} looks"
+    if row.sort == "refused":
+        return f"refused {' '.join(words)}: {explain_fault.sentence(words[0])}"
+    if row.sort == "no":
+        return f"no answer, {' '.join(words)}: {QUESTIONS.get(words[0], '')}"
+    if row.sort in ("at", "rat"):
+        edges = [f"{words[i]} {words[i + 1]} {words[i + 2]} ps" for i in range(1, len(words) - 2, 3)]
+        return ", ".join(edges) or ("no arrival" if row.sort == "at" else "no required time")
+    if row.sort == "worst":
+        return f"{words[0]} endpoints"
+    if row.sort == "path":
+        return "no tested path" if words[0] == "none" else f"slack {words[3]} ps, credit {words[5]} ps, from {words[7]} {words[8]} to {words[10]} {words[11]}"
+    return words[0] if words[0] == "none" else f"{words[0]} ps"
+
+
+def path_text(row, edited):
+    """The lines of a path in columns."""
+    lines = path_lines(row, edited)
+    width = max(len(it["pin"]) for it in lines)
+    yield f"  {'time':>11} {'stage':>10} edge {'pin':{width}}" + ("  cell, and the net that the pin drives" if edited else "")
+    for line in lines:
+        text = f"  {line['time']:>11} {line['stage'] or '':>10} {line['edge']:4} {line['pin']:{width}}"
+        if edited:
+            net = f"  net {line['net']}, {line['fanout']} sink{'' if line['fanout'] == 1 else 's'}" if line["net"] else ""
+            text += f"  {line['cell']}{net}"
+        yield text.rstrip()
+
+
+def print_lines(commands, output, edited):
+    for row in output.sessions[0]:
+        command = commands[row.command - 1]
+        print(f"{command.text()} -> {answer_text(row)} (design {row.design})")
+        if row.sort == "worst":
+            width = max((len(time) for _, time in row.below), default=0)
+            for pin, time in row.below:
+                print(f"  {time:>{width}} ps  {pin}")
+        elif row.sort == "path" and row.below:
+            for line in path_text(row, edited):
+                print(line)
+    number, _, setup, setup_total, _, hold, hold_total = output.final
+    print(f"at the end, design {number}: setup worst {setup} ps, total {setup_total} ps; hold worst {hold} ps, total {hold_total} ps")
+
+
+# ------------------------------------------------------------------------------------------------ rows for programs
+
+def row_value(row, edited):
+    """The answer of a row as data; times are texts in picoseconds."""
+    words = row.words
+    if row.sort in ("refused", "no"):
+        return {"code": words[0], "names": words[1:]}
+    if row.sort in ("at", "rat"):
+        return {"edges": [{"clock": words[i], "edge": words[i + 1], "time": words[i + 2]} for i in range(1, len(words) - 2, 3)]}
+    if row.sort == "worst":
+        return {"endpoints": [{"pin": pin, "slack": time} for pin, time in row.below]}
+    if row.sort == "path":
+        if words[0] == "none":
+            return {"path": None}
+        return {"slack": words[3], "credit": words[5], "launch": words[7:9], "capture": words[10:12], "path": path_lines(row, edited)}
+    if row.sort == "not_yet":
+        return {"looks": int(words[0])}
+    return {"time": None if words[0] == "none" else words[0]} if words else {}
+
+
+def as_data(commands, output, edited):
+    rows = [{"command": row.command, "line": commands[row.command - 1].line, "question": commands[row.command - 1].lines,
+             "design": row.design, "answer": row.sort, **row_value(row, edited)} for row in output.sessions[0]]
+    number, _, setup, setup_total, _, hold, hold_total = output.final
+    final = {"design": int(number), "setup": {"wns": setup, "tns": setup_total}, "hold": {"wns": hold, "tns": hold_total}}
+    return {"journal": output.ecos, "rows": rows, "final": final}
+
+
+def print_csv(commands, output):
+    """One line for each row and for each line below it: command, design, question, answer, pin, edge, time."""
+    out = csv.writer(sys.stdout, lineterminator="\n")
+    out.writerow(["command", "design", "question", "answer", "pin", "edge", "time"])
+    for row in output.sessions[0]:
+        head = [row.command, row.design, commands[row.command - 1].text(), row.sort]
+        if row.sort in ("at", "rat"):
+            for i in range(1, len(row.words) - 2, 3):
+                out.writerow([*head, row.words[i], row.words[i + 1], row.words[i + 2]])
+        elif row.below:
+            for line in row.below:
+                out.writerow([*head, line[0], line[1] if len(line) == 3 else "", line[-1]])
+        else:
+            is_time = row.sort in ("slew", "slack", "endpoint", "wns", "tns") and row.words[0] != "none"
+            out.writerow([*head, "" if is_time else " ".join(row.words), "", row.words[0] if is_time else ""])
+
+
+# ------------------------------------------------------------------------------------------------ slacks of endpoints
+
+def slacks_of(commands, output, design):
+    """The slacks of endpoints by kind, in fs, from the rows of one design, and the number of that design."""
+    found = {}
+    for row in output.sessions[0]:
+        words = commands[row.command - 1].words
+        if row.sort == "endpoint":
+            pairs, kind = [(words[1], row.words[0])], words[2]
+        elif row.sort == "worst":
+            pairs, kind = row.below, words[1]
+        else:
+            continue
+        by_kind = found.setdefault(row.design, {"setup": {}, "hold": {}})[kind]
+        by_kind.update((pin, None if time == "none" else thousandths(time)) for pin, time in pairs)
+    number = design if design is not None else max(found, default=0)
+    return number, found.get(number, {"setup": {}, "hold": {}})
+
+
+def print_failing(number, slacks):
+    for kind, ends in slacks.items():
+        failing = sorted((slack, pin) for pin, slack in ends.items() if slack is not None and slack < 0)
+        untested = sum(slack is None for slack in ends.values())
+        print(f"{kind}, design {number}: {len(failing)} of {len(ends)} endpoints that were asked fail"
+              + (f", {untested} have no tested path" if untested else ""))
+        for slack, pin in failing:
+            print(f"  {picoseconds(slack):>12} ps  {pin}")
+
+
+def bins_of(values):
+    """Bins of one, two or five times a power of ten, some ten of them, with their counts; 0 is a border."""
+    low, high = min(values), max(values)
+    width = 1
+    while (high - low) // width > 12:
+        width = width * 5 // 2 if str(width)[0] == "2" else width * 2
+    first = low // width
+    counts = [0] * (high // width - first + 1)
+    for value in values:
+        counts[value // width - first] += 1
+    return [((first + i) * width, (first + i + 1) * width, count) for i, count in enumerate(counts)]
+
+
+def print_histogram(number, slacks):
+    for kind, ends in slacks.items():
+        values = [it for it in ends.values() if it is not None]
+        if not values:
+            continue
+        print(f"{kind} slack of {len(values)} endpoints, design {number}, in ps")
+        bins = bins_of(values)
+        most = max(count for _, _, count in bins)
+        for low, high, count in bins:
+            bar = "#" * -(-count * 50 // most)
+            print(f"  {picoseconds(low):>12} to {picoseconds(high):>12} {count:6} {bar}".rstrip())
+
+
+def svg(number, slacks):
+    """Bars for each kind below each other; bins below 0 are red."""
+    parts, top = [], 0
+    for kind, ends in slacks.items():
+        values = [it for it in ends.values() if it is not None]
+        if not values:
+            continue
+        bins = bins_of(values)
+        most, step = max(count for _, _, count in bins), 700 / len(bins)
+        parts.append(f'<text x="30" y="{top + 24}">{kind} slack of {len(values)} endpoints in ps, design {number}</text>')
+        for i, (low, high, count) in enumerate(bins):
+            height, colour = 160 * count / most, "#c0392b" if high <= 0 else "#2e6da4"
+            x, y = 30 + i * step, top + 210 - height
+            parts.append(f'<rect x="{x:.1f}" y="{y:.1f}" width="{step - 3:.1f}" height="{height:.1f}" fill="{colour}"/>')
+            parts.append(f'<text x="{x:.1f}" y="{top + 226}" font-size="10">{low / 1000:g}</text>')
+            if count:
+                parts.append(f'<text x="{x:.1f}" y="{y - 3:.1f}" font-size="10">{count}</text>')
+        top += 250
+    return f'<svg xmlns="http://www.w3.org/2000/svg" width="760" height="{top}" font-family="sans-serif">\n' + "\n".join(parts) + "\n</svg>\n"
+
+
+# ------------------------------------------------------------------------------------------------ the command
+
+def main():
+    parser = argparse.ArgumentParser(description=__doc__, formatter_class=argparse.RawDescriptionHelpFormatter)
+    parser.add_argument("script")
+    parser.add_argument("output")
+    for name in ("--netlist", "--library", "--svg"):
+        parser.add_argument(name)
+    for name in ("--json", "--csv", "--failing", "--histogram"):
+        parser.add_argument(name, action="store_true")
+    parser.add_argument("--design", type=int)
+    given = parser.parse_args()
+    commands = read_script(documents.read_text(given.script))
+    try:
+        output = Output(documents.read_text(given.output))
+    except ValueError as why:
+        sys.exit(f"read_answers: {given.output}: {why}")
+    if not output.sessions or output.final is None or len(output.sessions[0]) != len(commands):
+        sys.exit(f"read_answers: {given.output} is no whole output of {given.script}: {len(commands)} commands, {len(output.sessions[0]) if output.sessions else 0} rows")
+    edited = None
+    if given.netlist and given.library:
+        library = documents.Library(documents.read_text(given.library))
+        edited = Edited(documents.Netlist(documents.read_text(given.netlist)), library, output.ecos)
+    number, slacks = slacks_of(commands, output, given.design)
+    if given.json:
+        json.dump(as_data(commands, output, edited), sys.stdout, indent=1)
+        print()
+    elif given.csv:
+        print_csv(commands, output)
+    elif not (given.failing or given.histogram or given.svg):
+        print_lines(commands, output, edited)
+    if given.failing:
+        print_failing(number, slacks)
+    if given.histogram:
+        print_histogram(number, slacks)
+    if given.svg:
+        with open(given.svg, "w", encoding="ascii") as file:
+            file.write(svg(number, slacks))
+
+
+if __name__ == "__main__":
+    main()

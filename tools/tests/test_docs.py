@@ -1,0 +1,51 @@
+"""The documents: what they name is there."""
+import pathlib
+import re
+import unittest
+
+import common
+
+CRATES, DOCS = common.TOP / "crates", common.TOP / "docs"
+
+
+def index_rows():
+    text = (DOCS / "DEFINITIONS.md").read_text()
+    rows = re.findall(r"^\| (.*) \|$", text[text.index("## Index"):], re.M)
+    return [row.split(" | ") for row in rows[2:]]
+
+
+class Documents(unittest.TestCase):
+    def test_readme_is_short(self):
+        self.assertLessEqual(len((common.TOP / "README.md").read_text().splitlines()), 120)
+
+    def test_links_lead_somewhere(self):
+        for page in [common.TOP / "README.md", *DOCS.glob("*.md"), common.TOP / "examples" / "README.md"]:
+            for name in re.findall(r"`((?:docs|tools|bench|examples)/[\w./-]+|[A-Z]{4,}\.md)`", page.read_text()):
+                places = [common.TOP / name, DOCS / name, page.parent / name]
+                self.assertTrue(any(it.exists() for it in places), f"{page.name} names {name}")
+
+    def test_definitions_of_the_index_are_there(self):
+        for row in index_rows():
+            self.assertEqual(len(row), 4, row)
+            for crate, file, names in re.findall(r"`(\w+)/specs(?:/(\w+))?`(?:: ((?:`\w+`(?:, )?)+))?", row[1]):
+                folder = CRATES / crate / "specs"
+                self.assertTrue(folder.is_dir(), row)
+                if file:
+                    text = (folder / f"{file}.antt").read_text()
+                    for name in re.findall(r"`(\w+)`", names):
+                        self.assertRegex(text, rf"(?m)^(?:\w+ )*pub {name} |^record pub {name}|\b{name} :", f"{row[0]}: {name}")
+
+    def test_tests_of_the_index_are_there(self):
+        text = "\n".join(it.read_text() for it in CRATES.glob("*/src/**/*.rt"))
+        for row in index_rows():
+            for name in re.findall(r"`(\w+)`", row[3]):
+                self.assertIn(f"fn {name}(", text, row[0])
+
+    def test_faults_have_all_codes(self):
+        text = (DOCS / "FAULTS.md").read_text()
+        wanted = [f"{letter}{n}" for letter, last in (("L", 10), ("V", 6), ("S", 6), ("P", 5), ("C", 2), ("E", 17)) for n in range(1, last + 1)]
+        self.assertEqual(wanted, re.findall(r"^\| ([A-Z]\d+) \|", text, re.M))
+
+
+if __name__ == "__main__":
+    unittest.main()
