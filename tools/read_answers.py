@@ -217,8 +217,9 @@ def print_lines(commands, output, edited):
         elif row.sort == "path" and row.below:
             for line in path_text(row, edited):
                 print(line)
-    number, _, setup, setup_total, _, hold, hold_total = output.final
-    print(f"at the end, design {number}: setup worst {setup} ps, total {setup_total} ps; hold worst {hold} ps, total {hold_total} ps")
+    number, *totals = output.final
+    kinds = [f"{kind} worst {worst if worst == 'none' else worst + ' ps'}, total {total} ps" for kind, worst, total in (totals[:3], totals[3:])]
+    print(f"at the end, design {number}: {'; '.join(kinds)}")
 
 
 # ------------------------------------------------------------------------------------------------ rows for programs
