@@ -4,7 +4,5 @@
 mod mapping;
 mod pieces;
 mod runs;
-#[cfg(test)]
-mod tests;
 
 pub use mapping::map_level;

@@ -9,8 +9,6 @@ mod leveling;
 mod links;
 mod reaching;
 mod sweeping;
-#[cfg(test)]
-mod tests;
 
 pub use faults::LevelFault;
 pub use leveling::levels;

@@ -7,8 +7,6 @@
 mod groups;
 mod reading;
 mod statements;
-#[cfg(test)]
-mod tests;
 mod texts;
 mod tokens;
 

@@ -8,8 +8,6 @@ mod overrides;
 mod periods;
 mod rules;
 mod sums;
-#[cfg(test)]
-mod tests;
 mod words;
 
 pub use edges::separation;

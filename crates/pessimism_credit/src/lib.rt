@@ -4,8 +4,6 @@
 
 mod climbing;
 mod rows;
-#[cfg(test)]
-mod tests;
 mod trees;
 
 pub use rows::TreeRow;

@@ -4,7 +4,5 @@
 mod commands;
 mod lines;
 mod scripts;
-#[cfg(test)]
-mod tests;
 
 pub use scripts::read_script;

@@ -9,8 +9,6 @@ mod events;
 mod lists;
 mod moves;
 mod rows;
-#[cfg(test)]
-mod tests;
 
 pub use cores::Core;
 pub use events::Event;

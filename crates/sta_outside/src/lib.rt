@@ -11,7 +11,7 @@ mod shelf;
 mod sink;
 mod std_sink;
 
-pub use file_shelf::FileShelf;
+pub use file_shelf::{FileShelf, read_document};
 pub use gate::{Gate, NoGate, Point};
 pub use mem_shelf::MemShelf;
 pub use mem_sink::MemSink;

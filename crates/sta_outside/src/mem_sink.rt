@@ -47,6 +47,13 @@ impl MemSink {
         self.bytes.as_slice()
     }
 
+    /// How often it failed.
+    pub fn fault_count(&self) -> u64
+        ensures { result ≡ self.now.plan.faults }
+    {
+        self.plan.faults
+    }
+
     /// Takes of a piece what fits into the room, and tells whether all of it did.
     fn take_fitting(&mut self, piece: &[u8]) -> bool
         ensures answer { result ≡ nat_le (length piece.now) (self.old.room - vec_len self.old.bytes) }
@@ -85,30 +92,5 @@ impl Sink for MemSink {
         }
         self.plan.add_fault();
         Err(PutFault::Failed)
-    }
-}
-
-#[cfg(test)]
-mod tests {
-    use super::*;
-    use std::test::Fail;
-
-    #[test]
-    fn a_sink_in_memory_takes_what_fits(rt: HostRuntime) -> Result<(), Fail> {
-        let alloc = rt.alloc();
-        let mut sink = MemSink::new(alloc, 5, vec![in alloc; 2]?)?;
-        let rows = [
-            ("jou", Ok(()), "jou", 0),
-            ("r", Err(PutFault::Failed), "jou", 1),
-            ("", Ok(()), "jou", 1),
-            ("rnal", Err(PutFault::Failed), "journ", 2),
-            ("", Ok(()), "journ", 2),
-        ];
-        for (piece, wanted, written, faults) in rows {
-            assert_eq!(rt; sink.put(piece.as_bytes()), wanted, "at {piece}");
-            assert_eq!(rt; sink.bytes(), written.as_bytes(), "at {piece}");
-            assert_eq!(rt; sink.plan.faults, faults, "at {piece}");
-        }
-        Ok(())
     }
 }

@@ -11,8 +11,6 @@ mod faults;
 mod names;
 mod pieces;
 mod places;
-#[cfg(test)]
-mod tests;
 mod token;
 
 pub use bytes::{begins, continues, line_end_len};

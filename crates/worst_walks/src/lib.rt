@@ -2,16 +2,12 @@
 //! nodes, and of those the first by its list of nodes in an order that is asked only there. It is the search under worst timing paths.
 #![tactic(auto)]
 
-#[cfg(test)]
-mod checked;
 mod cones;
 mod firsts;
 mod orders;
 mod searching;
 mod slacks;
 mod tables;
-#[cfg(test)]
-mod tests;
 mod tracing;
 
 pub use cones::{Cone, Launch, Walk, WalkArc, WalkEnd};

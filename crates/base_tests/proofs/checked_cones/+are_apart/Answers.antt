@@ -2,7 +2,7 @@ use Rattle.std.proofs.Common.{◌≡◌, false, ◌==◌, List, [], ◌∷◌, d
 use Rattle.std.specs.List.{list_any}
 use Rattle.worst_walks.specs.declared.cones.WalkArc.{WalkArc}
 use Rattle.worst_walks.specs.Walks.{AreApart}
-use Rattle.worst_walks.proofs.checked.+are_apart.Goals as goal
+use Rattle.base_tests.proofs.checked_cones.+are_apart.Goals as goal
 
 apart_more : (arcs others : List WalkArc) (d : WalkArc) → others ≡ drop 1 arcs → list_any (λ arc. arc.from == (get_or arcs 0 d).from) others ≡ false → AreApart others → AreApart arcs
 apart_more [] others d e off more = tt

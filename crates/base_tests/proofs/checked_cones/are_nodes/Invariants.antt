@@ -1,7 +1,7 @@
 use Rattle.std.proofs.Common.{ℕ, ◌+◌, ◌<◌, ◌≤◌, length}
 use Rattle.std.specs.Prelude.{All, slice_index}
 use Rattle.worst_walks.specs.Walks.{listed_into, AreApart, IsArcInto}
-use Rattle.worst_walks.proofs.checked.are_nodes.Given as goal
+use Rattle.base_tests.proofs.checked_cones.are_nodes.Given as goal
 
 abbrev pub invariant-loop-node : goal.invariant-loop-node
 invariant-loop-node l =

@@ -1,0 +1,53 @@
+use super::*;
+use std::fmt::Display;
+use std::test::Fail;
+
+/// A standard output that takes at most this many bytes at a time, or fails.
+#[derive(Drop)]
+struct Narrow {
+    takes: Option<usize>,
+}
+
+impl Print for Narrow {
+    fn print<D: Display + Drop>(&self, _value: D) -> io::Result<()> {
+        Ok(())
+    }
+
+    fn println<D: Display + Drop>(&self, _value: D) -> io::Result<()> {
+        Ok(())
+    }
+
+    fn write_all(&self, _bytes: &[u8]) -> io::Result<()> {
+        Ok(())
+    }
+
+    fn write_some(&self, bytes: &[u8]) -> io::Result<usize> {
+        match self.takes {
+            Some(takes) => Ok(takes.min(bytes.len())),
+            None => Err(io::Error::from(ErrorKind::BrokenPipe)),
+        }
+    }
+}
+
+#[test]
+fn a_piece_is_put_whole_or_a_fault_is_counted(rt: HostRuntime) {
+    let rows = [
+        (Some(3), "journal", Ok(()), 0),
+        (Some(0), "journal", Err(PutFault::Failed), 1),
+        (Some(0), "", Ok(()), 0),
+        (None, "journal", Err(PutFault::Failed), 1),
+    ];
+    for (takes, piece, wanted, faults) in rows {
+        let output = Narrow { takes };
+        let mut sink = StdSink::new(&output);
+        assert_eq!(rt; sink.put(piece.as_bytes()), wanted, "{takes:?} at a time");
+        assert_eq!(rt; sink.faults, faults, "{takes:?} at a time");
+    }
+}
+
+#[test]
+fn the_standard_output_takes_a_piece(rt: HostRuntime) {
+    let mut sink = StdSink::new(&rt);
+    assert_eq!(rt; sink.put(b"journal 1 0\n"), Ok(()));
+    assert_eq!(rt; sink.faults, 0);
+}
