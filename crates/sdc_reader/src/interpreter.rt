@@ -14,7 +14,9 @@ use crate::numbers::number_of;
 use crate::tables::{Amount, PortTable};
 use sta_units::{Memory, Unit};
 use std::alloc::Global;
-use timing_defs::{Clock, Constraints, Derates, Exception, Items, Name, Units};
+use timing_defs::{
+    Clock, Constraints, Derates, Exception, Items, Name, PortDelay, PortLoad, PortSlew, Units,
+};
 
 /// A factor of one, in millionths.
 const NO_DERATE: u32 = 1_000_000;
@@ -31,6 +33,15 @@ pub(crate) struct Interpreter {
     pub loads: PortTable,
     pub exceptions: Items<Exception>,
     pub derates: Derates,
+}
+
+/// What is set at ports, in order of the ports' first commands.
+#[derive(Drop)]
+struct PortSettings {
+    inputs: Items<PortDelay>,
+    outputs: Items<PortDelay>,
+    slews: Items<PortSlew>,
+    loads: Items<PortLoad>,
 }
 
 fn no_derates() -> Derates
@@ -249,22 +260,43 @@ impl Interpreter {
         Ok(())
     }
 
-    /// The constraints that are set.
-    pub(crate) fn constraints(self, alloc: Global) -> Result<Constraints, Memory>
-        ensures { IfOk result (λ set. set ≡ constraints self) }
+    /// What is set at ports.
+    fn port_settings(&self, alloc: Global) -> Result<PortSettings, Memory>
+        ensures { IfOk result (λ set. (set.inputs ≡ (constraints self.now).inputs) × (set.outputs ≡ (constraints self.now).outputs) × (set.slews ≡ (constraints self.now).slews) × (set.loads ≡ (constraints self.now).loads)) }
     {
         let inputs = self.inputs.delays(alloc)?;
         let outputs = self.outputs.delays(alloc)?;
         let slews = self.slews.slews(alloc)?;
         let loads = self.loads.loads(alloc)?;
-        Ok(Constraints {
-            clocks: self.clocks,
+        Ok(PortSettings {
             inputs,
             outputs,
             slews,
             loads,
-            exceptions: self.exceptions,
-            derates: self.derates,
         })
+    }
+
+    /// Gives the interpreter up.
+    fn discard(self) {}
+
+    /// The constraints that are set.
+    pub(crate) fn constraints(self, alloc: Global) -> Result<Constraints, Memory>
+        ensures { IfOk result (λ set. set ≡ constraints self) }
+    {
+        match self.port_settings(alloc) {
+            Ok(ports) => Ok(Constraints {
+                clocks: self.clocks,
+                inputs: ports.inputs,
+                outputs: ports.outputs,
+                slews: ports.slews,
+                loads: ports.loads,
+                exceptions: self.exceptions,
+                derates: self.derates,
+            }),
+            Err(wanting) => {
+                self.discard();
+                Err(wanting)
+            }
+        }
     }
 }
