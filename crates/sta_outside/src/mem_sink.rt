@@ -1,7 +1,7 @@
 //! A sink in memory.
 
 ghost use Rattle.std.specs.Prelude.{◌≡◌, ◌≤◌, ◌-◌, [], ◌++◌, Ok, Err, Some, is_ok, OnOk, OnErr, IfOk, length, take, nat_le, vec_len, vec_capacity};
-ghost use Rattle.sta_outside.specs.Plan.{next_fails, after_call, with_fault};
+ghost use Rattle.sta_outside.specs.Plan.{next_fails, after_put};
 ghost use Rattle.sta_outside.specs.Shelf.{Rose};
 ghost use Rattle.sta_outside.specs.Sink.{Appends, AppendsPrefix, succeeds, taken};
 
@@ -83,6 +83,8 @@ impl Sink for MemSink {
         ensures succeeds { is_ok result ≡ succeeds (next_fails self.old.plan) (self.old.room - vec_len self.old.bytes) bytes.now }
         ensures taken { self.new.bytes.items ≡ self.old.bytes.items ++ taken (next_fails self.old.plan) (self.old.room - vec_len self.old.bytes) bytes.now }
         ensures room { self.new.room ≡ self.old.room }
+        // which puts raise the count, and by how much
+        ensures plan { self.new.plan ≡ after_put self.old.plan (nat_le (length bytes.now) (self.old.room - vec_len self.old.bytes)) }
     {
         if self.plan.next_fails() {
             return Err(PutFault::Failed);
