@@ -17,6 +17,7 @@ FAULTS = pathlib.Path(__file__).resolve().parent.parent / "docs" / "FAULTS.md"
 ROLES = {"early": 1, "late": 2, "netlist": 3, "sdc": 4, "spef": 5}
 WIDTH = 150
 ORDER = "EARLY LATE NETLIST SDC SPEF WORKERS SCRIPT"
+COMMENTS = re.compile(r"^\s*#[^\n]*|//[^\n]*|/\*.*?\*/", re.S | re.M)
 KINDS = [(r"\s*library\b", "a library (Liberty)", ("early", "late")), (r"\s*module\b", "a netlist (Verilog)", ("netlist",)),
          (r"\s*\*SPEF", "parasitics (SPEF)", ("spef",)), (r"\s*(create_clock|set_units|set_input|set_output|set sdc_version)", "constraints (SDC)", ("sdc",)),
          (r"\s*(report_|repower_|insert_|begin_eco|take\b|await\b)", "a script", ("script",))]
@@ -48,6 +49,7 @@ def can_be_read_again(name):
 
 
 def shown(line):
+    """A line as it can be printed."""
     return "".join(it if " " <= it <= "~" else " " if it == "\t" else "?" for it in line)
 
 
@@ -91,7 +93,7 @@ def hints(role, code, place, text, line):
     if text.startswith("\xef\xbb\xbf"):
         return ["  the file begins with a byte order mark, which is not read: take its first three bytes away"]
     for pattern, kind, roles in KINDS:
-        if place <= 1 and re.match(pattern, text) and role.rstrip("0123456789") not in roles:
+        if re.match(pattern, COMMENTS.sub("", text[:100000])) and role.rstrip("0123456789") not in roles:
             return [f"  the file looks like {kind}, and stands in the place of {role}: the order is run {ORDER}"]
     if role.startswith("script"):
         return [f"  {it}" for it in script_hints(code, line)]
@@ -99,8 +101,31 @@ def hints(role, code, place, text, line):
         return [f"  {it}" for it in sdc_hints(code, text, place)]
     if code == "L6":
         return [f"  {it}" for it in table_hints(text, place)]
-    if code == "P1" and re.match(r"\S", text[place:]) and not text[place:].startswith("*"):
-        return ["  where the row before ends with a word that is no number, that word was taken for a node, and a value was expected here"]
+    if code == "L1" and place >= len(text):
+        return [f"  {it}" for it in bracket_hints(text)]
+    if code == "V1":
+        return ["  what is wrong may stand before it: a ; or a ) that is missing"]
+    if code in ("P1", "P4"):
+        return [f"  {it}" for it in row_hints(text, place)]
+    return []
+
+
+def row_hints(text, place):
+    """Whether the row of a SPEF before the fault ends with a word that is no number."""
+    lines = text[:place].split("\n")
+    before = lines[-2].split() if len(lines) > 1 else []
+    if before and before[0].isdigit() and not re.fullmatch(r"[-+]?[\d.][\d.eE:+-]*", before[-1]):
+        return [f"the row before ends with {before[-1]}, which is no number and was taken for a node, so that its value was looked for here"]
+    return []
+
+
+def bracket_hints(text):
+    """Where a closing bracket of a library is missing: the first cell inside another, or pin inside another."""
+    for group in groups_of(documents.read_groups(text)):
+        for inner in group.groups:
+            if group.name in ("cell", "pin", "timing") and inner.name in ("cell", group.name):
+                (line, _), (other, _) = (documents.line_and_column(text, it.offset) for it in (group, inner))
+                return [f"a closing bracket is missing: {group.name} ({' '.join(group.args)}) of line {line} goes on at line {other}, where {inner.name} ({' '.join(inner.args)}) begins"]
     return []
 
 
@@ -142,6 +167,11 @@ def script_hints(code, line):
     return [f"there is no command {name}: docs/SCRIPTS.md has all"] if name else []
 
 
+DELAY = "a delay needs -clock"
+FORMS = {"set_input_delay": DELAY, "set_output_delay": DELAY,
+         "create_clock": "a clock has one port or none, and no other clock has its name or its port"}
+
+
 def sdc_hints(code, text, place):
     word = re.match(r"[^\s;]*", text[place:]).group()
     line = text[text.rfind("\n", 0, place) + 1:].split("\n")[0]
@@ -151,7 +181,10 @@ def sdc_hints(code, text, place):
         return ["Tcl is not run: this is a command of Tcl"]
     if code == "S3" and ("*" in word or "?" in word):
         return ["there are no patterns: name each object"]
-    return ["docs/INPUT.md has what is read of SDC; tools/check_setup.py lists all lines that are not, in one run"]
+    if code == "S3" and word in FORMS:
+        return [FORMS[word]]
+    return [] if code not in ("S1", "S2", "S3") else [
+        "docs/INPUT.md has what is read of SDC; tools/check_setup.py lists all lines that are not, in one run"]
 
 
 def table_hints(text, place):
@@ -195,7 +228,7 @@ def explain_cell(cell, words):
     users = [it for it in netlist.instances.values() if it.cell == cell]
     if users:
         line, _ = documents.line_and_column(netlist.text, users[0].offset)
-        told.append(f"{len(users)} instances are of this cell, first {users[0].name} ({words[3]}:{line})")
+        told.append(f"{len(users)} instance{'s are' if len(users) > 1 else ' is'} of this cell, first {users[0].name} ({words[3]}:{line})")
     return told
 
 
@@ -232,8 +265,6 @@ def explain_net(code, net, words):
                 told.append(f"no resistor ends at {', '.join(sorted(pins - ends)[:6])}, which {'is' if len(pins - ends) == 1 else 'are'} on the net")
             if code == "E14" and parasitics.ress and len(parasitics.ress) >= len(ends):
                 told.append(f"{len(parasitics.ress)} resistors join {len(ends)} nodes, so there is a loop of resistors")
-            if code == "E14" and found.drivers and parasitics.ress and found.drivers[0] not in ends:
-                told.append(f"no resistor ends at the driver {found.drivers[0]}")
     told.append("usual causes: SPEF of another version of the netlist (one from before an ECO), a wrong row of its name map")
     return told
 

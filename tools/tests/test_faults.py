@@ -1,0 +1,125 @@
+"""From a refusal to its cause: damaged documents, what the program says, and what is said beside it."""
+import gzip
+import pathlib
+import shutil
+import tempfile
+import unittest
+
+import common
+from common import CONSTRAINTS, LIBRARY, NETLIST, SPEF
+
+PADDED = NETLIST.replace("\n", " ") + " " * 10000
+# name, what is changed, the program's line, and words of what is said
+DAMAGES = [
+    ("CR LF", {"script": "report_wns setup\r\n"}, "fault script1 C1 1", "s.eco:1:1: C1: a line that is no command", "ends with CR LF"),
+    ("comment behind a command", {"script": "take # now\n"}, "fault script1 C1 1", "behind a command # begins none"),
+    ("byte above 127", {"script": "# gr\xfc\xdfe\n"}, "fault script1 C1 1", "a byte above 127"),
+    ("mistyped command", {"script": "take\nreport_wsn setup\n"}, "fault script1 C1 2", "s.eco:2:1", "no command report_wsn"),
+    ("number above 100", {"script": "report_worst setup 101\n"}, "fault script1 C1 1", "from 1 to 100"),
+    ("max for setup", {"script": "report_wns max\n"}, "fault script1 C1 1", "setup or hold"),
+    ("a word too few", {"script": "report_slew r2:D late\n"}, "fault script1 C1 1", "takes 3 words, and here are 2"),
+    ("report in a group", {"script": "begin_eco\nreport_wns setup\ncommit_eco\n"}, "fault script1 C1 2", "allows no report"),
+    ("compressed", {"spef": gzip.compress(SPEF.encode()).decode("latin-1")}, "fault spef P1 0", "top.spef:1:1", "compressed"),
+    ("byte order mark", {"sdc": "\xef\xbb\xbf" + CONSTRAINTS}, "fault sdc S1 0", "byte order mark"),
+    ("empty", {"netlist": ""}, "fault netlist V5 0", "top.v:1:1", "the file is empty"),
+    ("documents in the wrong order", {"netlist": "# by hand\n" + CONSTRAINTS, "sdc": NETLIST}, "fault netlist V1 0", "looks like constraints", "EARLY LATE NETLIST"),
+    ("time unit", {"late": LIBRARY.replace('"1ps"', '"1us"')}, "fault late L4 30", "late.lib:1:31: L4:"),
+    ("no number in a table", {"early": LIBRARY.replace('"10, 30"', '"10, nan"', 1)}, "fault early L6", "the word `nan` is no number"),
+    ("bracket lost", {"late": LIBRARY.replace("} } } }\n cell (DFF)", "} } }\n cell (DFF)")}, "fault late L1", "the text ends here", "closing bracket is missing: cell (BUF) of line 3"),
+    ("assign", {"netlist": NETLIST.replace("endmodule", " assign n1 = n2;\nendmodule")}, "fault netlist V2", "top.v:6:2: V2: a construct that is not read", "  assign n1 = n2;"),
+    ("semicolon lost", {"netlist": NETLIST.replace(".Z(n2));", ".Z(n2))")}, "fault netlist V1", "top.v:5:2", "may stand before it"),
+    ("a long line", {"netlist": PADDED.replace("endmodule", "x " * 9000 + "assign")}, "fault netlist V", " .. "),
+    ("cell that a library lacks", {"early": LIBRARY.replace("(BUF)", "(BUF1)")}, "fault design E3 BUF", "the early library, has no cell BUF", "1 instance is of this cell, first g1 (top.v:4)"),
+    ("cells that differ", {"late": LIBRARY.replace("hold_rising", "hold_falling")}, "fault design E3 DFF", "library alone has the tests D fall CK"),
+    ("unknown pin", {"netlist": NETLIST.replace(".A(n1)", ".B(n1)")}, "fault design E4 g1:B", "top.v:4: "),
+    ("two drivers", {"netlist": NETLIST.replace(".Q(n1)", ".Q(n2)")}, "fault design E10 n2", "driven by r1:Q, g1:Z"),
+    ("loop", {"netlist": NETLIST.replace(".A(n1)", ".A(n2)"), "spef": SPEF.replace("*I *3:D I *L 1", "*I *3:D I *L 1\n*I *2:A I")}, "fault design E11 g1:A g1:Z", "a loop of gates"),
+    ("variable of Tcl", {"sdc": "set p 100\n" + CONSTRAINTS}, "fault sdc S1 4", "Tcl is not run"),
+    ("expression of Tcl", {"sdc": CONSTRAINTS.replace("100", "[expr 100]")}, "fault sdc S1", "Tcl is not run"),
+    ("all_inputs", {"sdc": CONSTRAINTS.replace("[get_ports d]", "[all_inputs]")}, "fault sdc S3", "docs/INPUT.md"),
+    ("pattern", {"sdc": CONSTRAINTS + "set_false_path -to [get_ports q*]\n"}, "fault sdc S3", "top.sdc:4:31", "no patterns"),
+    ("clock groups", {"sdc": CONSTRAINTS + "set_clock_groups -asynchronous\n"}, "fault sdc S2", "check_setup.py lists all"),
+    ("delay without a clock", {"sdc": CONSTRAINTS + "set_input_delay 1 [get_ports d]\n"}, "fault sdc S3", "a delay needs -clock"),
+    ("second clock on a port", {"sdc": CONSTRAINTS + "create_clock -name c2 -period 9 [get_ports clk]\n"}, "fault sdc S3", "no other clock has its name or its port"),
+    ("no period", {"sdc": "create_clock -period 0 [get_ports clk]\n"}, "fault sdc S4 21", "top.sdc:1:22: S4"),
+    ("port that is not there", {"sdc": CONSTRAINTS + "set_load 1 [get_ports zz]\n"}, "fault design E13 zz", "top.sdc:4: set_load 1 [get_ports zz]"),
+    ("net of another netlist", {"spef": SPEF.replace("*1 n2", "*1 n9")}, "fault design E2 n9", "top.spef:11: *1 n9", "SPEF of another netlist"),
+    ("wrong row of the name map", {"spef": SPEF.replace("*2 g1", "*2 r1")}, "fault design E14 n2", "they name r1:Z, which is not on the net", "no resistor ends at g1:Z"),
+    ("loop of resistors", {"spef": SPEF.replace("*END", "3 *2:Z *3:D 5\n*END")}, "fault design E14 n2", "a loop of resistors"),
+    ("a sink more", {"netlist": NETLIST.replace("endmodule", " BUF g2 (.A(n2), .Z());\nendmodule")}, "fault design E15 n2", "no resistor ends at g2:A"),
+    ("capacitance unit", {"spef": SPEF.replace("*C_UNIT 1 FF", "*C_UNIT 1000 PF").replace("1:1 2.5", "1:1 900").replace("2 *3:D 1\n", "2 *3:D 900\n")}, "fault design E16 net n2", "*C_UNIT 1000 PF", "wrong by a thousand"),
+    ("capacitance without a value", {"spef": SPEF.replace("1 *1:1 2.5", "1 *1:1 abc")}, "fault spef P1", "ends with abc"),
+    ("last capacitance without a value", {"spef": SPEF.replace("2 *3:D 1\n", "2 *3:D abc\n")}, "fault spef P4", "ends with abc"),
+]
+
+
+@common.needs_program
+class Damages(unittest.TestCase):
+    def setUp(self):
+        self.folder = pathlib.Path(tempfile.mkdtemp())
+        self.addCleanup(shutil.rmtree, self.folder)
+
+    def lizdrog(self, words):
+        return common.run(common.TOP / "lizdrog", "--program", common.PROGRAM, *words, cwd=self.folder)
+
+    def test_whole_documents(self):
+        status, out, err = self.lizdrog(common.write_documents(self.folder))
+        self.assertEqual((status, err), (0, ""), out)
+
+    def test_damages(self):
+        for name, changed, line, *said in DAMAGES:
+            with self.subTest(name):
+                status, out, err = self.lizdrog(common.write_documents(self.folder, **changed))
+                self.assertEqual(status, 3, out)
+                self.assertTrue(out.startswith(line), out)
+                for words in said:
+                    self.assertIn(words, err)
+                self.assertLess(max(map(len, err.split("\n"))), 400)
+
+    def test_caret_stands_below_the_fault(self):
+        words = common.write_documents(self.folder, sdc="create_clock -period 0 [get_ports clk]\n")
+        lines = self.lizdrog(words)[2].split("\n")
+        self.assertEqual(lines[1].index("0 [get"), lines[2].index("^"))
+
+    def test_files_that_cannot_be_fetched(self):
+        words = common.write_documents(self.folder)
+        (self.folder / "folder").mkdir()
+        for name, said in (("gone.sdc", "gone.sdc: No such file"), ("folder", "folder: is a directory")):
+            status, out, err = self.lizdrog([*words[:4], name, *words[5:]])
+            self.assertEqual((status, out), (4, f"fault shelf {name} failed\n"))
+            self.assertIn(said, err)
+
+    def test_pipes(self):
+        common.write_documents(self.folder, sdc="foo\n")
+        line = f"{common.TOP / 'lizdrog'} --program {common.PROGRAM} run early.lib late.lib top.v <(cat top.sdc) none 1 s.eco"
+        status, out, err = common.run("bash", "-c", line, cwd=self.folder)
+        self.assertEqual((status, out), (3, "fault sdc S2 0\n"))
+        self.assertIn("byte 0: S2: ", err)
+        self.assertIn("no file that can be read again", err)
+
+    # What docs/INPUT.md says of constraints.
+    def test_constraints_as_the_page_says(self):
+        codes = {
+            "S3": ["create_generated_clock -name g", "set_clock_latency 1 clk", "set_clock_transition 1 clk", "set_max_delay 1", "set_min_delay 1",
+                   "set_driving_cell -lib_cell x", "set_disable_timing x", "set_case_analysis 0 d", "set_input_delay 1 -clock clk [all_inputs]",
+                   "set_false_path -to [get_nets x]", "set_false_path -through d", "set_input_delay 1 -clock clk -clock_fall d",
+                   "set_input_delay 1 -clock clk -add_delay d", "set_clock_uncertainty 1 -from clk -to clk", "set_load 1 $x",
+                   "create_clock -period 9 {d q}", "set_multicycle_path 2 -setup -hold -to q", "set_timing_derate 1 -cell_check", "set_timing_derate 1 2"],
+            "S2": ["set_clock_groups -a", "set_ideal_network x", "set_sense x", "set_min_pulse_width 1", "set_fanout_load 1 x", "set_resistance 1 x",
+                   "if 1", "source x", "puts x"],
+            "S1": ["create_clock -period 9 [get_pins r1/CK]", "set_multicycle_path 2 -setup -start -to q", "set_load 1 -foo q", "set_load 1", "set x 1"],
+            "S4": ["set_timing_derate 11", "set_load -1 q", "set_multicycle_path 0 -to q", "set_input_transition -1 d"],
+            "S5": ["set_clock_uncertainty 1 nope", "set_output_delay 1 -clock nope q"],
+            "": ["set_max_fanout 3 d", "set_max_transition 3", "set_max_capacitance 3", "set_max_area 0", "set_propagated_clock clk", "group_path -name x",
+                 "current_design top", "set sdc_version 2.1", "set_operating_conditions x", "set_wire_load_mode top", "set_wire_load_model -name x",
+                 "set_timing_derate 0.9 -early -net_delay", "set_units -time 10ps -capacitance 1.0fF -resistance kOhm", "set_load 1 -pin_load -min -fall q",
+                 "set_multicycle_path 2 -setup -end -from clk -to [get_pins r2/D]", "set_false_path -hold -from [get_cells r1] -to {q r2/D}",
+                 "set_input_transition 1 -clock clk -max -rise d", "create_clock -name v -period 7 -waveform {1 3}"],
+        }
+        for code, lines in codes.items():
+            for line in lines:
+                with self.subTest(line):
+                    words = common.write_documents(self.folder, sdc=CONSTRAINTS + line + "\n", script="take\n")
+                    _, out, _ = common.run(common.PROGRAM, *words, cwd=self.folder)
+                    self.assertTrue(out.startswith(f"fault sdc {code} " if code else "journal"), out)
+

@@ -1,0 +1,190 @@
+"""The readers of answers, the converters and the set-up checker, on small documents."""
+import json
+import pathlib
+import shutil
+import tempfile
+import unittest
+
+import common
+from common import CONSTRAINTS, LIBRARY, NETLIST, SPEF
+import design_documents as documents
+import read_answers
+
+OUTPUT = """journal 1 2
+entry 1 session 1 edits 1
+repower_gate g1 BUF
+entry 2 session 1 edits 2
+insert_buffer n2 b1 n3 BUF r2:D
+set_parasitics n3 c #1 1000
+session 1 rows 6
+1 0 endpoint -2.350
+2 0 worst 3
+r2:D -2.350
+q 75.000
+r1:D 75.000
+3 0 path setup r2:D slack -2.350 credit 0.000 from clk rise to clk rise nodes 3
+r1:Q rise 20.000
+g1:A rise 20.000
+g1:Z rise 39.000
+4 1 accepted
+5 2 refused E6 b1
+6 2 no Q1 zz
+final 2 setup 39.000 0.000 hold none 0.000
+"""
+
+
+class Answers(unittest.TestCase):
+    def setUp(self):
+        self.folder = pathlib.Path(tempfile.mkdtemp())
+        self.addCleanup(shutil.rmtree, self.folder)
+        self.words = common.write_documents(self.folder)
+        (self.folder / "out").write_text(OUTPUT)
+
+    def read(self, *words):
+        status, out, err = common.tool("read_answers", "s.eco", "out", *words, cwd=self.folder)
+        self.assertEqual((status, err), (0, ""))
+        return out
+
+    def test_lines(self):
+        lines = self.read().split("\n")
+        self.assertEqual(lines[0], "report_endpoint r2:D setup -> -2.350 ps (design 0)")
+        self.assertIn("report_worst setup 5 -> 3 endpoints (design 0)", lines)
+        self.assertIn("repower_gate g1 BUF -> accepted (design 1)", lines)
+        self.assertTrue(any(it.startswith("begin_eco (2 edits) -> refused E6 b1: the new cell lacks") for it in lines))
+        self.assertIn("report_wns hold -> no answer, Q1 zz: there is no such pin (design 2)", lines)
+        self.assertEqual(lines[-2], "at the end, design 2: setup worst 39.000 ps, total 0.000 ps; hold worst none, total 0.000 ps")
+
+    def test_path_has_cells_and_nets(self):
+        out = self.read("--netlist", "top.v", "--library", "late.lib")
+        self.assertRegex(out, r"20\.000 +rise r1:Q +DFF +net n1, 1 sink\n +20\.000 +0\.000 rise g1:A +BUF\n +39\.000 +19\.000 rise g1:Z +BUF +net n2, 1 sink\n")
+
+    def test_data(self):
+        data = json.loads(self.read("--json", "--netlist", "top.v", "--library", "late.lib"))
+        self.assertEqual(data["final"], {"design": 2, "setup": {"wns": "39.000", "tns": "0.000"}, "hold": {"wns": "none", "tns": "0.000"}})
+        self.assertEqual(data["rows"][2]["path"][2], {"pin": "g1:Z", "edge": "rise", "time": "39.000", "stage": "19.000", "cell": "BUF", "net": "n2", "fanout": 1})
+        self.assertEqual((data["rows"][4]["line"], len(data["rows"][4]["question"])), (7, 4))
+        rows = self.read("--csv").split("\n")
+        self.assertEqual(rows[:2], ["command,design,question,answer,pin,edge,time", "1,0,report_endpoint r2:D setup,endpoint,,,-2.350"])
+
+    def test_failing_and_histogram(self):
+        out = self.read("--failing", "--histogram", "--svg", "bars.svg")
+        self.assertIn("setup, design 0: 1 of 3 endpoints that were asked fail\n        -2.350 ps  r2:D\n", out)
+        self.assertIn("setup slack of 3 endpoints, design 0", out)
+        self.assertIn("<rect", (self.folder / "bars.svg").read_text())
+
+    def test_other_script(self):
+        (self.folder / "s.eco").write_text("take\n")
+        self.assertEqual(common.tool("read_answers", "s.eco", "out", cwd=self.folder)[0], 1)
+
+    def test_journal(self):
+        script = common.tool("convert_journal", "out", cwd=self.folder)[1]
+        self.assertEqual([it.lines for it in read_answers.read_script(script)],
+                         [["repower_gate g1 BUF"], ["begin_eco", "insert_buffer n2 b1 n3 BUF r2:D", "set_parasitics n3 c #1 1000", "commit_eco"]])
+        tcl = common.tool("convert_journal", "out", "--to", "tcl", "--first", "2", cwd=self.folder)[1]
+        self.assertIn("\n# entry 2 of the journal\ninsert_buffer n2 b1 n3 BUF {r2/D}\n# set_parasitics n3 c #1 1000\n", tcl)
+        self.assertNotIn("replace_cell", tcl.split("# entry")[1])
+
+    def test_edited_design(self):
+        edited = read_answers.Edited(documents.Netlist(NETLIST), documents.Library(LIBRARY), read_answers.Output(OUTPUT).ecos)
+        self.assertEqual(edited.at(1).nets["n2"].sinks, ["r2:D"])
+        self.assertEqual((edited.at(2).nets["n2"].sinks, edited.at(2).nets["n3"].sinks), (["b1:A"], ["r2:D"]))
+
+    def test_endpoints(self):
+        out = common.tool("endpoint_questions", "late.lib", "top.v", "--kind", "hold", cwd=self.folder)[1]
+        self.assertEqual(out, "report_endpoint q hold\nreport_endpoint r1:D hold\nreport_endpoint r2:D hold\n")
+
+    @common.needs_program
+    def test_script_and_output_of_a_run(self):
+        status, out, _ = common.run(common.PROGRAM, *self.words, cwd=self.folder)
+        (self.folder / "out").write_text(out)
+        self.assertEqual(status, 0)
+        self.assertEqual(len(self.read().split("report_")), 5)
+
+    @common.needs_program
+    def test_parasitics_of_a_net_are_those_of_the_spef(self):
+        line = common.tool("net_parasitics", "top.spef", "n2", cwd=self.folder)[1]
+        asked = "".join(f"report_at r2:D {split} {edge}\nreport_slew r2:D {split} {edge}\n" for split in ("early", "late") for edge in ("rise", "fall"))
+        (self.folder / "s.eco").write_text(asked + line + asked)
+        _, out, _ = common.run(common.PROGRAM, *self.words, cwd=self.folder)
+        rows = [it.split(" ", 2)[2] for it in out.split("\n") if it[:1].isdigit()]
+        self.assertEqual((rows[8], rows[:8]), ("accepted", rows[9:]), out)
+
+    @common.needs_program
+    def test_a_buffer_keeps_its_wires(self):
+        kept = common.tool("net_parasitics", "top.spef", "n2", "--rename", "r2:D=b1:A", cwd=self.folder)[1]
+        behind = common.tool("net_parasitics", "top.spef", "n2", "--as", "n3", "--rename", "g1:Z=b1:Z", cwd=self.folder)[1]
+        (self.folder / "s.eco").write_text(f"begin_eco\ninsert_buffer n2 b1 n3 BUF r2:D\n{kept}{behind}commit_eco\n")
+        self.assertIn("\n1 1 accepted\n", common.run(common.PROGRAM, *self.words, cwd=self.folder)[1])
+
+    def test_parasitics_with_an_inner_node(self):
+        line = common.tool("net_parasitics", "top.spef", "n2", "--as", "n3", "--inner", "r2:D", cwd=self.folder)[1]
+        self.assertEqual(line, "set_parasitics n3 c #1 2500 c #2 1000 r g1:Z #1 100000 r #1 #2 50000\n")
+        status, _, err = common.tool("net_parasitics", "top.spef", "n2", "--inner", "r3:D", cwd=self.folder)
+        self.assertEqual(status, 1)
+        self.assertIn("and not r3:D", err)
+
+
+WHOLE = CONSTRAINTS
+FINDINGS = [
+    ("a clock that is missing", {"sdc": ""}, "design without a clock", "2 registers without a clock"),
+    ("all lines that are not read", {"sdc": WHOLE + "set_max_delay 1\nfoo\nset_load 1 $x\nset_false_path -through r1/D\n"},
+     "4 commands or options of the SDC that are not read", "top.sdc:4: set_max_delay (S3)", "top.sdc:5: foo (S2)", "top.sdc:6: set_load $x (S3)", "top.sdc:7: set_false_path -through (S3)"),
+    ("an input without a delay", {"sdc": WHOLE.replace("set_input_delay 10", "set_input_delay -max 10")}, "1 inputs without a set_input_delay", "d: early"),
+    ("an output without a delay", {"sdc": WHOLE.replace("set_output", "# set_output")}, "q: early and late"),
+    ("an undriven net", {"netlist": NETLIST.replace(".Z(n2)", ".Z(n22)")}, "1 nets without a driver\n  n2 (r2:D)"),
+    ("an open input", {"netlist": NETLIST.replace(".D(n2), ", "")}, "1 inputs of instances that are left open\n  r2:D"),
+    ("a register without a clock", {"netlist": NETLIST.replace("r2 (.D(n2), .CK(clk)", "r2 (.D(n2), .CK(nc)")}, "1 registers without a clock", "r2 (DFF)"),
+    ("parasitics of another netlist", {"spef": SPEF.replace("*3 r2", "*3 r9")}, "n2: r9:D not on the net"),
+    ("a mistyped section", {"spef": SPEF.replace("*D_NET", "*PORTS\nclk I\n*d_net")}, "words that begin with * and are passed over", "*d_net behind *PORTS"),
+    ("a mistyped type of a test", {"early": LIBRARY.replace("setup_rising", "setup_risng"), "late": LIBRARY.replace("setup_rising", "setup_risng")}, "setup_risng in 1 cells, first DFF"),
+    ("libraries exchanged", {"early": LIBRARY.replace('"10, 30"', '"11, 31"')}, "arcs whose early delay exceeds the late one", "BUF A rise Z rise"),
+    ("derates crossed", {"sdc": WHOLE + "set_timing_derate -early 1.1\nset_timing_derate -late 0.9\n"}, "cell delays: early 1.1, late 0.9"),
+    ("a false path from a register's output", {"sdc": WHOLE + "set_false_path -from [get_pins r1/Q]\nset_false_path -to [get_pins g1/A]\n"},
+     "top.sdc:4: set_false_path -from r1/Q: no path is launched there", "top.sdc:5: set_false_path -to g1/A: no endpoint"),
+    ("a port that is not there", {"sdc": WHOLE + "set_load 1 zz\n"}, "top.sdc:4: set_load: zz"),
+]
+
+
+class SetUp(unittest.TestCase):
+    def setUp(self):
+        self.folder = pathlib.Path(tempfile.mkdtemp())
+        self.addCleanup(shutil.rmtree, self.folder)
+
+    def check(self, *words, **changed):
+        common.write_documents(self.folder, **changed)
+        return common.tool("check_setup", "early.lib", "late.lib", "top.v", "top.sdc", "top.spef", *words, cwd=self.folder)
+
+    def test_what_is_found(self):
+        for name, changed, *said in FINDINGS:
+            with self.subTest(name):
+                status, out, err = self.check(**changed)
+                self.assertEqual((status, err), (1, ""))
+                for words in said:
+                    self.assertIn(words, out)
+
+    def test_nothing_but_nets_without_wires(self):
+        status, out, _ = self.check()
+        self.assertEqual((status, out), (1, "4 nets without parasitics\n  clk\n  d\n  n1\n  q\ncheck_setup: 4 findings\n"))
+
+    def test_nothing(self):
+        common.write_documents(self.folder)
+        status, out, _ = common.tool("check_setup", "early.lib", "late.lib", "top.v", "top.sdc", "none", cwd=self.folder)
+        self.assertEqual((status, out), (0, "check_setup: nothing found\n"))
+
+    @common.needs_program
+    def test_endpoints_that_the_program_does_not_test(self):
+        status, out, _ = self.check("--program", common.PROGRAM, sdc=WHOLE + "set_false_path -to [get_pins r2/D] -setup\n")
+        self.assertEqual(status, 1)
+        self.assertIn("1 endpoints without a tested setup path, by the program\n  r2:D\n", out)
+        self.assertNotIn("tested hold path", out)
+
+
+class Helps(unittest.TestCase):
+    def test_each_tool_has_help(self):
+        for tool in sorted(common.TOOLS.glob("*.py")):
+            if tool.read_text().startswith("#!"):
+                with self.subTest(tool.name):
+                    status, out, err = common.run(tool, "--help")
+                    # The wrapper answers as the program does.
+                    self.assertEqual(status, 2 if tool.stem == "run_lizdrog" else 0, err)
+                    self.assertGreater(len(out + err), 200)
