@@ -1,10 +1,9 @@
 //! The map of a few items by several numbers of workers, and pieces that run beside each other.
 
-use super::map_level;
+use level_workers::map_level;
 use sta_outside::{Gate, NoGate, Point};
 use sta_units::Memory;
 use std::sync::atomic::{AtomicU64, Ordering};
-use std::test::Fail;
 
 /// How many turns a piece waits for the other.
 const TURNS: u64 = 500_000_000;
@@ -66,36 +65,38 @@ fn doubled(x: &u32) -> Result<u32, Memory> {
 }
 
 #[test]
-fn map_is_the_plain_map_for_every_number_of_workers(rt: HostRuntime) -> Result<(), Fail> {
+fn map_is_the_plain_map_for_every_number_of_workers(rt: HostRuntime) {
     let alloc = rt.alloc();
     let items = [1u32, 2, 3, 4, 5];
     for workers in [1, 2, 3, 32] {
-        let found = map_level(&rt, alloc, workers, 0, &items, &doubled, &NoGate)?;
+        let found = map_level(&rt, alloc, workers, 0, &items, &doubled, &NoGate).expect(
+            &rt, "memory",
+        );
         assert_eq!(rt; found.as_slice(), [2, 4, 6, 8, 10].as_slice());
     }
     let none: [u32; 0] = [];
-    let found = map_level(&rt, alloc, 4, 0, &none, &doubled, &NoGate)?;
+    let found = map_level(&rt, alloc, 4, 0, &none, &doubled, &NoGate).expect(&rt, "memory");
     assert!(rt; found.is_empty());
-    Ok(())
 }
 
 #[test]
-fn gates_pieces(rt: HostRuntime) -> Result<(), Fail> {
+fn gates_pieces(rt: HostRuntime) {
     let gate = BothBegin {
         begun: AtomicU64::new(0),
         other: AtomicU64::new(0),
         given_up: AtomicU64::new(0),
     };
-    let found = map_level(&rt, rt.alloc(), 2, 7, &[1, 2, 3, 4, 5], &doubled, &gate)?;
+    let found = map_level(&rt, rt.alloc(), 2, 7, &[1, 2, 3, 4, 5], &doubled, &gate).expect(
+        &rt, "memory",
+    );
     assert_eq!(rt; found.as_slice(), [2, 4, 6, 8, 10].as_slice());
     assert_eq!(rt; gate.begun.load(Ordering::SeqCst), (1 << 32) + 1);
     assert_eq!(rt; gate.other.load(Ordering::SeqCst), 0);
     assert_eq!(rt; gate.given_up.load(Ordering::SeqCst), 0);
-    Ok(())
 }
 
 #[test]
-fn blocks_of_a_piece_that_is_held_are_taken_over(rt: HostRuntime) -> Result<(), Fail> {
+fn blocks_of_a_piece_that_is_held_are_taken_over(rt: HostRuntime) {
     let gate = HoldsOne {
         mapped: AtomicU64::new(0),
         given_up: AtomicU64::new(0),
@@ -104,9 +105,10 @@ fn blocks_of_a_piece_that_is_held_are_taken_over(rt: HostRuntime) -> Result<(), 
         gate.mapped.fetch_add(1, Ordering::SeqCst);
         doubled(x)
     };
-    let found = map_level(&rt, rt.alloc(), 2, 8, &[1, 2, 3, 4, 5], &count, &gate)?;
+    let found = map_level(&rt, rt.alloc(), 2, 8, &[1, 2, 3, 4, 5], &count, &gate).expect(
+        &rt, "memory",
+    );
     assert_eq!(rt; found.as_slice(), [2, 4, 6, 8, 10].as_slice());
     assert_eq!(rt; gate.mapped.load(Ordering::SeqCst), 5);
     assert_eq!(rt; gate.given_up.load(Ordering::SeqCst), 0);
-    Ok(())
 }

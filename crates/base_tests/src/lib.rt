@@ -2,4 +2,20 @@
 #![tactic(auto)]
 
 #[cfg(test)]
+mod cow_tables;
+#[cfg(test)]
+mod file_shelves;
+#[cfg(test)]
+mod level_maps;
+#[cfg(test)]
+mod leveling;
+#[cfg(test)]
+mod look_ups;
+#[cfg(test)]
+mod memory_shelves;
+#[cfg(test)]
+mod memory_sinks;
+#[cfg(test)]
+mod output_sinks;
+#[cfg(test)]
 mod units;

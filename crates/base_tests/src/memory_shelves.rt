@@ -1,15 +1,26 @@
-use super::*;
-use std::test::Fail;
+//! What a shelf in memory answers, and how often it fails.
+
+use sta_outside::{Fetch, MemShelf, Shelf};
+use std::alloc::Global;
+use std::process::Abort;
+
+fn text(rt: &impl Abort, alloc: Global, text: &str) -> String {
+    String::from_str(alloc, text).expect(rt, "memory")
+}
+
+/// A library and an empty document, at a shelf that fails at its first and its fourth call.
+fn failing_shelf(rt: &impl Abort, alloc: Global) -> MemShelf {
+    let names = vec![in alloc; text(rt, alloc, "a.lib"), text(rt, alloc, "s1")].expect(
+        rt, "memory",
+    );
+    let library = b"library".to_vec(alloc).expect(rt, "memory");
+    let docs = vec![in alloc; library, Vec::new(alloc)].expect(rt, "memory");
+    MemShelf::new(names, docs, vec![in alloc; 1, 4].expect(rt, "memory"))
+}
 
 #[test]
-fn a_shelf_in_memory_answers_by_its_plan_and_its_names(rt: HostRuntime) -> Result<(), Fail> {
-    let alloc = rt.alloc();
-    let names = vec![in alloc;
-        String::from_str(alloc, "a.lib")?,
-        String::from_str(alloc, "s1")?,
-    ]?;
-    let docs = vec![in alloc; b"library".to_vec(alloc)?, Vec::new(alloc)]?;
-    let mut shelf = MemShelf::new(names, docs, vec![in alloc; 1, 4]?);
+fn a_shelf_in_memory_answers_by_its_plan_and_its_names(rt: HostRuntime) {
+    let mut shelf = failing_shelf(&rt, rt.alloc());
     let rows = [
         ("a.lib", Err(Fetch::Failed), 1),
         ("a.lib", Ok(b"library".as_slice()), 1),
@@ -18,28 +29,31 @@ fn a_shelf_in_memory_answers_by_its_plan_and_its_names(rt: HostRuntime) -> Resul
         ("s1", Ok(b"".as_slice()), 2),
     ];
     for (name, wanted, faults) in rows {
-        let fetched = shelf.fetch(alloc, name);
+        let fetched = shelf.fetch(rt.alloc(), name);
         match (&fetched, wanted) {
             (Ok(doc), Ok(bytes)) => assert_eq!(rt; doc.as_slice(), bytes, "at {name}"),
             (Err(fault), Err(cause)) => assert_eq!(rt; *fault, cause, "at {name}"),
             _ => assert!(rt; false, "at {name}: {fetched:?}"),
         }
-        assert_eq!(rt; shelf.plan.faults, faults, "at {name}");
+        assert_eq!(rt; shelf.fault_count(), faults, "at {name}");
     }
-    Ok(())
+}
+
+/// A document of so many spaces, at a shelf that does not fail.
+fn long_shelf(rt: &impl Abort, alloc: Global, len: usize) -> MemShelf {
+    let names = vec![in alloc; text(rt, alloc, "long")].expect(rt, "memory");
+    let doc = vec![in alloc; 32; len].expect(rt, "memory");
+    let docs = vec![in alloc; doc].expect(rt, "memory");
+    MemShelf::new(names, docs, Vec::new(alloc))
 }
 
 #[test]
-fn a_document_past_the_limit_is_too_long(rt: HostRuntime) -> Result<(), Fail> {
-    let alloc = rt.alloc();
-    let names = vec![in alloc; String::from_str(alloc, "long")?]?;
-    let docs = vec![in alloc; vec![in alloc; 32; 67_108_865]?]?;
-    let mut shelf = MemShelf::new(names, docs, Vec::new(alloc));
+fn a_document_past_the_limit_is_too_long(rt: HostRuntime) {
+    let mut shelf = long_shelf(&rt, rt.alloc(), 67_108_865);
     let seen = 67_108_865;
     assert_eq!(rt;
-        shelf.fetch(alloc, "long").err(),
+        shelf.fetch(rt.alloc(), "long").err(),
         Some(Fetch::TooLong { seen })
     );
-    assert_eq!(rt; shelf.plan.faults, 0);
-    Ok(())
+    assert_eq!(rt; shelf.fault_count(), 0);
 }

@@ -1,6 +1,9 @@
-use super::*;
+//! What the sink of the standard output does with a piece.
+
+use sta_outside::{PutFault, Sink, StdSink};
 use std::fmt::Display;
-use std::test::Fail;
+use std::io;
+use std::io::{ErrorKind, Print};
 
 /// A standard output that takes at most this many bytes at a time, or fails.
 #[derive(Drop)]
@@ -41,7 +44,7 @@ fn a_piece_is_put_whole_or_a_fault_is_counted(rt: HostRuntime) {
         let output = Narrow { takes };
         let mut sink = StdSink::new(&output);
         assert_eq!(rt; sink.put(piece.as_bytes()), wanted, "{takes:?} at a time");
-        assert_eq!(rt; sink.faults, faults, "{takes:?} at a time");
+        assert_eq!(rt; sink.fault_count(), faults, "{takes:?} at a time");
     }
 }
 
@@ -49,5 +52,5 @@ fn a_piece_is_put_whole_or_a_fault_is_counted(rt: HostRuntime) {
 fn the_standard_output_takes_a_piece(rt: HostRuntime) {
     let mut sink = StdSink::new(&rt);
     assert_eq!(rt; sink.put(b"journal 1 0\n"), Ok(()));
-    assert_eq!(rt; sink.faults, 0);
+    assert_eq!(rt; sink.fault_count(), 0);
 }

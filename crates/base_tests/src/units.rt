@@ -1,6 +1,6 @@
 //! Units and numbers: decimals in a unit, rounding, roots, printed times, counts of steps.
 
-use sta_units::{DecFault, Fs, Memory, Steps, Unit, decimal, print_ps, rnd, root};
+use sta_units::{DecFault, Fs, Steps, Unit, decimal, print_ps, rnd, root};
 
 #[test]
 fn reads_decimals_in_a_unit(rt: HostRuntime) {
@@ -63,7 +63,7 @@ fn roots_are_whole(rt: HostRuntime) {
 }
 
 #[test]
-fn prints_picoseconds(rt: HostRuntime) -> Result<(), Memory> {
+fn prints_picoseconds(rt: HostRuntime) {
     for (fs, want) in [
         (-2, "-0.002"),
         (0, "0.000"),
@@ -72,10 +72,9 @@ fn prints_picoseconds(rt: HostRuntime) -> Result<(), Memory> {
         (-1_234_567, "-1234.567"),
         (1_000_000_000_000, "1000000000.000"),
     ] {
-        let text = print_ps(rt.alloc(), Fs(fs))?;
+        let text = print_ps(rt.alloc(), Fs(fs)).expect(&rt, "memory");
         assert_eq!(rt; text.as_str(), want);
     }
-    Ok(())
 }
 
 #[test]
