@@ -1,11 +1,14 @@
 //! Names and their numbers.
 
-ghost use Rattle.std.specs.Prelude.{◌≡◌, ◌<◌, ◌≤◌, ◌^◌, ◌∷◌, ◌++◌, [], ℕ, List, true, false, None, length, map, set, slice_get, IfOk, IfSome};
+ghost use Rattle.std.specs.Prelude.{◌≡◌, ◌<◌, ◌≤◌, ◌^◌, ◌∷◌, ◌++◌, [], ℕ, List, true, false, cond, None, Some, length, map, set, slice_get, IfOk, IfSome, OnOk};
 ghost use Rattle.std.specs.Option.{option_copied, option_map_or};
+ghost use Rattle.std.specs.Str.{bytes_eq};
 ghost use Rattle.timing_defs.specs.Names.{is_name};
 ghost use Rattle.timing_defs.specs.Netlist.{are_distinct};
 ghost use Rattle.netlist_store.specs.Numbering.{name_at, number_of, is_number, with_name, AreNumbers, AreKept};
+ghost use Rattle.netlist_store.specs.Shards.{number_under};
 ghost use Rattle.netlist_store.specs.Slots.{slot_name, slot_name_at, is_waiting};
+ghost use Rattle.netlist_store.specs.declared.numberings.Slot.TheVariants.{Named, Waiting};
 
 use crate::held::Held;
 use crate::name_maps::NameMap;
@@ -135,16 +138,21 @@ impl Numbering {
     pub(crate) fn copy(&self) -> Result<Numbering, Memory>
         ensures { IfOk result (λ copy. copy ≡ self.now) }
     {
-        let slots = self.slots.copy()?;
-        let numbers = self.numbers.copy()?;
         let left = self.left.again(self.alloc)?;
-        Ok(Numbering {
-            slots,
-            numbers,
-            free: self.free,
-            left,
-            alloc: self.alloc,
-        })
+        let numbers = self.numbers.copy()?;
+        match self.slots.copy() {
+            Ok(slots) => Ok(Numbering {
+                slots,
+                numbers,
+                free: self.free,
+                left,
+                alloc: self.alloc,
+            }),
+            Err(wanting) => {
+                numbers.discard();
+                Err(wanting)
+            }
+        }
     }
 
     /// What every numbering keeps, told to the proofs of callers; the call does nothing.
@@ -202,6 +210,7 @@ impl Numbering {
     {
         let number = self.bound();
         if number as usize >= MOST {
+            self.discard();
             return Err(Memory);
         }
         let Numbering {
@@ -211,15 +220,48 @@ impl Numbering {
             left,
             alloc,
         } = self;
-        numbers.put(name.copied(alloc)?, number)?;
-        slots.push(Slot::Named(Held::of(alloc, name.copied(alloc)?)?))?;
-        Ok(Numbering {
-            slots,
-            numbers,
+        match push_name(&mut slots, &mut numbers, alloc, name, number) {
+            Ok(()) => Ok(Numbering {
+                slots,
+                numbers,
+                free,
+                left,
+                alloc,
+            }),
+            Err(wanting) => {
+                numbers.discard();
+                give_up(slots, left);
+                Err(wanting)
+            }
+        }
+    }
+
+    /// The numbering without a number, whose name is this.
+    fn without_name(self, name: &Name, number: u32) -> Result<Numbering, Memory>
+        requires { name_at self number ≡ Some name.now }
+        ensures { IfOk result (λ after. after ≡ set self number None) }
+    {
+        let Numbering {
+            mut slots,
+            mut numbers,
             free,
-            left,
+            mut left,
             alloc,
-        })
+        } = self;
+        match take_name(&mut slots, &mut numbers, &mut left, name, number) {
+            Ok(()) => Ok(Numbering {
+                slots,
+                numbers,
+                free,
+                left,
+                alloc,
+            }),
+            Err(wanting) => {
+                numbers.discard();
+                give_up(slots, left);
+                Err(wanting)
+            }
+        }
     }
 
     /// The numbering without the name of a number. The number is not used for another name until
@@ -228,48 +270,35 @@ impl Numbering {
         requires { is_number self number ≡ true }
         ensures { IfOk result (λ after. after ≡ set self number None) }
     {
-        let name = self.name(number).copied(self.alloc)?;
-        let Numbering {
-            mut slots,
-            mut numbers,
-            free,
-            mut left,
-            alloc,
-        } = self;
-        numbers.remove(&name)?;
-        slots.set(number as usize, Slot::Waiting)?;
-        left.push(number)?;
-        Ok(Numbering {
-            slots,
-            numbers,
-            free,
-            left,
-            alloc,
-        })
+        match self.name(number).copied(self.alloc) {
+            Ok(name) => self.without_name(&name, number),
+            Err(wanting) => {
+                self.discard();
+                Err(wanting)
+            }
+        }
     }
 
     /// Lets a number that waits be used again; another is left as it is.
-    fn released(self, number: u32) -> Result<Numbering, Memory>
-        ensures { IfOk result (λ after. after ≡ self) }
+    fn release(&mut self, number: u32) -> Result<(), Memory>
+        ensures { OnOk result (self.new ≡ self.old) }
     {
         if !waits(&self.slots, number) {
-            return Ok(self);
+            return Ok(());
         }
-        let Numbering {
-            mut slots,
-            numbers,
-            free,
-            left,
-            alloc,
-        } = self;
-        slots.set(number as usize, Slot::Gap(free))?;
-        Ok(Numbering {
-            slots,
-            numbers,
-            free: Some(number),
-            left,
-            alloc,
-        })
+        self.slots.set(number as usize, Slot::Gap(self.free))?;
+        self.free = Some(number);
+        Ok(())
+    }
+
+    /// Lets these numbers be used again.
+    fn release_all(&mut self, numbers: &[u32]) -> Result<(), Memory>
+        ensures { OnOk result (self.new ≡ self.old) }
+    {
+        for number in numbers {
+            self.release(*number)?;
+        }
+        Ok(())
     }
 
     /// The numbers that wait, and the numbering in which none does yet.
@@ -297,12 +326,14 @@ impl Numbering {
     pub(crate) fn settled(self) -> Result<Numbering, Memory>
         ensures { IfOk result (λ after. after ≡ self) }
     {
-        let (rest, left) = self.unsettled();
-        let mut after = rest;
-        for number in left.as_slice() {
-            after = after.released(*number)?;
+        let (mut after, left) = self.unsettled();
+        match after.release_all(left.as_slice()) {
+            Ok(()) => Ok(after),
+            Err(wanting) => {
+                after.discard();
+                Err(wanting)
+            }
         }
-        Ok(after)
     }
 
     /// A gap that was released and that stands for nothing in the base either, and the next one.
@@ -363,25 +394,33 @@ impl Numbering {
     {
         let choice = self.choice(base, &name);
         if choice.number as usize >= MOST {
+            self.discard();
             return Err(Memory);
         }
         let Numbering {
-            slots,
+            mut slots,
             mut numbers,
             free: _,
             left,
             alloc,
         } = self;
-        numbers.put(name.copied(alloc)?, choice.number)?;
-        let slots = with_slot(slots, choice.number, Held::of(alloc, name)?)?;
-        let made = Numbering {
-            slots,
-            numbers,
-            free: choice.free,
-            left,
-            alloc,
-        };
-        Ok((made, choice.number))
+        match put_name(&mut slots, &mut numbers, alloc, name, choice.number) {
+            Ok(()) => {
+                let made = Numbering {
+                    slots,
+                    numbers,
+                    free: choice.free,
+                    left,
+                    alloc,
+                };
+                Ok((made, choice.number))
+            }
+            Err(wanting) => {
+                numbers.discard();
+                give_up(slots, left);
+                Err(wanting)
+            }
+        }
     }
 }
 
@@ -397,16 +436,62 @@ pub(crate) fn numbered(alloc: Global, names: &[Name]) -> Result<Numbering, Memor
     Ok(made)
 }
 
-/// The slots with a name at a number, which is one of them or the next one.
-fn with_slot(slots: CowTable<Slot>, number: u32, name: Held<Name>) -> Result<CowTable<Slot>, Memory>
-    requires { number ≤ length slots }
-    ensures { IfOk result (λ after. map slot_name after ≡ with_name (map slot_name slots) number name) }
+/// Puts a name after all others.
+fn push_name(
+    slots: &mut CowTable<Slot>,
+    numbers: &mut NameMap,
+    alloc: Global,
+    name: &Name,
+    number: u32,
+) -> Result<(), Memory>
+    ensures slots { OnOk result (slots.new ≡ slots.old ++ Named name.now ∷ []) }
+    ensures numbers { OnOk result ((q : List ℕ) → number_under numbers.new q ≡ cond (bytes_eq name.now q) (Some number) (number_under numbers.old q)) }
 {
-    let mut slots = slots;
+    numbers.put(name.copied(alloc)?, number)?;
+    slots.push(Slot::Named(Held::of(alloc, name.copied(alloc)?)?))
+}
+
+/// Writes a name at a number, which is one of the slots or the next one.
+fn put_name(
+    slots: &mut CowTable<Slot>,
+    numbers: &mut NameMap,
+    alloc: Global,
+    name: Name,
+    number: u32,
+) -> Result<(), Memory>
+    requires { number ≤ length slots.old }
+    ensures slots { OnOk result (map slot_name slots.new ≡ with_name (map slot_name slots.old) number name) }
+    ensures numbers { OnOk result ((q : List ℕ) → number_under numbers.new q ≡ cond (bytes_eq name q) (Some number) (number_under numbers.old q)) }
+{
+    numbers.put(name.copied(alloc)?, number)?;
+    put_slot(slots, number, Held::of(alloc, name)?)
+}
+
+/// Takes the name of a number out; the number waits.
+fn take_name(
+    slots: &mut CowTable<Slot>,
+    numbers: &mut NameMap,
+    left: &mut Items<u32>,
+    name: &Name,
+    number: u32,
+) -> Result<(), Memory>
+    requires { number < length slots.old }
+    ensures slots { OnOk result (slots.new ≡ set slots.old number Waiting) }
+    ensures numbers { OnOk result ((q : List ℕ) → number_under numbers.new q ≡ cond (bytes_eq name.now q) None (number_under numbers.old q)) }
+{
+    numbers.remove(name)?;
+    slots.set(number as usize, Slot::Waiting)?;
+    left.push(number)
+}
+
+/// Writes a name at a number, which is one of the slots or the next one.
+fn put_slot(slots: &mut CowTable<Slot>, number: u32, name: Held<Name>) -> Result<(), Memory>
+    requires { number ≤ length slots.old }
+    ensures { OnOk result (map slot_name slots.new ≡ with_name (map slot_name slots.old) number name) }
+{
     if (number as usize) < slots.len() {
-        slots.set(number as usize, Slot::Named(name))?;
+        slots.set(number as usize, Slot::Named(name))
     } else {
-        slots.push(Slot::Named(name))?;
+        slots.push(Slot::Named(name))
     }
-    Ok(slots)
 }
