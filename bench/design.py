@@ -261,6 +261,8 @@ def scripts(netlist):
 
 
 def main():
+    if len(sys.argv) != 3 or "--help" in sys.argv:
+        sys.exit(__doc__.strip())
     folder, cells = pathlib.Path(sys.argv[1]), int(sys.argv[2])
     netlist, blocks = build(cells)
     ports = {"clk": "input", "operand": f"input [{INPUTS - 1}:0]", "result": f"output [{blocks - 1}:0]"}

@@ -1,13 +1,14 @@
 #!/usr/bin/env bash
 # Times the whole program on a generated design: bench/shell.sh [CELLS [PROGRAM]], 50,000 cells where none are given, and at most
-# some 65,000. PROGRAM is a built program; without it ./lizdrog is run, which builds one where there is none. For 1, 2 and 4 workers
+# some 65,000. PROGRAM is a built program; without it the one that the gate has proved and built is timed. For 1, 2 and 4 workers
 # it prints the seconds, the seconds of all processors together, and the peak memory of a run that only loads the design, of one that
 # also asks for the worst slack, of one with more reports, and of those with one ECO and with ten behind them; then the seconds that
 # an ECO takes, a ninth of what ten take beyond one. It checks that all rows are answers, and the same for each number of workers.
 set -eu
 top=$(cd "$(dirname "$(readlink -f "$0")")/.." && pwd)
 cells=${1:-50000}
-program=$(readlink -f "${2:-$top/lizdrog}")
+program=$(readlink -f "${2:-$top/crates/timing_shell/out/timing_shell}")
+[ -x "$program" ] || { echo "shell.sh: no program $program: rt ci builds it" >&2; exit 1; }
 folder=$(mktemp -d)
 trap 'rm -rf "$folder"' EXIT
 python3 "$top/bench/design.py" "$folder" "$cells"

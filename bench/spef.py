@@ -150,6 +150,8 @@ def net_lines(names, net, driver, sinks):
 
 
 def main():
+    if len(sys.argv) != 3 or "--help" in sys.argv:
+        sys.exit(__doc__.strip())
     library, netlist = (open(name).read() for name in sys.argv[1:3])
     design, ports, instances = read_netlist(netlist)
     nets = nets_of(ports, instances, outputs_of(library))
