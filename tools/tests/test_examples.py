@@ -1,0 +1,67 @@
+"""The examples print what their pages say."""
+import os
+import pathlib
+import re
+import shutil
+import subprocess
+import tempfile
+import unittest
+
+import common
+
+EXAMPLES = common.TOP / "examples"
+LIBRARY = pathlib.Path("/usr/share/qflow/tech/osu018/osu018_stdcells.lib")
+
+
+def blocks(page):
+    return [it.strip("\n") for it in re.findall(r"^```\n(.*?)^```", page.read_text(), re.S | re.M)]
+
+
+@common.needs_program
+class Pages(unittest.TestCase):
+    def setUp(self):
+        self.top = pathlib.Path(tempfile.mkdtemp())
+        self.addCleanup(shutil.rmtree, self.top)
+        for name in ("examples", "tools", "docs", "bench"):
+            shutil.copytree(common.TOP / name, self.top / name, ignore=shutil.ignore_patterns("__pycache__", "*.lib.gz", "*.out", "must-fail"))
+        (self.top / "lizdrog").write_text(f'#!/bin/sh\nexec "{common.PROGRAM}" "$@"\n')
+        (self.top / "lizdrog").chmod(0o755)
+
+    def run_blocks(self, commands, folder):
+        """What a shell prints for these blocks of commands, one after the other."""
+        ran = subprocess.run(["bash", "-c", "\n".join(commands)], cwd=self.top / folder, stdin=subprocess.DEVNULL, capture_output=True, text=True,
+                             check=False, env={**os.environ, "PYTHONDONTWRITEBYTECODE": "1"})
+        self.assertEqual(ran.stderr, "")
+        return ran.stdout
+
+    def test_first_page(self):
+        given = blocks(common.TOP / "README.md")
+        run = next(it for it in given if it.startswith("cd examples/two-inverters"))
+        out = self.run_blocks([run + " | tee OUTPUT", "../../tools/read_answers.py report.eco OUTPUT"], "")
+        for block in given[given.index(run) + 1:]:
+            self.assertIn(block + "\n", out)
+
+    @unittest.skipUnless(LIBRARY.exists(), "no library for examples/pulse-width: apt-get install qflow-tech-osu018")
+    def test_walk(self):
+        given = blocks(EXAMPLES / "README.md")
+        commands = [it for it in given if it.startswith(("cd ", "../", "keep() "))]
+        out = self.run_blocks(commands, "")
+        for block in given:
+            if block not in commands and not block.startswith("report_wns setup\nreport_tns"):
+                self.assertIn(block + "\n", out)
+        self.assertIn("1 1 accepted\n2 1 endpoint 88.058\n", out)
+        self.assertIn("\nreplace_cell _140_ INVX2\n", out)
+        self.assertEqual(blocks(EXAMPLES / "README.md")[3], (EXAMPLES / "pulse-width" / "report.eco").read_text().split("\n", 1)[1].strip())
+
+    @unittest.skipUnless(LIBRARY.exists(), "no library for examples/pulse-width: apt-get install qflow-tech-osu018")
+    def test_scripts_page(self):
+        """The rows of docs/SCRIPTS.md are those of its commands."""
+        shutil.copy(LIBRARY, self.top / "examples" / "pulse-width")
+        for block in blocks(common.TOP / "docs" / "SCRIPTS.md"):
+            if re.search(r" {3,}1 \d ", block):
+                parts = [re.split(r" {3,}", line) for line in block.split("\n")]
+                script, rows = [it[0] for it in parts if it[0]], [it[1] for it in parts if len(it) > 1]
+                (self.top / "s.eco").write_text("\n".join(script) + "\n")
+                library = "osu018_stdcells.lib"
+                out = self.run_blocks([f"../../lizdrog run {library} {library} netlist.v pulse_width.sdc netlist.spef 1 ../../s.eco"], "examples/pulse-width")
+                self.assertIn("\n".join(rows) + "\n", out)
