@@ -1,0 +1,17 @@
+//! Tests of path rules, credits, worst walks and sessions, by public calls.
+#![tactic(auto)]
+
+#[cfg(test)]
+mod checked_cones;
+#[cfg(test)]
+mod clock_credits;
+#[cfg(test)]
+mod given;
+#[cfg(test)]
+mod rules_of_paths;
+#[cfg(test)]
+mod same_sessions;
+#[cfg(test)]
+mod session_runs;
+#[cfg(test)]
+mod walks;
