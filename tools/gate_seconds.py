@@ -34,8 +34,8 @@ def processor_seconds(pid):
     return sum(int(it) for it in fields[11:15]) / TICK
 
 
-def check_of(pid):
-    """The crate and kind of a prover's process: none for other processes and for a prover's own helpers."""
+def check_of(pid, under):
+    """The crate and kind of a prover's process in a folder under `under`: none for others, and for a prover's own helpers."""
     try:
         with open(f"/proc/{pid}/cmdline", "rb") as line:
             words = line.read().decode(errors="replace").split("\0")
@@ -47,6 +47,8 @@ def check_of(pid):
             if line.read().split(b"\0")[0].endswith(b"/rattle"):
                 return None
         folder = os.readlink(f"/proc/{pid}/cwd")
+        if not folder.startswith(under):
+            return None
         with open(f"/proc/{pid}/status") as status:
             most = int(re.search(r"VmHWM:\s+(\d+)", status.read())[1]) // 1024
         crate = words[words.index("--crate-name") + 1]
@@ -56,14 +58,14 @@ def check_of(pid):
     return crate, kind, fields[19], most
 
 
-def watch(out):
+def watch(out, under):
     """Samples until no prover was seen for five minutes; the rows by check."""
     seen, idle = {}, 0.0
     try:
         while idle < 300:
             found = False
             for pid in filter(str.isdigit, os.listdir("/proc")):
-                check, spent = check_of(pid), processor_seconds(pid)
+                check, spent = check_of(pid, under), processor_seconds(pid)
                 if check is None or spent is None:
                     continue
                 found = True
@@ -174,13 +176,14 @@ def functions(name, above):
 def main():
     parser = argparse.ArgumentParser(description=__doc__, formatter_class=argparse.RawDescriptionHelpFormatter)
     parser.add_argument("--out", metavar="FILE")
-    parser.add_argument("--table")
+    parser.add_argument("--under", default="/", metavar="FOLDER", help="counts only checks that run under this folder, as /tmp/rt-copy-")
+    parser.add_argument("--table", metavar="FILE")
     parser.add_argument("--functions", nargs="+", metavar="CRATE")
     parser.add_argument("--above", type=float, default=20.0)
     given = parser.parse_args()
     if given.functions:
         sys.exit(0 if all([functions(name, given.above) for name in given.functions]) else 1)
-    print_table(read(given.table) if given.table else watch(given.out))
+    print_table(read(given.table) if given.table else watch(given.out, given.under))
 
 
 main()
