@@ -193,6 +193,14 @@ def answer_text(row):
     return words[0] if words[0] == "none" else f"{words[0]} ps"
 
 
+def bound_text(row):
+    """What the test of a path asks of its time."""
+    time, slack = thousandths(row.below[-1][2]), thousandths(row.words[3])
+    if row.words[0] == "setup":
+        return f"  {picoseconds(time + slack):>11} is the latest time that the setup test allows, with credit"
+    return f"  {picoseconds(time - slack):>11} is the earliest time that the hold test allows, with credit"
+
+
 def path_text(row, edited):
     """The lines of a path in columns."""
     lines = path_lines(row, edited)
@@ -204,6 +212,7 @@ def path_text(row, edited):
             net = f"  net {line['net']}, {line['fanout']} sink{'' if line['fanout'] == 1 else 's'}" if line["net"] else ""
             text += f"  {line['cell']}{net}"
         yield text.rstrip()
+    yield bound_text(row)
 
 
 def print_lines(commands, output, edited):

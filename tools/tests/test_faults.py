@@ -123,3 +123,48 @@ class Damages(unittest.TestCase):
                     _, out, _ = common.run(common.PROGRAM, *words, cwd=self.folder)
                     self.assertTrue(out.startswith(f"fault sdc {code} " if code else "journal"), out)
 
+    def check(self, role, code, text):
+        words = common.write_documents(self.folder, script="take\n", **{role: text})
+        _, out, _ = common.run(common.PROGRAM, *words, cwd=self.folder)
+        self.assertTrue(out.startswith(f"fault {role} {code} " if code else "journal"), out)
+
+    # What docs/INPUT.md says of libraries: what is put in the place of a line.
+    def test_libraries_as_the_page_says(self):
+        head, template = 'time_unit : "1ps"; capacitive_load_unit (1, ff);', ' lu_table_template (ld)'
+        for code, old, new in [
+                ("L4", '"1ps"', '"1fs"'), ("L4", "(1, ff)", "(2, ff)"), ("L4", " capacitive_load_unit (1, ff);", ""), ("L4", "(1, ff)", "(1, nf)"),
+                ("", "(1, ff)", "(0.001, pf)"), ("", ' time_unit : "1ps";', ' time_unit : "10ps"; delay_model : table_lookup;'), ("L9", head, head + " delay_model : cmos2;"),
+                ("L7", template, ' lu_table_template (ld) { }' + template), ("L7", " cell (BUF)", " cell (DFF) { }\n cell (BUF)"), ("L5", "cell_rise (ld)", "cell_rise (xx)"),
+                ("L6", "total_output_net_capacitance;", "total_output_net_capacitance; variable_2 : input_net_transition; variable_3 : x;"),
+                ("L6", '"10, 30"', '"10, 30, 40"'), ("L8", 'index_1 ("0, 10")', 'index_1 ("10, 0")'), ("L2", "direction : input", "direction : sideways"),
+                ("L2", "capacitance : 1;", "capacitance : -1;"), ("L2", head, head + ' include_file ("x");'), ("", "timing_sense :", 'when : "A"; timing_sense :'),
+                ("", " cell (BUF)", " cell (BUS) { bus (B) { } }\n cell (PAD) { pin (P) { direction : inout; } }\n cell (BUF)"),
+                ("", "capacitance : 1;", "capacitance : 1; rise_capacitance : x; max_transition : y;"),
+                ("", "direction : output;", 'direction : output; timing () { related_pin : "A"; timing_type : three_state_disable; }')]:
+            with self.subTest(f"{old} -> {new}"):
+                self.assertIn(old, LIBRARY)
+                self.check("late", code, LIBRARY.replace(old, new, 1))
+
+    # What it says of netlists.
+    def test_netlists_as_the_page_says(self):
+        for code, line in [
+                ("V2", "assign n1 = n2;"), ("V2", "inout x;"), ("V2", "reg x;"), ("V2", "supply0 x;"), ("V2", "parameter x = 1;"), ("V2", "always x;"),
+                ("V2", "BUF #(1) g9 (.A(n1), .Z());"), ("V2", "wire [1:0] v; BUF g9 (.A(v[1:0]), .Z());"), ("V2", "BUF g9 (.A({n1}), .Z());"),
+                ("V2", "wire [1:0] v; BUF g9 (.A(v), .Z());"), ("V2", "BUF g9 (n1, n2);"), ("V2", "endmodule module m2 ();"), ("V1", "wire wire a;"),
+                ("V1", "BUF g9 (.A(1'bx), .Z());"), ("V3", "BUF g9 (.A(v[3]), .Z());"), ("V4", "wire n1;"), ("V6", "wire [999999:0] w;"),
+                ("", "BUF g9 (.A(1'b0), .Z());"), ("", "BUF g9 (.A(), .Z(free));"), ("", "wire [0:3] v; BUF g9 (.A(v[3]), .Z());"),
+                ("", "(* keep *) BUF \\g/9 (.A(n1), .Z(\\x[3] ));\n`define A b"), ("", "BUF g9 (.A(n1)); // and so on")]:
+            with self.subTest(line):
+                self.check("netlist", code, NETLIST.replace("endmodule", line + "\nendmodule") if "endmodule" not in line else NETLIST.replace("endmodule", line + " endmodule"))
+        self.check("netlist", "", NETLIST.replace("(clk, d, q);\n input clk, d; output q;", "(input clk, input wire d, output q);"))
+
+    # What it says of parasitics.
+    def test_parasitics_as_the_page_says(self):
+        for code, old, new in [
+                ("P1", "*SPEF", "*SPEFX"), ("P1", "*DELIMITER :\n", ""), ("P1", "1 FF", "1 UF"), ("P1", "1 OHM", "2 OHM"), ("", "1 OHM", "0.001 KOHM"),
+                ("P3", "*D_NET", "*R_NET"), ("P3", "*D_NET", "*DEFINE x\n*D_NET"), ("P3", "*RES", "*INDUC\n*RES"), ("P4", "1 *1:1 2.5", "1 *1:1 -2.5"),
+                ("P4", "*3:D 50", "*3:D 1e30"), ("P2", "*2:Z O", "*9:Z O"), ("P5", "*END\n", "*END\n*D_NET *1 1\n*END\n"), ("", "3.5", "3.5 *V 1"),
+                ("", "1 *1:1 2.5", "1 *1:1 2:2.5:3"), ("", "2 *3:D 1", "2 *3:D r1:Q 1"), ("", "*D_NET", "*PORTS\nclk I\nq O\n*D_NET"), ("", "*D BUF", "*C 1 2 *S 1 2 *D BUF")]:
+            with self.subTest(f"{old} -> {new}"):
+                self.assertIn(old, SPEF)
+                self.check("spef", code, SPEF.replace(old, new, 1))
