@@ -37,6 +37,7 @@ PASSED_OVER = {"current_design", "group_path", "set_propagated_clock", "set_oper
 UNCHECKED = {"set_max_fanout", "set_max_transition", "set_max_capacitance", "set_max_area"}
 LEFT_OUT = {"create_generated_clock", "set_clock_latency", "set_case_analysis", "set_clock_transition", "set_max_delay", "set_min_delay",
             "set_driving_cell", "set_disable_timing"}
+BETWEEN = {it: 1 for it in ("-through", "-from", "-to", "-rise_from", "-fall_from", "-rise_to", "-fall_to")}
 LEFT_OUT_OPTIONS = {"-through", "-clock_fall", "-add_delay"}
 GETTERS = {"get_ports", "get_clocks", "get_pins", "get_cells"}
 KNOWN_TYPES = {"recovery_rising", "recovery_falling", "removal_rising", "removal_falling", "preset", "clear", "three_state_enable",
@@ -75,9 +76,11 @@ def option_faults(command):
         if takes:
             takes -= 1
         elif is_option and word.text in LEFT_OUT_OPTIONS:
+            takes = BETWEEN.get(word.text, 0)
             yield word.text, "S3"
         elif is_option and word.text not in options:
-            is_between = command.name == "set_clock_uncertainty" and word.text in ("-from", "-to", "-rise_from", "-fall_from", "-rise_to", "-fall_to")
+            is_between = command.name == "set_clock_uncertainty" and word.text in BETWEEN
+            takes = BETWEEN.get(word.text, 0)
             yield word.text, "S3" if is_between or command.name == "set_timing_derate" else "S1"
         elif is_option:
             takes = options[word.text]
@@ -97,14 +100,85 @@ def option_faults(command):
         yield "-setup beside -hold", "S3"
 
 
+def plain_words(command):
+    """The words that are no options and no option's value."""
+    options, found, takes = {**BETWEEN, **READ[command.name]}, [], 0
+    for word in command.words:
+        if takes:
+            takes -= 1
+        elif word.sort == "plain" and word.text in options:
+            takes = options[word.text]
+        elif not (word.sort == "plain" and word.text.startswith("-") and not (word.text[1:2].isdigit() or word.text[1:2] == ".")):
+            found.append(word)
+    return found
+
+
+# What the plain words of a command are, and the least and greatest number.
+FORMS = {"create_clock": (["objects"], None, None), "set_input_delay": (["number", "objects"], None, None),
+         "set_output_delay": (["number", "objects"], None, None), "set_input_transition": (["number", "objects"], 0, None),
+         "set_load": (["number", "objects"], 0, None), "set_clock_uncertainty": (["number", "objects"], None, None), "set_false_path": ([], None, None),
+         "set_multicycle_path": (["number"], 0, 1000), "set_timing_derate": (["number"], 0, 10)}
+
+
+def number_faults(word, least, most):
+    value = documents.numbers([word.text], 1) if word.sort == "plain" else []
+    if not value or not word.text.strip() or least is not None and value[0] < least or most is not None and value[0] > most:
+        yield word.text, "S4"
+
+
+def form_faults(command, clocks):
+    """What is wrong with the plain words of a command, and with the clocks that it names; `clocks` are those before it, with their ports."""
+    plain, (form, least, most) = plain_words(command), FORMS[command.name]
+    if command.name == "set_multicycle_path" and not command.has("-hold"):
+        least = 1
+    for kind, word in zip(form, plain):
+        if kind == "number":
+            yield from number_faults(word, least, most)
+        elif word.sort in ("get_pins", "get_cells") or (word.sort == "get_ports") == (command.name == "set_clock_uncertainty") and word.sort in GETTERS:
+            yield word.text, "S1"
+    for word in plain[len(form):]:
+        yield word.text, "S3" if command.name == "set_timing_derate" else "S1"
+    if len(plain) < len(form) and command.name != "create_clock":
+        yield "a word is missing", "S1"
+    asked = [command.after("-clock")] if command.has("-clock") else plain[1:2] if command.name == "set_clock_uncertainty" else []
+    for name in (it for word in asked if word for it in word.names):
+        if name not in clocks and command.name != "create_clock":
+            yield f"{name}: no such clock before", "S5"
+    if command.name == "create_clock":
+        yield from clock_faults(command, plain, clocks)
+    elif command.name == "set_multicycle_path":
+        wrong = "-start" if not command.has("-hold") else "-end"
+        if command.has(wrong) and (command.has("-setup") or command.has("-hold") or wrong == "-start"):
+            yield f"{wrong} beside {'-setup' if wrong == '-start' else '-hold'}", "S1"
+
+
+def clock_faults(command, plain, clocks):
+    """What is wrong with a clock; a new one is added to those before."""
+    ports, name, period = [it for word in plain for it in word.names], command.after("-name"), command.after("-period")
+    label = name.text if name else ports[0] if ports else None
+    if len(ports) > 1:
+        yield "a clock on several ports", "S3"
+    elif label in clocks or ports and ports[0] in clocks.values():
+        yield f"{label}: a second clock on a port or of a name", "S3"
+    if period is None or label is None:
+        yield "-period, or a name, is missing", "S1"
+    else:
+        yield from ((word, code) for word, code in number_faults(period, 1e-12, None))
+    if label is not None:
+        clocks.setdefault(label, ports[0] if ports else None)
+        if len(clocks) == 9:
+            yield "a ninth clock", "S6"
+
+
 def sdc_faults(text, commands, file):
     """Each command that is not read, with its line and code."""
+    clocks = {}
     for command in commands:
         line, _ = documents.line_and_column(text, command.offset)
         shown = f"{file}:{line}: {command.name}"
         name = command.name
         if name in READ:
-            for word, code in option_faults(command):
+            for word, code in dict.fromkeys([*option_faults(command), *form_faults(command, clocks)]):
                 yield f"{shown} {word} ({code})"
         elif name == "set_units" or name in PASSED_OVER or name == "set" and command.words and command.words[0].text == "sdc_version":
             continue
@@ -133,20 +207,8 @@ class Constraints:
             elif command.name == "set_timing_derate":
                 self.derate(command)
 
-    def plain(self, command):
-        """The words that are no options and no option's value."""
-        options, found, takes = READ[command.name], [], 0
-        for word in command.words:
-            if takes:
-                takes -= 1
-            elif word.sort == "plain" and word.text in options:
-                takes = options[word.text]
-            else:
-                found.append(word)
-        return found
-
     def clock(self, command):
-        objects, name = self.plain(command), command.after("-name")
+        objects, name = plain_words(command), command.after("-name")
         ports = [it for word in objects for it in names_of(word)]
         label = name.text if name else ports[0] if ports else None
         if label:
@@ -157,13 +219,13 @@ class Constraints:
         return chosen or ["early", "late"]
 
     def delay(self, command):
-        ports = [it for word in self.plain(command)[1:] for it in names_of(word)]
+        ports = [it for word in plain_words(command)[1:] for it in names_of(word)]
         table = self.inputs if command.name == "set_input_delay" else self.outputs
         for port in ports:
             table.setdefault(port, set()).update(self.splits(command))
 
     def derate(self, command):
-        numbers = documents.numbers([it.text for it in self.plain(command)], 1)
+        numbers = documents.numbers([it.text for it in plain_words(command)], 1)
         splits = [it for it in ("early", "late") if command.has(f"-{it}")] or ["early", "late"]
         kinds = [it for it in ("cell", "net") if command.has(f"-{it}_delay")] or ["cell", "net"]
         for split in splits if numbers else []:
@@ -350,7 +412,7 @@ def check_exceptions(findings, joined, constraints, network, text, file):
                 word = command.after(option)
                 empty += [f"{file}:{line}: {command.name} {option} {it}" for it in matches_nothing(joined, constraints, network, word, option)] if word else []
         elif command.name in READ and command.name not in ("set_timing_derate", "set_clock_uncertainty"):
-            words = constraints.plain(command)[0 if command.name == "create_clock" else 1:]
+            words = plain_words(command)[0 if command.name == "create_clock" else 1:]
             way = "output" if command.name in ("set_output_delay", "set_load") else "input"
             gone += [f"{file}:{line}: {command.name}: {name}" for word in words if word.sort in ("plain", "list", "get_ports") for name in names_of(word)
                      if joined.netlist.ports.get(name) is None or command.name != "set_load" and joined.netlist.ports[name] != way]

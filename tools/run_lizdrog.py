@@ -101,8 +101,12 @@ def quick_is_current():
 
 def build():
     """Builds the program without proof, alone in this clone; one that another call has built meanwhile is taken."""
-    FOLDER.mkdir(parents=True, exist_ok=True)
-    with open(FOLDER / "lock", "w") as lock:
+    try:
+        FOLDER.mkdir(parents=True, exist_ok=True)
+        lock = open(FOLDER / "lock", "w")
+    except OSError as why:
+        raise Stop(f"no program is built, and none can be built here: {why}") from why
+    with lock:
         try:
             fcntl.flock(lock, fcntl.LOCK_EX | fcntl.LOCK_NB)
         except OSError:

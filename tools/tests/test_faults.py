@@ -52,6 +52,25 @@ DAMAGES = [
     ("last capacitance without a value", {"spef": SPEF.replace("2 *3:D 1\n", "2 *3:D abc\n")}, "fault spef P4", "ends with abc"),
 ]
 
+# Lines of constraints with their codes, none for those that are accepted.
+LINES = {
+    "S3": ["create_generated_clock -name g", "set_clock_latency 1 clk", "set_clock_transition 1 clk", "set_max_delay 1", "set_min_delay 1",
+           "set_driving_cell -lib_cell x", "set_disable_timing x", "set_case_analysis 0 d", "set_input_delay 1 -clock clk [all_inputs]",
+           "set_false_path -to [get_nets x]", "set_false_path -through d", "set_input_delay 1 -clock clk -clock_fall d",
+           "set_input_delay 1 -clock clk -add_delay d", "set_clock_uncertainty 1 -from clk -to clk", "set_load 1 $x",
+           "create_clock -period 9 {d q}", "set_multicycle_path 2 -setup -hold -to q", "set_timing_derate 1 -cell_check", "set_timing_derate 1 2"],
+    "S2": ["set_clock_groups -a", "set_ideal_network x", "set_sense x", "set_min_pulse_width 1", "set_fanout_load 1 x", "set_resistance 1 x",
+           "if 1", "source x", "puts x"],
+    "S1": ["create_clock -period 9 [get_pins r1/CK]", "set_multicycle_path 2 -setup -start -to q", "set_load 1 -foo q", "set_load 1", "set x 1"],
+    "S4": ["set_timing_derate 11", "set_load -1 q", "set_multicycle_path 0 -to q", "set_input_transition -1 d"],
+    "S5": ["set_clock_uncertainty 1 nope", "set_output_delay 1 -clock nope q"],
+    "": ["set_max_fanout 3 d", "set_max_transition 3", "set_max_capacitance 3", "set_max_area 0", "set_propagated_clock clk", "group_path -name x",
+         "current_design top", "set sdc_version 2.1", "set_operating_conditions x", "set_wire_load_mode top", "set_wire_load_model -name x",
+         "set_timing_derate 0.9 -early -net_delay", "set_units -time 10ps -capacitance 1.0fF -resistance kOhm", "set_load 1 -pin_load -min -fall q",
+         "set_multicycle_path 2 -setup -end -from clk -to [get_pins r2/D]", "set_false_path -hold -from [get_cells r1] -to {q r2/D}",
+         "set_input_transition 1 -clock clk -max -rise d", "create_clock -name v -period 7 -waveform {1 3}"],
+}
+
 
 @common.needs_program
 class Damages(unittest.TestCase):
@@ -99,24 +118,7 @@ class Damages(unittest.TestCase):
 
     # What docs/INPUT.md says of constraints.
     def test_constraints_as_the_page_says(self):
-        codes = {
-            "S3": ["create_generated_clock -name g", "set_clock_latency 1 clk", "set_clock_transition 1 clk", "set_max_delay 1", "set_min_delay 1",
-                   "set_driving_cell -lib_cell x", "set_disable_timing x", "set_case_analysis 0 d", "set_input_delay 1 -clock clk [all_inputs]",
-                   "set_false_path -to [get_nets x]", "set_false_path -through d", "set_input_delay 1 -clock clk -clock_fall d",
-                   "set_input_delay 1 -clock clk -add_delay d", "set_clock_uncertainty 1 -from clk -to clk", "set_load 1 $x",
-                   "create_clock -period 9 {d q}", "set_multicycle_path 2 -setup -hold -to q", "set_timing_derate 1 -cell_check", "set_timing_derate 1 2"],
-            "S2": ["set_clock_groups -a", "set_ideal_network x", "set_sense x", "set_min_pulse_width 1", "set_fanout_load 1 x", "set_resistance 1 x",
-                   "if 1", "source x", "puts x"],
-            "S1": ["create_clock -period 9 [get_pins r1/CK]", "set_multicycle_path 2 -setup -start -to q", "set_load 1 -foo q", "set_load 1", "set x 1"],
-            "S4": ["set_timing_derate 11", "set_load -1 q", "set_multicycle_path 0 -to q", "set_input_transition -1 d"],
-            "S5": ["set_clock_uncertainty 1 nope", "set_output_delay 1 -clock nope q"],
-            "": ["set_max_fanout 3 d", "set_max_transition 3", "set_max_capacitance 3", "set_max_area 0", "set_propagated_clock clk", "group_path -name x",
-                 "current_design top", "set sdc_version 2.1", "set_operating_conditions x", "set_wire_load_mode top", "set_wire_load_model -name x",
-                 "set_timing_derate 0.9 -early -net_delay", "set_units -time 10ps -capacitance 1.0fF -resistance kOhm", "set_load 1 -pin_load -min -fall q",
-                 "set_multicycle_path 2 -setup -end -from clk -to [get_pins r2/D]", "set_false_path -hold -from [get_cells r1] -to {q r2/D}",
-                 "set_input_transition 1 -clock clk -max -rise d", "create_clock -name v -period 7 -waveform {1 3}"],
-        }
-        for code, lines in codes.items():
+        for code, lines in LINES.items():
             for line in lines:
                 with self.subTest(line):
                     words = common.write_documents(self.folder, sdc=CONSTRAINTS + line + "\n", script="take\n")

@@ -7,8 +7,10 @@ import unittest
 
 import common
 from common import CONSTRAINTS, LIBRARY, NETLIST, SPEF
+import check_setup
 import design_documents as documents
 import read_answers
+import test_faults
 
 OUTPUT = """journal 1 2
 entry 1 session 1 edits 1
@@ -161,6 +163,16 @@ class SetUp(unittest.TestCase):
                 self.assertEqual((status, err), (1, ""))
                 for words in said:
                     self.assertIn(words, out)
+
+    def test_lines_of_constraints(self):
+        """What the program refuses is listed, and nothing else is."""
+        for code, lines in test_faults.LINES.items():
+            for line in lines:
+                text = CONSTRAINTS + line + "\n"
+                found = list(check_setup.sdc_faults(text, documents.read_commands(text), "top.sdc"))
+                self.assertEqual(bool(found), bool(code), f"{line}: {found}")
+        example = (common.TOP / "examples" / "pulse-width" / "pulse_width.sdc").read_text()
+        self.assertEqual(list(check_setup.sdc_faults(example, documents.read_commands(example), "x")), [])
 
     def test_nothing_but_nets_without_wires(self):
         status, out, _ = self.check()
