@@ -1,5 +1,5 @@
 -- What a forest that was found says of the net: loops, nodes that are not reached, delays and impulses.
-use Rattle.std.proofs.Common.{◌≡◌, ℕ, ◌*◌, ◌<◌, ◌^◌, ℤ, pos, ◌*ℤ◌, nat_abs, Bool, true, false, ◌&&◌, List, [], ◌∷◌, map, length, is_some, refl, ap, sym, subst, ◌∙◌, arith, inl, inr, append-nil}
+use Rattle.std.proofs.Common.{◌≡◌, ℕ, ◌*◌, ◌<◌, ◌^◌, ℤ, pos, ◌*ℤ◌, nat_abs, Bool, true, false, ◌&&◌, List, [], ◌∷◌, map, length, is_some, refl, ap, sym, subst, ◌∙◌, arith, inl, inr, ◌⊎◌, append-nil}
 use Rattle.std.specs.List.{AllByRecursion, list_all}
 use Rattle.std.proofs.lemmas.Bool.{cases_Bool, false≢true}
 use Rattle.std.proofs.Math.IntN.{zero-*ℤ}
@@ -16,7 +16,9 @@ use Rattle.rc_tree.specs.declared.segments.Segment.{Segment}
 use Rattle.rc_tree.specs.declared.forests.Forest.{Forest}
 use Rattle.rc_tree.specs.Growth.{wired, AreSegments, row_at, up_of}
 use Rattle.rc_tree.specs.Moments.{path_to, common, weight_at, moment_at}
-use Rattle.rc_tree.specs.Loops.{IsFound, is_looped}
+use Rattle.rc_tree.specs.Loops.{IsFound, IsLoopOf, is_looped}
+use Rattle.rc_tree.specs.declared.faults.RcFault.{RcFault}
+use Rattle.rc_tree.specs.declared.faults.RcFault.TheVariants.{Loop, Memory}
 use Rattle.rc_tree.specs.Weights.{cap_of, IsWeighed}
 use Rattle.rc_tree.proofs.Routes.{all_more, same_rc_is}
 use Rattle.rc_tree.proofs.Forest.{no_loop}
@@ -27,6 +29,12 @@ use Rattle.rc_tree.proofs.Bridge.{path_is, path_none, place_there, IsRooted, elm
 -- a loop of the segments is one of the net
 pub loop_of_net : (nodes : List RcNode) (net : NetRc) (segments : List Segment) → AreSegments nodes net.ress segments → is_looped (map (wired nodes) segments) ≡ true → has_cycle net ≡ true
 loop_of_net nodes net segments wires h = subst (λ r. is_looped r ≡ true) wires.0 h
+
+-- what is told of the segments, told of the net
+pub loop_of_net_there : (nodes : List RcNode) (net : NetRc) (segments : List Segment) (fault : RcFault) → AreApart nodes → AreSegments nodes net.ress segments → IsLoopOf segments (length nodes) fault
+    → (fault ≡ Memory) ⊎ ((fault ≡ Loop) × (has_cycle net ≡ true))
+loop_of_net_there nodes net segments fault apart wires (inl e) = inl e
+loop_of_net_there nodes net segments fault apart wires (inr p) = inr (p.0, loop_of_net nodes net segments wires (p.1 nodes apart refl))
 
 -- how many nodes there are
 pub count_of_nodes : (items nodes : List RcNode) → IsJoined [] items nodes → different [] items ≡ length nodes

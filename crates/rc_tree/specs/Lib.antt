@@ -7,3 +7,4 @@ pub mod Moments
 pub mod Listing
 pub mod Weights
 pub mod Wiring
+pub mod Founded

@@ -31,6 +31,9 @@ impl Nodes {
         }
     }
 
+    /// Gives the nodes up.
+    pub(crate) fn discard(self) {}
+
     /// Adds a pin, if it is not there.
     pub(crate) fn insert_pin(&mut self, alloc: Global, pin: &Name) -> Result<(), Memory>
         ensures { OnOk result (IsJoined (numbered self.old) (rc_pin pin.now ∷ []) (numbered self.new)) }
@@ -162,6 +165,25 @@ fn add_lumped(alloc: Global, nodes: &mut Nodes, net: &NetRc, pins: &[PinCap]) ->
     Ok(())
 }
 
+/// Adds the nodes of the tree of a net, its root first, where there are none.
+fn add_tree_nodes(
+    alloc: Global,
+    nodes: &mut Nodes,
+    net: &NetRc,
+    root: &Name,
+    pins: &[PinCap],
+) -> Result<(), Memory>
+    requires { numbered nodes.old ≡ [] }
+    ensures nodes { OnOk result (IsJoined [] (tree_nodes net.now root.now pins.now) (numbered nodes.new)) }
+    ensures root { OnOk result (node_at (numbered nodes.new) 0 ≡ rc_pin root.now) }
+{
+    nodes.insert_pin(alloc, root)?;
+    add_lumped(alloc, nodes, net, pins)?;
+    add_resistors(alloc, nodes, net.ress.as_slice())?;
+    add_caps(alloc, nodes, net.caps.as_slice())?;
+    Ok(())
+}
+
 /// The nodes of the tree of a net, its root first.
 pub(crate) fn tree_nodes(
     alloc: Global,
@@ -173,9 +195,11 @@ pub(crate) fn tree_nodes(
     ensures root { IfOk result (λ nodes. node_at (numbered nodes) 0 ≡ rc_pin root.now) }
 {
     let mut nodes = Nodes::new(alloc);
-    nodes.insert_pin(alloc, root)?;
-    add_lumped(alloc, &mut nodes, net, pins)?;
-    add_resistors(alloc, &mut nodes, net.ress.as_slice())?;
-    add_caps(alloc, &mut nodes, net.caps.as_slice())?;
-    Ok(nodes)
+    match add_tree_nodes(alloc, &mut nodes, net, root, pins) {
+        Ok(()) => Ok(nodes),
+        Err(wanting) => {
+            nodes.discard();
+            Err(wanting)
+        }
+    }
 }
