@@ -311,7 +311,7 @@ class Netlist:
                         self.ports[word + bit] = way
 
     def instance(self):
-        cell, (_, name, offset) = self.take()[1], self.take()
+        (_, cell, offset), (_, name, _) = self.take(), self.take()
         made = Instance(name, cell, offset)
         self.take()
         while self.look() not in (";", ""):

@@ -23,22 +23,25 @@ KINDS = [(r"\s*library\b", "a library (Liberty)", ("early", "late")), (r"\s*modu
          (r"\s*(report_|repower_|insert_|begin_eco|take\b|await\b)", "a script", ("script",))]
 
 
-def sentences():
-    """The sentence of each code, out of docs/FAULTS.md."""
-    found = {}
+def rows_of_faults():
+    """The cells behind each code in docs/FAULTS.md."""
     try:
         text = FAULTS.read_text()
     except OSError:
-        return found
-    for row in re.findall(r"^\| ([A-Z]\d+) \|(.*)\|$", text, re.M):
-        cells = [it.strip() for it in row[1].split(" | ")]
-        found[row[0]] = cells[1] if row[0][0] == "E" and len(cells) > 1 else cells[0]
-    return found
+        return {}
+    return {code: [it.strip() for it in row.split("|")] for code, row in re.findall(r"^\| ([A-Z]\d+) \|(.*)\|$", text, re.M)}
 
 
 def sentence(code):
     """The first sentence of a code."""
-    return sentences().get(code, "docs/FAULTS.md has this code").split(". ")[0]
+    cells = rows_of_faults().get(code, ["docs/FAULTS.md has this code"])
+    return cells[1 if len(cells) == 3 else 0].split(". ")[0]
+
+
+def usual_causes(code):
+    """What the page says of the usual causes of a code, in no line or one."""
+    cells = rows_of_faults().get(code, [])
+    return [f"usual causes: {cells[2]}"] if len(cells) == 3 and cells[2] else []
 
 
 def can_be_read_again(name):
@@ -227,8 +230,7 @@ def explain_cell(cell, words):
     netlist = documents.Netlist(documents.read_text(words[3]))
     users = [it for it in netlist.instances.values() if it.cell == cell]
     if users:
-        line, _ = documents.line_and_column(netlist.text, users[0].offset)
-        told.append(f"{len(users)} instance{'s are' if len(users) > 1 else ' is'} of this cell, first {users[0].name} ({words[3]}:{line})")
+        told.append(f"{len(users)} instance{'s are' if len(users) > 1 else ' is'} of this cell, first {users[0].name}")
     return told
 
 
@@ -255,17 +257,14 @@ def explain_net(code, net, words):
         text = documents.read_text(words[5])
         parasitics = documents.Spef(text).nets.get(net)
         if found and parasitics:
-            line, _ = documents.line_and_column(text, parasitics.offset)
             pins, named = {*found.drivers, *found.sinks}, parasitics.named_pins()
             ends = {it for row in parasitics.ress for it in row[:2]}
-            told.append(f"its parasitics begin at {words[5]}:{line}")
             if named - pins:
                 told.append(f"they name {', '.join(sorted(named - pins)[:6])}, which {'is' if len(named - pins) == 1 else 'are'} not on the net")
             if parasitics.ress and pins - ends:
                 told.append(f"no resistor ends at {', '.join(sorted(pins - ends)[:6])}, which {'is' if len(pins - ends) == 1 else 'are'} on the net")
             if code == "E14" and parasitics.ress and len(parasitics.ress) >= len(ends):
                 told.append(f"{len(parasitics.ress)} resistors join {len(ends)} nodes, so there is a loop of resistors")
-    told.append("usual causes: SPEF of another version of the netlist (one from before an ECO), a wrong row of its name map")
     return told
 
 
@@ -278,18 +277,34 @@ def explain_range(words):
     if words[5] != "none" and can_be_read_again(words[5]):
         units = re.findall(r"^\s*(\*[CR]_UNIT\s+\S+\s+\S+)", documents.read_text(words[5])[:100000], re.M)
         told.append(f"{words[5]} has {', '.join(' '.join(it.split()) for it in units)}")
-    return told + ["usual cause: a unit of a library, of the SPEF or of the SDC that is wrong by a thousand, such as ff for pf"]
+    return told
 
 
-def lines_with(name, file):
-    """The lines of a file in which a name stands as a word."""
-    if not can_be_read_again(file):
-        return []
-    spelled = {name, name.replace(":", "/")}
-    lines = documents.read_text(file).split("\n")
-    found = [f"{file}:{number}: {shown(line)[:WIDTH]}" for number, line in enumerate(lines, 1)
-             if any(re.search(r"(?<![^\s{}\[\]])" + re.escape(it) + r"(?![^\s{}\]])", line) for it in spelled)]
-    return found[:3]
+def word_of_constraints(name, file):
+    """The text of the constraints, and the place of the first object of that name."""
+    text = documents.read_text(file)
+    for command in documents.read_commands(text):
+        for word in command.words:
+            for said in word.names:
+                if name in (said, documents.pin_word(said)):
+                    return text, text.index(said, word.offset)
+    return text, None
+
+
+def place_of(code, what, words):
+    """The file, its text, and the place where a fault of the design is seen best; none where there is none."""
+    if code == "E13":
+        return (words[4], *word_of_constraints(what, words[4]))
+    if code in ("E2", "E14", "E15") and words[5] != "none" and can_be_read_again(words[5]):
+        text = documents.read_text(words[5])
+        net = documents.Spef(text).nets.get(what)
+        return words[5], text, net.offset if net else None
+    netlist = documents.Netlist(documents.read_text(words[3]))
+    if code == "E3":
+        found = next((it for it in netlist.instances.values() if it.cell == what), None)
+    else:
+        found = netlist.instances.get(what.rpartition(":")[0])
+    return words[3], netlist.text, found.offset if found else netlist.declared.get(what)
 
 
 def explain_driver(net, words):
@@ -300,29 +315,24 @@ def explain_driver(net, words):
 
 def explain_design(names, words):
     """The lines on a fault of the linked design: `names` are its code and what it names."""
-    code, what = names[0], names[-1] if len(names) > 1 else ""
-    told = [f"{words[3]}: {code} {' '.join(names[1:])}: {sentence(code)}"]
+    code, what = names[0], names[1] if names[0] == "E11" else names[-1]
+    said = f"{' '.join(names)}: {sentence(code)}"
     if not all(can_be_read_again(it) for it in words[1:5]):
-        return told
-    if code == "E3":
-        more = explain_cell(what, words)
-    elif code in ("E14", "E15"):
-        more = explain_net(code, what, words)
-    elif code == "E16":
-        more = explain_range(words)
-    elif code == "E13":
-        more = lines_with(what, words[4])
-    elif code == "E10":
-        more = explain_driver(what, words)
-    elif code == "E2":
-        more = lines_with(what, words[5]) + ["the parasitics have this net and the netlist does not: usual cause: SPEF of another netlist"]
-    elif code == "E4":
-        more = lines_with(what.rpartition(":")[0], words[3])[:1]
-    elif code == "E11":
-        more = ["the pins are those of the loop, each leading to the next and the last to the first"]
+        return [f"{words[3]}: {said}"]
+    file, text, offset = place_of(code, what, words)
+    if offset is None:
+        told = [f"{file}: {said}"]
     else:
-        more = []
-    return told + [f"  {it}" for it in more]
+        line, column = documents.line_and_column(text, offset)
+        told = [f"{file}:{line}:{column}: {said}", *caret(text.split("\n")[line - 1], column)]
+    more = {"E3": explain_cell, "E10": explain_driver}.get(code)
+    if more:
+        lines = more(what, words)
+    elif code in ("E14", "E15"):
+        lines = explain_net(code, what, words)
+    else:
+        lines = explain_range(words) if code == "E16" else []
+    return told + [f"  {it}" for it in [*lines, *usual_causes(code)]]
 
 
 # ------------------------------------------------------------------------------------------------ the run
