@@ -348,6 +348,23 @@ fn rc_rows(
     Ok(rows)
 }
 
+/// The tables of both libraries.
+fn cells_of(alloc: Global, early: Library, late: Library) -> Result<(Cells, Cells), Memory>
+    requires early { length early.cells ≤ 10000 }
+    requires late { length late.cells ≤ 10000 }
+    ensures early { IfOk result (λ made. made.0 ≡ early) }
+    ensures late { IfOk result (λ made. made.1 ≡ late) }
+{
+    let early = Cells::of(alloc, early)?;
+    match Cells::of(alloc, late) {
+        Ok(late) => Ok((early, late)),
+        Err(wanting) => {
+            early.discard();
+            Err(wanting)
+        }
+    }
+}
+
 /// The parts of a design that no edit changes.
 pub(crate) fn frame_of(
     alloc: Global,
@@ -363,14 +380,31 @@ pub(crate) fn frame_of(
     ensures ports { IfOk result (λ frame. frame.ports ≡ ports) }
     ensures constraints { IfOk result (λ frame. frame.constraints ≡ constraints) }
 {
-    let early = Cells::of(alloc, early)?;
-    let late = Cells::of(alloc, late)?;
+    let (early, late) = cells_of(alloc, early, late)?;
     Ok(Frame {
         early,
         late,
         ports,
         constraints,
     })
+}
+
+/// The numbers of pins.
+fn pin_numbers(alloc: Global, frame: &Frame, insts: &[Inst]) -> Result<Numbering, Memory>
+    requires { are_distinct (of_pins name_of frame.now.ports frame.now.late.cells insts.now) ≡ true }
+    ensures { IfOk result (λ made. made ≡ map Some (of_pins name_of frame.now.ports frame.now.late.cells insts.now)) }
+{
+    let words = pin_names(alloc, frame.ports.as_slice(), &frame.late, insts)?;
+    numbered(alloc, words.as_slice())
+}
+
+/// The numbers of instances.
+fn inst_numbers(alloc: Global, insts: &[Inst]) -> Result<Numbering, Memory>
+    requires { are_distinct (map (λ inst. inst.name) insts.now) ≡ true }
+    ensures { IfOk result (λ made. made ≡ map Some (map (λ inst. inst.name) insts.now)) }
+{
+    let called = inst_names(alloc, insts)?;
+    numbered(alloc, called.as_slice())
 }
 
 /// The numbers of instances, nets and pins: each has its place as its number.
@@ -387,12 +421,21 @@ pub(crate) fn names_of(
     ensures nets { IfOk result (λ names. names.nets ≡ map Some nets.now) }
     ensures pins { IfOk result (λ names. names.pins ≡ map Some (of_pins name_of frame.now.ports frame.now.late.cells insts.now)) }
 {
-    let words = pin_names(alloc, frame.ports.as_slice(), &frame.late, insts.as_slice())?;
-    let pins = numbered(alloc, words.as_slice())?;
-    let called = inst_names(alloc, insts.as_slice())?;
-    let insts = numbered(alloc, called.as_slice())?;
-    let nets = numbered(alloc, nets.as_slice())?;
-    Ok(Names { insts, nets, pins })
+    let pins = pin_numbers(alloc, frame, insts.as_slice())?;
+    match inst_numbers(alloc, insts.as_slice()) {
+        Ok(insts) => match numbered(alloc, nets.as_slice()) {
+            Ok(nets) => Ok(Names { insts, nets, pins }),
+            Err(wanting) => {
+                insts.discard();
+                pins.discard();
+                Err(wanting)
+            }
+        },
+        Err(wanting) => {
+            pins.discard();
+            Err(wanting)
+        }
+    }
 }
 
 /// The rows of instances, nets and pins.

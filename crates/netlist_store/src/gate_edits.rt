@@ -14,7 +14,7 @@ use crate::inst_rows::InstRow;
 use crate::pin_edits::put_inst_pins;
 use crate::row_edits::set_row;
 use crate::stores::Store;
-use crate::tables::{Frame, Names, Orders, PinRow};
+use crate::tables::{Frame, Names, Orders, PinRow, give_up_unnamed, give_up_unordered};
 use cow_table::CowTable;
 use sta_units::{Again, Memory};
 use std::alloc::Global;
@@ -60,14 +60,35 @@ impl Names {
         ensures pins { IfOk result (λ made. Follows base.now.pins made.0.pins) }
         ensures filled { IfOk result (λ made. IsFilled made.0.pins rows.new) }
     {
-        let Names { insts, nets, pins } = self;
-        let name = inst.name.copied(alloc)?;
-        let made = insts.with(&base.insts, name)?;
-        let (insts, number) = made;
-        let pins = put_inst_pins(
-            pins, rows, alloc, &base.pins, &nets, inst, number, cell_pins,
-        )?;
-        Ok((Names { insts, nets, pins }, number))
+        match inst.name.copied(alloc) {
+            Ok(name) => {
+                let Names { insts, nets, pins } = self;
+                match insts.with(&base.insts, name) {
+                    Ok(made) => {
+                        let (insts, number) = made;
+                        match put_inst_pins(
+                            pins, rows, alloc, &base.pins, &nets, inst, number, cell_pins,
+                        ) {
+                            Ok(pins) => Ok((Names { insts, nets, pins }, number)),
+                            Err(wanting) => {
+                                insts.discard();
+                                nets.discard();
+                                Err(wanting)
+                            }
+                        }
+                    }
+                    Err(wanting) => {
+                        nets.discard();
+                        pins.discard();
+                        Err(wanting)
+                    }
+                }
+            }
+            Err(wanting) => {
+                self.discard();
+                Err(wanting)
+            }
+        }
     }
 }
 
@@ -78,8 +99,36 @@ impl Orders {
         ensures { IfOk result (λ after. after ≡ record self { insts = self.insts ++ inst ∷ [] }) }
     {
         let Orders { insts, nets, rcs } = self;
-        let insts = insts.with(inst)?;
-        Ok(Orders { insts, nets, rcs })
+        match insts.with(inst) {
+            Ok(insts) => Ok(Orders { insts, nets, rcs }),
+            Err(wanting) => {
+                nets.discard();
+                rcs.discard();
+                Err(wanting)
+            }
+        }
+    }
+}
+
+/// Writes the row of a new gate, which is the last one in the orders.
+fn put_gate(
+    orders: Orders,
+    rows: &mut CowTable<Option<Held<InstRow>>>,
+    alloc: Global,
+    frame: &Frame,
+    number: u32,
+    gate: Inst,
+) -> Result<Orders, Memory>
+    requires { list_any (nat_eq number) orders.insts ≡ false }
+    ensures orders { IfOk result (λ after. after ≡ record orders { insts = orders.insts ++ number ∷ [] }) }
+    ensures rows { IfOk result (λ after. (n : ℕ) → at rows.new n ≡ (if nat_eq number n then Some gate else at rows.old n)) }
+{
+    match put_inst(rows, alloc, frame, number, gate) {
+        Ok(()) => orders.with_inst(number),
+        Err(wanting) => {
+            orders.discard();
+            Err(wanting)
+        }
     }
 }
 
@@ -105,6 +154,22 @@ impl Store {
         }
     }
 
+    /// A gate whose pins are open, and the pins of its cell.
+    fn open_gate(
+        &self,
+        alloc: Global,
+        inst: &Name,
+        cell: &Name,
+    ) -> Result<(Inst, Items<CellPin>), Memory>
+        requires { is_some (cell_named self.now.design.late.cells cell.now) ≡ true }
+        ensures gate { IfOk result (λ made. made.0 ≡ record { name = inst.now; cell = cell.now; conns = [] }) }
+        ensures pins { IfOk result (λ made. made.1 ≡ cell_pins (cell_named self.now.design.late.cells cell.now)) }
+    {
+        let gate = open_inst(alloc, inst, cell)?;
+        let pins = self.pins_of_cell(alloc, cell)?;
+        Ok((gate, pins))
+    }
+
     /// The store with a new gate, whose pins are open, as the last instance.
     pub(crate) fn with_gate(
         self,
@@ -122,25 +187,43 @@ impl Store {
         ensures insts { IfOk result (λ after. Follows base.now.insts after.insts) }
         ensures pins { IfOk result (λ after. Follows base.now.pins after.pins) }
     {
-        let cell_pins = self.pins_of_cell(alloc, cell)?;
-        let gate = open_inst(alloc, inst, cell)?;
-        let Store {
-            frame,
-            names,
-            mut rows,
-            orders,
-        } = self;
-        let pins = cell_pins.as_slice();
-        let made = names.with_inst_names(alloc, &base.names, &gate, pins, &mut rows.pins)?;
-        let (names, number) = made;
-        names.laws();
-        put_inst(&mut rows.insts, alloc, frame.get(), number, gate)?;
-        let orders = orders.with_inst(number)?;
-        Ok(Store {
-            frame,
-            names,
-            rows,
-            orders,
-        })
+        match self.open_gate(alloc, inst, cell) {
+            Ok(open) => {
+                let (gate, cell_pins) = open;
+                let Store {
+                    frame,
+                    names,
+                    mut rows,
+                    orders,
+                } = self;
+                let pins = cell_pins.as_slice();
+                match names.with_inst_names(alloc, &base.names, &gate, pins, &mut rows.pins) {
+                    Ok(made) => {
+                        let (names, number) = made;
+                        names.laws();
+                        match put_gate(orders, &mut rows.insts, alloc, frame.get(), number, gate) {
+                            Ok(orders) => Ok(Store {
+                                frame,
+                                names,
+                                rows,
+                                orders,
+                            }),
+                            Err(wanting) => {
+                                give_up_unordered(frame, names, rows);
+                                Err(wanting)
+                            }
+                        }
+                    }
+                    Err(wanting) => {
+                        give_up_unnamed(frame, rows, orders);
+                        Err(wanting)
+                    }
+                }
+            }
+            Err(wanting) => {
+                self.discard();
+                Err(wanting)
+            }
+        }
     }
 }

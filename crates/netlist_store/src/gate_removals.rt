@@ -8,12 +8,16 @@ ghost use Rattle.timing_defs.specs.declared.kinds.Split.TheVariants.{Late};
 ghost use Rattle.timing_defs.specs.Netlist.{cell_of, cell_pins};
 ghost use Rattle.timing_defs.specs.Edits.{inst_named, is_open};
 ghost use Rattle.netlist_store.specs.Numbering.{number_of, is_number, inst_numbered};
+ghost use Rattle.netlist_store.specs.Stores.{at};
 ghost use Rattle.netlist_store.specs.Drafts.{IsPart, is_lost};
 
+use crate::held::Held;
+use crate::inst_rows::InstRow;
 use crate::pin_edits::without_lost_pins;
 use crate::row_edits::set_row;
 use crate::stores::Store;
-use crate::tables::{Names, Orders};
+use crate::tables::{Names, Orders, give_up_unnamed, give_up_unordered};
+use cow_table::CowTable;
 use sta_units::{Again, Memory};
 use std::alloc::Global;
 use timing_defs::{CellPin, Items, Name, Split};
@@ -25,8 +29,33 @@ impl Orders {
         ensures { IfOk result (λ after. after ≡ record self { insts = filter (λ n. not (nat_eq inst n)) self.insts }) }
     {
         let Orders { insts, nets, rcs } = self;
-        let insts = insts.without(inst)?;
-        Ok(Orders { insts, nets, rcs })
+        match insts.without(inst) {
+            Ok(insts) => Ok(Orders { insts, nets, rcs }),
+            Err(wanting) => {
+                nets.discard();
+                rcs.discard();
+                Err(wanting)
+            }
+        }
+    }
+}
+
+/// Takes the row of a gate out, and its number out of the orders.
+fn take_gate(
+    orders: Orders,
+    rows: &mut CowTable<Option<Held<InstRow>>>,
+    inst: u32,
+) -> Result<Orders, Memory>
+    requires { list_any (nat_eq inst) orders.insts ≡ true }
+    ensures orders { IfOk result (λ after. after ≡ record orders { insts = filter (λ n. not (nat_eq inst n)) orders.insts }) }
+    ensures rows { IfOk result (λ after. (n : ℕ) → at rows.new n ≡ (if nat_eq inst n then None else at rows.old n)) }
+{
+    match set_row(rows, inst, None) {
+        Ok(()) => orders.without_inst(inst),
+        Err(wanting) => {
+            orders.discard();
+            Err(wanting)
+        }
     }
 }
 
@@ -46,9 +75,21 @@ impl Names {
         ensures longer { IfOk result (λ after. length self.pins ≤ length after.pins) }
     {
         let Names { insts, nets, pins } = self;
-        let insts = insts.without(inst)?;
-        let pins = without_lost_pins(pins, alloc, name, cell_pins, &[])?;
-        Ok(Names { insts, nets, pins })
+        match insts.without(inst) {
+            Ok(insts) => match without_lost_pins(pins, alloc, name, cell_pins, &[]) {
+                Ok(pins) => Ok(Names { insts, nets, pins }),
+                Err(wanting) => {
+                    insts.discard();
+                    nets.discard();
+                    Err(wanting)
+                }
+            },
+            Err(wanting) => {
+                nets.discard();
+                pins.discard();
+                Err(wanting)
+            }
+        }
     }
 }
 
@@ -70,23 +111,41 @@ impl Store {
         ensures insts { IfOk result (λ after. IsPart after.insts self.insts) }
         ensures pins { IfOk result (λ after. IsPart after.pins self.pins) }
     {
-        let cell_pins = self.pins_of_inst(alloc, inst)?;
-        let Store {
-            frame,
-            names,
-            mut rows,
-            orders,
-        } = self;
-        let pins = cell_pins.as_slice();
-        let names = names.without_inst_names(alloc, name, inst, pins)?;
-        names.laws();
-        set_row(&mut rows.insts, inst, None)?;
-        let orders = orders.without_inst(inst)?;
-        Ok(Store {
-            frame,
-            names,
-            rows,
-            orders,
-        })
+        match self.pins_of_inst(alloc, inst) {
+            Ok(cell_pins) => {
+                let Store {
+                    frame,
+                    names,
+                    mut rows,
+                    orders,
+                } = self;
+                let pins = cell_pins.as_slice();
+                match names.without_inst_names(alloc, name, inst, pins) {
+                    Ok(names) => {
+                        names.laws();
+                        match take_gate(orders, &mut rows.insts, inst) {
+                            Ok(orders) => Ok(Store {
+                                frame,
+                                names,
+                                rows,
+                                orders,
+                            }),
+                            Err(wanting) => {
+                                give_up_unordered(frame, names, rows);
+                                Err(wanting)
+                            }
+                        }
+                    }
+                    Err(wanting) => {
+                        give_up_unnamed(frame, rows, orders);
+                        Err(wanting)
+                    }
+                }
+            }
+            Err(wanting) => {
+                self.discard();
+                Err(wanting)
+            }
+        }
     }
 }

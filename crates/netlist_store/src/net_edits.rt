@@ -1,6 +1,6 @@
 //! Nets as they come and go.
 
-ghost use Rattle.std.specs.Prelude.{◌≡◌, ◌≤◌, ◌++◌, ◌∷◌, [], true, false, not, nat_eq, filter, length, set, Some, None, IfOk};
+ghost use Rattle.std.specs.Prelude.{◌≡◌, ◌≢◌, ◌≤◌, ◌++◌, ◌∷◌, [], ℕ, List, true, false, not, nat_eq, filter, length, set, slice_get, Some, None, IfOk, OnOk};
 ghost use Rattle.std.specs.List.{list_any};
 ghost use Rattle.std.specs.Str.{bytes_eq};
 ghost use Rattle.timing_defs.specs.Wires.{rc_of};
@@ -11,7 +11,8 @@ ghost use Rattle.netlist_store.specs.Drafts.{Follows, with_nets};
 use crate::held::Held;
 use crate::row_edits::put_row;
 use crate::stores::Store;
-use crate::tables::{Names, Orders};
+use crate::tables::{Names, Orders, give_up_unnamed, give_up_unordered};
+use cow_table::CowTable;
 use sta_units::Memory;
 use std::alloc::Global;
 use timing_defs::{Items, Name};
@@ -27,8 +28,17 @@ impl Names {
         ensures kept { IfOk result (λ made. AreKept base.now.nets made.0.nets) }
     {
         let Names { insts, nets, pins } = self;
-        let (nets, net) = nets.with(&base.nets, name)?;
-        Ok((Names { insts, nets, pins }, net))
+        match nets.with(&base.nets, name) {
+            Ok(made) => {
+                let (nets, net) = made;
+                Ok((Names { insts, nets, pins }, net))
+            }
+            Err(wanting) => {
+                insts.discard();
+                pins.discard();
+                Err(wanting)
+            }
+        }
     }
 
     /// The names without that of a net.
@@ -37,8 +47,14 @@ impl Names {
         ensures { IfOk result (λ after. after ≡ record self { nets = set self.nets net None }) }
     {
         let Names { insts, nets, pins } = self;
-        let nets = nets.without(net)?;
-        Ok(Names { insts, nets, pins })
+        match nets.without(net) {
+            Ok(nets) => Ok(Names { insts, nets, pins }),
+            Err(wanting) => {
+                insts.discard();
+                pins.discard();
+                Err(wanting)
+            }
+        }
     }
 }
 
@@ -49,8 +65,14 @@ impl Orders {
         ensures { IfOk result (λ after. after ≡ record self { nets = self.nets ++ net ∷ [] }) }
     {
         let Orders { insts, nets, rcs } = self;
-        let nets = nets.with(net)?;
-        Ok(Orders { insts, nets, rcs })
+        match nets.with(net) {
+            Ok(nets) => Ok(Orders { insts, nets, rcs }),
+            Err(wanting) => {
+                insts.discard();
+                rcs.discard();
+                Err(wanting)
+            }
+        }
     }
 
     /// The orders without a net.
@@ -59,8 +81,44 @@ impl Orders {
         ensures { IfOk result (λ after. after ≡ record self { nets = filter (λ n. not (nat_eq net n)) self.nets }) }
     {
         let Orders { insts, nets, rcs } = self;
-        let nets = nets.without(net)?;
-        Ok(Orders { insts, nets, rcs })
+        match nets.without(net) {
+            Ok(nets) => Ok(Orders { insts, nets, rcs }),
+            Err(wanting) => {
+                insts.discard();
+                rcs.discard();
+                Err(wanting)
+            }
+        }
+    }
+}
+
+/// Writes the row of a net that has no pins.
+fn put_bare(rows: &mut CowTable<Held<Items<u32>>>, alloc: Global, net: u32) -> Result<(), Memory>
+    ensures here { OnOk result (slice_get rows.new net ≡ Some []) }
+    ensures kept { OnOk result ((n : ℕ) (pins : List ℕ) → n ≢ net → slice_get rows.old n ≡ Some pins → slice_get rows.new n ≡ Some pins) }
+{
+    let empty = Held::of(alloc, Items::new(alloc))?;
+    put_row(rows, alloc, net, empty)
+}
+
+/// Writes the row of a new net without pins, which is the last one in the orders.
+fn put_net(
+    orders: Orders,
+    rows: &mut CowTable<Held<Items<u32>>>,
+    alloc: Global,
+    net: u32,
+) -> Result<Orders, Memory>
+    requires { list_any (nat_eq net) orders.nets ≡ false }
+    ensures orders { IfOk result (λ after. after ≡ record orders { nets = orders.nets ++ net ∷ [] }) }
+    ensures here { IfOk result (λ after. slice_get rows.new net ≡ Some []) }
+    ensures kept { IfOk result (λ after. (n : ℕ) (pins : List ℕ) → n ≢ net → slice_get rows.old n ≡ Some pins → slice_get rows.new n ≡ Some pins) }
+{
+    match put_bare(rows, alloc, net) {
+        Ok(()) => orders.with_net_last(net),
+        Err(wanting) => {
+            orders.discard();
+            Err(wanting)
+        }
     }
 }
 
@@ -72,25 +130,42 @@ impl Store {
         ensures changed { IfOk result (λ after. after ≡ with_nets self (self.design.nets ++ name.now ∷ []) after.nets) }
         ensures follows { IfOk result (λ after. Follows base.now.nets after.nets) }
     {
-        let Store {
-            frame,
-            names,
-            mut rows,
-            orders,
-        } = self;
-        let copy = name.copied(alloc)?;
-        let made = names.with_net_name(&base.names, copy)?;
-        let (names, net) = made;
-        names.nets.laws();
-        let empty = Held::of(alloc, Items::new(alloc))?;
-        put_row(&mut rows.net_pins, alloc, net, empty)?;
-        let orders = orders.with_net_last(net)?;
-        Ok(Store {
-            frame,
-            names,
-            rows,
-            orders,
-        })
+        match name.copied(alloc) {
+            Ok(copy) => {
+                let Store {
+                    frame,
+                    names,
+                    mut rows,
+                    orders,
+                } = self;
+                match names.with_net_name(&base.names, copy) {
+                    Ok(made) => {
+                        let (names, net) = made;
+                        names.nets.laws();
+                        match put_net(orders, &mut rows.net_pins, alloc, net) {
+                            Ok(orders) => Ok(Store {
+                                frame,
+                                names,
+                                rows,
+                                orders,
+                            }),
+                            Err(wanting) => {
+                                give_up_unordered(frame, names, rows);
+                                Err(wanting)
+                            }
+                        }
+                    }
+                    Err(wanting) => {
+                        give_up_unnamed(frame, rows, orders);
+                        Err(wanting)
+                    }
+                }
+            }
+            Err(wanting) => {
+                self.discard();
+                Err(wanting)
+            }
+        }
     }
 
     /// The store without a net that has no pins and no parasitics.
@@ -107,14 +182,26 @@ impl Store {
             rows,
             orders,
         } = self;
-        let names = names.without_net_name(net)?;
-        names.nets.laws();
-        let orders = orders.without_net_place(net)?;
-        Ok(Store {
-            frame,
-            names,
-            rows,
-            orders,
-        })
+        match names.without_net_name(net) {
+            Ok(names) => {
+                names.nets.laws();
+                match orders.without_net_place(net) {
+                    Ok(orders) => Ok(Store {
+                        frame,
+                        names,
+                        rows,
+                        orders,
+                    }),
+                    Err(wanting) => {
+                        give_up_unordered(frame, names, rows);
+                        Err(wanting)
+                    }
+                }
+            }
+            Err(wanting) => {
+                give_up_unnamed(frame, rows, orders);
+                Err(wanting)
+            }
+        }
     }
 }

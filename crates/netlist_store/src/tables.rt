@@ -75,9 +75,20 @@ impl Names {
         ensures { IfOk result (λ copy. copy ≡ self.now) }
     {
         let insts = self.insts.copy()?;
-        let nets = self.nets.copy()?;
-        let pins = self.pins.copy()?;
-        Ok(Names { insts, nets, pins })
+        match self.nets.copy() {
+            Ok(nets) => match self.pins.copy() {
+                Ok(pins) => Ok(Names { insts, nets, pins }),
+                Err(wanting) => {
+                    insts.discard();
+                    nets.discard();
+                    Err(wanting)
+                }
+            },
+            Err(wanting) => {
+                insts.discard();
+                Err(wanting)
+            }
+        }
     }
 }
 
@@ -154,6 +165,20 @@ impl Rows {
             pins,
         })
     }
+}
+
+/// Gives up what is left of a store without its names.
+pub(crate) fn give_up_unnamed(frame: Held<Frame>, rows: Rows, orders: Orders) {
+    frame.discard();
+    rows.discard();
+    orders.discard();
+}
+
+/// Gives up what is left of a store without its orders.
+pub(crate) fn give_up_unordered(frame: Held<Frame>, names: Names, rows: Rows) {
+    frame.discard();
+    names.discard();
+    rows.discard();
 }
 
 /// What a table has at a number; none at a gap and past the end.

@@ -17,11 +17,11 @@ without_net_place-requires c =
 
 pub invariant_of-result : goal.invariant_of-result
 invariant_of-result c =
-    net_left_tables c.self.inside.frame c.self.inside.names c.self.inside.rows c.self.inside.orders c.self.invariant c.args.name.now c.args.net c.in_ok-names.names c.in_ok-names.ensures c.laws.ensures (ap (λ (s : Stored). number_of s.nets c.args.name.now) c.self.view_is ∙ c.requires.number) (ap (λ (s : Stored). net_in_use s.design c.args.name.now) c.self.view_is ∙ c.requires.unused) (ap (λ (s : Stored). rc_of s.design c.args.name.now) c.self.view_is ∙ c.requires.bare)
-    c.in_ok-orders.orders c.in_ok-orders.ensures
+    net_left_tables c.self.inside.frame c.self.inside.names c.self.inside.rows c.self.inside.orders c.self.invariant c.args.name.now c.args.net c.in-Ok.names c.in-Ok.ensures c.laws.ensures (ap (λ (s : Stored). number_of s.nets c.args.name.now) c.self.view_is ∙ c.requires.number) (ap (λ (s : Stored). net_in_use s.design c.args.name.now) c.self.view_is ∙ c.requires.unused) (ap (λ (s : Stored). rc_of s.design c.args.name.now) c.self.view_is ∙ c.requires.bare)
+    c.in-Ok-without_net_place.orders c.in-Ok-without_net_place.ensures
 
-pub returns : goal.returns
-returns c =
-    net_left_design c.self.inside.frame c.self.inside.names c.self.inside.rows c.self.inside.orders c.self.invariant c.args.name.now c.args.net c.in_ok-names.names c.in_ok-names.ensures c.laws.ensures (ap (λ (s : Stored). number_of s.nets c.args.name.now) c.self.view_is ∙ c.requires.number) (ap (λ (s : Stored). net_in_use s.design c.args.name.now) c.self.view_is ∙ c.requires.unused) (ap (λ (s : Stored). rc_of s.design c.args.name.now) c.self.view_is ∙ c.requires.bare)
-    c.in_ok-orders.orders c.in_ok-orders.ensures
+pub returns-in-Ok-without_net_place : goal.returns-in-Ok-without_net_place
+returns-in-Ok-without_net_place c =
+    net_left_design c.self.inside.frame c.self.inside.names c.self.inside.rows c.self.inside.orders c.self.invariant c.args.name.now c.args.net c.in-Ok.names c.in-Ok.ensures c.laws.ensures (ap (λ (s : Stored). number_of s.nets c.args.name.now) c.self.view_is ∙ c.requires.number) (ap (λ (s : Stored). net_in_use s.design c.args.name.now) c.self.view_is ∙ c.requires.unused) (ap (λ (s : Stored). rc_of s.design c.args.name.now) c.self.view_is ∙ c.requires.bare)
+    c.in-Ok-without_net_place.orders c.in-Ok-without_net_place.ensures
     ∙ ap (λ (s : Stored). with_nets s (filter (λ n. not (bytes_eq n c.args.name.now)) s.design.nets) (set s.nets c.args.net None)) c.self.view_is
