@@ -18,6 +18,7 @@ import hashlib
 import json
 import os
 import pathlib
+import re
 import signal
 import subprocess
 import sys
@@ -215,7 +216,11 @@ def arguments(words):
 
 
 def is_command(words):
-    return bool(words) and words[0] in LEAST_WORDS and len(words) > LEAST_WORDS[words[0]]
+    """Whether the words may be a command: what is surely none shall not start a build. The program judges the rest."""
+    if not words or words[0] not in LEAST_WORDS or len(words) <= LEAST_WORDS[words[0]]:
+        return False
+    is_plain = words[0] == "run" and not any(it.startswith("-") for it in words)
+    return not is_plain or re.fullmatch(r"[0-9]{1,20}", words[6]) is not None and 1 <= int(words[6]) <= 32
 
 
 def serve(given, words):
