@@ -273,10 +273,10 @@ def check_clocks(findings, joined, constraints, network):
 
 def check_ports(findings, joined, constraints):
     ports, clock_ports = joined.netlist.ports, set(constraints.clocks.values())
-    for name, table, way, what in (("input", constraints.inputs, "input", "have no arrival there"), ("output", constraints.outputs, "output", "are not tested there")):
+    for way, table, what in (("input", constraints.inputs, "have no arrival there"), ("output", constraints.outputs, "are not tested there")):
         lacking = [f"{port}: {' and '.join(sorted({'early', 'late'} - table.get(port, set())))}" for port in sorted(ports)
                    if ports[port] == way and port not in clock_ports and table.get(port, set()) != {"early", "late"}]
-        findings.add(f"{name}s without a set_{name}_delay, which {what}", lacking)
+        findings.add(f"{way}s without a set_{way}_delay, which {what}", lacking)
 
 
 def check_nets(findings, joined):
@@ -385,11 +385,10 @@ def matches_nothing(joined, constraints, network, word, option):
         if word.sort == "get_clocks":
             if name not in constraints.clocks:
                 yield f"{name}: no such clock"
-        elif word.sort == "get_pins" or word.sort != "get_cells" and pin in joined.net_of and ":" in pin and name not in constraints.clocks and name not in ports:
-            own = made.get(pin.rpartition(":")[0])
+        elif word.sort == "get_pins" or word.sort != "get_cells" and ":" in pin and pin in joined.net_of and name not in constraints.clocks and name not in ports:
             if option == "-from" and pin not in network:
                 yield f"{name}: no path is launched there; name the register's clock pin"
-            elif option == "-to" and (own is None or pin.rpartition(":")[2] not in (joined.library.cells[own.cell].data_pins() if own.cell in joined.library.cells else ())):
+            elif option == "-to" and pin not in joined.endpoints_as_set():
                 yield f"{name}: no endpoint"
         elif cell is not None and name not in constraints.clocks and name not in ports:
             if option == "-from" and not any(f"{name}:{it}" in network for it in cell.pins):

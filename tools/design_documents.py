@@ -348,6 +348,7 @@ class Joined:
 
     def __init__(self, netlist, library):
         self.netlist, self.library, self.nets, self.net_of = netlist, library, {}, {}
+        self.ends = None
         for name in netlist.declared:
             self.nets[name] = Net(name)
         for port, way in netlist.ports.items():
@@ -375,6 +376,11 @@ class Joined:
             cell = self.library.cells.get(instance.cell)
             found += [f"{instance.name}:{pin}" for pin in sorted(cell.data_pins())] if cell else []
         return sorted(found)
+
+    def endpoints_as_set(self):
+        if self.ends is None:
+            self.ends = set(self.endpoints())
+        return self.ends
 
 
 # ------------------------------------------------------------------------------------------------ constraints

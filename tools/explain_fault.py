@@ -128,7 +128,8 @@ def bracket_hints(text):
         for inner in group.groups:
             if group.name in ("cell", "pin", "timing") and inner.name in ("cell", group.name):
                 (line, _), (other, _) = (documents.line_and_column(text, it.offset) for it in (group, inner))
-                return [f"a closing bracket is missing: {group.name} ({' '.join(group.args)}) of line {line} goes on at line {other}, where {inner.name} ({' '.join(inner.args)}) begins"]
+                outer, begun = (f"{it.name} ({' '.join(it.args)})" for it in (group, inner))
+                return [f"a closing bracket is missing: {outer} of line {line} goes on at line {other}, where {begun} begins"]
     return []
 
 
@@ -241,8 +242,8 @@ def differences(early, late):
     for what, one, other in (("pin", *pins), ("arc", set(early.arcs), set(late.arcs)), ("test", set(early.tests), set(late.tests))):
         for here, there, only in (("early", "late", one - other), ("late", "early", other - one)):
             if only:
-                some = ", ".join(" ".join(it) for it in sorted(only)[:3])
-                told.append(f"the {here} library alone has the {what}{'s' if len(only) > 1 else ''} {some}{' ..' if len(only) > 3 else ''} of {early.name}, the {there} one not")
+                some = ", ".join(" ".join(it) for it in sorted(only)[:3]) + (" .." if len(only) > 3 else "")
+                told.append(f"the {here} library alone has the {what}{'s' if len(only) > 1 else ''} {some} of {early.name}, the {there} one not")
     return told
 
 

@@ -16,7 +16,6 @@ Endpoints are those of the script's report_endpoint and report_worst; tools/endp
 import argparse
 import csv
 import json
-import re
 import sys
 
 import design_documents as documents
@@ -370,7 +369,8 @@ def main():
     except ValueError as why:
         sys.exit(f"read_answers: {given.output}: {why}")
     if not output.sessions or output.final is None or len(output.sessions[0]) != len(commands):
-        sys.exit(f"read_answers: {given.output} is no whole output of {given.script}: {len(commands)} commands, {len(output.sessions[0]) if output.sessions else 0} rows")
+        rows = len(output.sessions[0]) if output.sessions else 0
+        sys.exit(f"read_answers: {given.output} is no whole output of {given.script}: {len(commands)} commands, {rows} rows")
     edited = None
     if given.netlist and given.library:
         library = documents.Library(documents.read_text(given.library))

@@ -1,5 +1,4 @@
 """The documents: what they name is there."""
-import pathlib
 import re
 import unittest
 
