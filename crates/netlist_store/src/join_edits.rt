@@ -1,6 +1,6 @@
 //! Pins of instances, as they join nets and leave them.
 
-ghost use Rattle.std.specs.Prelude.{◌≡◌, ◌≢◌, ◌<◌, ℕ, List, true, find, length, nat_eq, not, filter, slice_get, None, Some, if◌then◌else◌, IfOk};
+ghost use Rattle.std.specs.Prelude.{◌≡◌, ◌≢◌, ◌<◌, ℕ, List, true, find, length, nat_eq, not, filter, slice_get, None, Some, if◌then◌else◌, IfOk, OnOk};
 ghost use Rattle.std.specs.Option.{option_copied};
 ghost use Rattle.std.specs.Str.{bytes_eq};
 ghost use Rattle.timing_defs.specs.declared.netlist.Inst.{Inst};
@@ -43,41 +43,29 @@ fn after_colon(word: &[u8]) -> &[u8]
     }
 }
 
-/// The rows with other connections of an instance, of which one pin is on another net.
-fn moved_rows(
-    rows: Rows,
+/// Other connections of an instance, of which one pin is on another net, are written into the rows.
+fn move_rows(
+    rows: &mut Rows,
     alloc: Global,
     frame: &Frame,
     inst: u32,
     row: Inst,
     pin: u32,
     to: Option<u32>,
-) -> Result<Rows, Memory>
-    requires { pin < length rows.pins }
-    ensures insts { IfOk result (λ after. (k : ℕ) → at after.insts k ≡ (if nat_eq inst k then Some row else at rows.insts k)) }
-    ensures rcs { IfOk result (λ after. after.rcs ≡ rows.rcs) }
-    ensures pin { IfOk result (λ after. (r : PinRow) → slice_get rows.pins pin ≡ Some r → slice_get after.pins pin ≡ Some (record { owner = r.owner; net = to; dir = r.dir })) }
-    ensures pins { IfOk result (λ after. (k : ℕ) (r : PinRow) → k ≢ pin → slice_get rows.pins k ≡ Some r → slice_get after.pins k ≡ Some r) }
-    ensures nets { IfOk result (λ after. (r : PinRow) → slice_get rows.pins pin ≡ Some r → (k : ℕ) (xs : List ℕ) → slice_get rows.net_pins k ≡ Some xs → slice_get after.net_pins k ≡ Some (joined_list to pin k (left_list r.net pin k xs))) }
+) -> Result<(), Memory>
+    requires { pin < length rows.old.pins }
+    ensures insts { OnOk result ((k : ℕ) → at rows.new.insts k ≡ (if nat_eq inst k then Some row else at rows.old.insts k)) }
+    ensures rcs { OnOk result (rows.new.rcs ≡ rows.old.rcs) }
+    ensures pin { OnOk result ((r : PinRow) → slice_get rows.old.pins pin ≡ Some r → slice_get rows.new.pins pin ≡ Some (record { owner = r.owner; net = to; dir = r.dir })) }
+    ensures pins { OnOk result ((k : ℕ) (r : PinRow) → k ≢ pin → slice_get rows.old.pins k ≡ Some r → slice_get rows.new.pins k ≡ Some r) }
+    ensures nets { OnOk result ((r : PinRow) → slice_get rows.old.pins pin ≡ Some r → (k : ℕ) (xs : List ℕ) → slice_get rows.old.net_pins k ≡ Some xs → slice_get rows.new.net_pins k ≡ Some (joined_list to pin k (left_list r.net pin k xs))) }
 {
-    let Rows {
-        mut insts,
-        rcs,
-        mut net_pins,
-        mut pins,
-    } = rows;
-    put_inst(&mut insts, alloc, frame, inst, row)?;
-    let PinRow { owner, net, dir } = *pins.get(pin as usize);
-    leave_net(&mut net_pins, alloc, net, pin)?;
-    join_net(&mut net_pins, alloc, to, pin)?;
+    put_inst(&mut rows.insts, alloc, frame, inst, row)?;
+    let PinRow { owner, net, dir } = *rows.pins.get(pin as usize);
+    leave_net(&mut rows.net_pins, alloc, net, pin)?;
+    join_net(&mut rows.net_pins, alloc, to, pin)?;
     let net = to;
-    put_row(&mut pins, alloc, pin, PinRow { owner, net, dir })?;
-    Ok(Rows {
-        insts,
-        rcs,
-        net_pins,
-        pins,
-    })
+    put_row(&mut rows.pins, alloc, pin, PinRow { owner, net, dir })
 }
 
 impl Store {
@@ -123,6 +111,45 @@ impl Store {
         Ok(Inst { name, cell, conns })
     }
 
+    /// An instance as a pin of it joins a net.
+    fn joined_row(
+        &self,
+        alloc: Global,
+        word: &Name,
+        pin: u32,
+        net: &Name,
+        owner: u32,
+        inst: &Inst,
+    ) -> Result<Inst, Memory>
+        requires colon { has_colon word.now ≡ true }
+        requires pin { number_of self.now.pins word.now ≡ Some pin }
+        requires inst { number_of self.now.insts (before_last word.now) ≡ Some owner }
+        ensures { IfOk result (λ row. (i : Inst) → inst_numbered self.now owner ≡ Some i → row ≡ record { name = i.name; cell = i.cell; conns = connected (after_last word.now) net.now inst.now.conns }) }
+    {
+        let own = self.own_name(alloc, word, pin, owner)?;
+        let conns = connected(alloc, &inst.conns, &own, net)?;
+        self.with_other_conns(alloc, owner, conns)
+    }
+
+    /// An instance as a pin of it leaves its net.
+    fn left_row(
+        &self,
+        alloc: Global,
+        word: &Name,
+        pin: u32,
+        owner: u32,
+        inst: &Inst,
+    ) -> Result<Inst, Memory>
+        requires colon { has_colon word.now ≡ true }
+        requires pin { number_of self.now.pins word.now ≡ Some pin }
+        requires inst { number_of self.now.insts (before_last word.now) ≡ Some owner }
+        ensures { IfOk result (λ row. (i : Inst) → inst_numbered self.now owner ≡ Some i → row ≡ record { name = i.name; cell = i.cell; conns = filter (λ conn. not (is_conn_of (after_last word.now) conn)) inst.now.conns }) }
+    {
+        let own = self.own_name(alloc, word, pin, owner)?;
+        let conns = unconnected(alloc, inst.conns.as_slice(), &own)?;
+        self.with_other_conns(alloc, owner, conns)
+    }
+
     /// The store with a pin of an instance on a net; the parasitics of nets stay.
     pub(crate) fn with_join(
         self,
@@ -138,23 +165,36 @@ impl Store {
         ensures { IfOk result (λ after. after ≡ with_insts self (on_inst (before_last word.now) (with_conns (connected (after_last word.now) net.now)) self.design.insts)) }
     {
         let owner = self.owner_there(word, pin);
-        let own = self.own_name(alloc, word, pin, owner)?;
         let inst = self.inst_at(owner);
-        let conns = connected(alloc, &inst.conns, &own, net)?;
-        let row = self.with_other_conns(alloc, owner, conns)?;
-        let Store {
-            frame,
-            names,
-            rows,
-            orders,
-        } = self;
-        let rows = moved_rows(rows, alloc, frame.get(), owner, row, pin, Some(to))?;
-        Ok(Store {
-            frame,
-            names,
-            rows,
-            orders,
-        })
+        match self.joined_row(alloc, word, pin, net, owner, inst) {
+            Ok(row) => {
+                let Store {
+                    frame,
+                    names,
+                    mut rows,
+                    orders,
+                } = self;
+                match move_rows(&mut rows, alloc, frame.get(), owner, row, pin, Some(to)) {
+                    Ok(()) => Ok(Store {
+                        frame,
+                        names,
+                        rows,
+                        orders,
+                    }),
+                    Err(wanting) => {
+                        frame.discard();
+                        names.discard();
+                        rows.discard();
+                        orders.discard();
+                        Err(wanting)
+                    }
+                }
+            }
+            Err(wanting) => {
+                self.discard();
+                Err(wanting)
+            }
+        }
     }
 
     /// The store with a pin of an instance on no net; the parasitics of nets stay.
@@ -164,22 +204,35 @@ impl Store {
         ensures { IfOk result (λ after. after ≡ with_insts self (on_inst (before_last word.now) (with_conns (filter (λ conn. not (is_conn_of (after_last word.now) conn)))) self.design.insts)) }
     {
         let owner = self.owner_there(word, pin);
-        let own = self.own_name(alloc, word, pin, owner)?;
         let inst = self.inst_at(owner);
-        let conns = unconnected(alloc, inst.conns.as_slice(), &own)?;
-        let row = self.with_other_conns(alloc, owner, conns)?;
-        let Store {
-            frame,
-            names,
-            rows,
-            orders,
-        } = self;
-        let rows = moved_rows(rows, alloc, frame.get(), owner, row, pin, None)?;
-        Ok(Store {
-            frame,
-            names,
-            rows,
-            orders,
-        })
+        match self.left_row(alloc, word, pin, owner, inst) {
+            Ok(row) => {
+                let Store {
+                    frame,
+                    names,
+                    mut rows,
+                    orders,
+                } = self;
+                match move_rows(&mut rows, alloc, frame.get(), owner, row, pin, None) {
+                    Ok(()) => Ok(Store {
+                        frame,
+                        names,
+                        rows,
+                        orders,
+                    }),
+                    Err(wanting) => {
+                        frame.discard();
+                        names.discard();
+                        rows.discard();
+                        orders.discard();
+                        Err(wanting)
+                    }
+                }
+            }
+            Err(wanting) => {
+                self.discard();
+                Err(wanting)
+            }
+        }
     }
 }

@@ -1,16 +1,18 @@
 //! The parasitics of a net, as they come and go.
 
-ghost use Rattle.std.specs.Prelude.{◌≡◌, ℕ, true, not, nat_eq, filter, ◌++◌, ◌∷◌, [], Some, if◌then◌else◌, IfOk};
+ghost use Rattle.std.specs.Prelude.{◌≡◌, ℕ, true, not, nat_eq, filter, ◌++◌, ◌∷◌, [], Some, if◌then◌else◌, IfOk, OnOk};
 ghost use Rattle.std.specs.List.{list_any};
 ghost use Rattle.timing_defs.specs.Edits.{without_rc, with_rc};
 ghost use Rattle.netlist_store.specs.Numbering.{number_of};
 ghost use Rattle.timing_defs.specs.Documents.{is_net_rc};
 ghost use Rattle.netlist_store.specs.Drafts.{with_rcs};
+ghost use Rattle.netlist_store.specs.Stores.{at};
 
 use crate::held::Held;
 use crate::row_edits::set_row;
 use crate::stores::Store;
-use crate::tables::{Orders, row_at};
+use crate::tables::{Frame, Names, Orders, Rows, row_at};
+use cow_table::CowTable;
 use sta_units::Memory;
 use std::alloc::Global;
 use timing_defs::{Name, NetRc};
@@ -22,8 +24,14 @@ impl Orders {
         ensures { IfOk result (λ after. after ≡ record self { rcs = filter (λ n. not (nat_eq net n)) self.rcs }) }
     {
         let Orders { insts, nets, rcs } = self;
-        let rcs = rcs.without(net)?;
-        Ok(Orders { insts, nets, rcs })
+        match rcs.without(net) {
+            Ok(rcs) => Ok(Orders { insts, nets, rcs }),
+            Err(wanting) => {
+                insts.discard();
+                nets.discard();
+                Err(wanting)
+            }
+        }
     }
 
     /// The orders with the parasitics of a net; as the last ones, where it has none yet.
@@ -35,9 +43,35 @@ impl Orders {
             return Ok(self);
         }
         let Orders { insts, nets, rcs } = self;
-        let rcs = rcs.with(net)?;
-        Ok(Orders { insts, nets, rcs })
+        match rcs.with(net) {
+            Ok(rcs) => Ok(Orders { insts, nets, rcs }),
+            Err(wanting) => {
+                insts.discard();
+                nets.discard();
+                Err(wanting)
+            }
+        }
     }
+}
+
+/// Gives up what is left of a store whose orders are gone.
+fn give_up(frame: Held<Frame>, names: Names, rows: Rows) {
+    frame.discard();
+    names.discard();
+    rows.discard();
+}
+
+/// Writes the parasitics of a net.
+fn put_rc(
+    rows: &mut CowTable<Option<Held<NetRc>>>,
+    alloc: Global,
+    rc: NetRc,
+    net: u32,
+) -> Result<(), Memory>
+    ensures { OnOk result ((n : ℕ) → at rows.new n ≡ (if nat_eq net n then Some rc else at rows.old n)) }
+{
+    let held = Held::of(alloc, rc)?;
+    set_row(rows, net, Some(held))
 }
 
 impl Store {
@@ -56,14 +90,25 @@ impl Store {
             mut rows,
             orders,
         } = self;
-        set_row(&mut rows.rcs, net, None)?;
-        let orders = orders.without_rc(net)?;
-        Ok(Store {
-            frame,
-            names,
-            rows,
-            orders,
-        })
+        match set_row(&mut rows.rcs, net, None) {
+            Ok(()) => match orders.without_rc(net) {
+                Ok(orders) => Ok(Store {
+                    frame,
+                    names,
+                    rows,
+                    orders,
+                }),
+                Err(wanting) => {
+                    give_up(frame, names, rows);
+                    Err(wanting)
+                }
+            },
+            Err(wanting) => {
+                give_up(frame, names, rows);
+                orders.discard();
+                Err(wanting)
+            }
+        }
     }
 
     /// The store with these parasitics of a net, in place of others or as the last ones.
@@ -72,7 +117,6 @@ impl Store {
         requires amounts { is_net_rc rc ≡ true }
         ensures { IfOk result (λ after. after ≡ with_rcs self (with_rc rc self.design.rcs)) }
     {
-        let held = Held::of(alloc, rc)?;
         let known = row_at(&self.rows.rcs, net).is_some();
         let Store {
             frame,
@@ -80,13 +124,24 @@ impl Store {
             mut rows,
             orders,
         } = self;
-        set_row(&mut rows.rcs, net, Some(held))?;
-        let orders = orders.with_rc_place(known, net)?;
-        Ok(Store {
-            frame,
-            names,
-            rows,
-            orders,
-        })
+        match put_rc(&mut rows.rcs, alloc, rc, net) {
+            Ok(()) => match orders.with_rc_place(known, net) {
+                Ok(orders) => Ok(Store {
+                    frame,
+                    names,
+                    rows,
+                    orders,
+                }),
+                Err(wanting) => {
+                    give_up(frame, names, rows);
+                    Err(wanting)
+                }
+            },
+            Err(wanting) => {
+                give_up(frame, names, rows);
+                orders.discard();
+                Err(wanting)
+            }
+        }
     }
 }

@@ -10,13 +10,13 @@ pub invariant_of-result : goal.invariant_of-result
 invariant_of-result c =
     rc_gone_tables c.self.inside.frame c.self.inside.names c.self.inside.rows c.self.inside.orders c.self.invariant c.args.name.now c.args.net
     (ap (λ (s : Stored). number_of s.nets c.args.name.now) c.self.view_is ∙ c.requires)
-    c.set_row.new.rows c.in_ok-set_row.ensures c.in_ok-orders.orders c.in_ok-orders.ensures
+    c.set_row.new.rows c.in-Ok.ensures c.in-Ok-without_rc.orders c.in-Ok-without_rc.ensures
 
-pub returns : goal.returns
-returns c =
+pub returns-in-Ok-without_rc : goal.returns-in-Ok-without_rc
+returns-in-Ok-without_rc c =
     rc_gone_design c.self.inside.frame c.self.inside.names c.self.inside.rows c.self.inside.orders c.self.invariant c.args.name.now c.args.net
     (ap (λ (s : Stored). number_of s.nets c.args.name.now) c.self.view_is ∙ c.requires)
-    c.set_row.new.rows c.in_ok-set_row.ensures c.in_ok-orders.orders c.in_ok-orders.ensures
+    c.set_row.new.rows c.in-Ok.ensures c.in-Ok-without_rc.orders c.in-Ok-without_rc.ensures
     ∙ ap (λ (s : Stored). with_rcs s (without_rc c.args.name.now s.design.rcs)) c.self.view_is
 
 pub returns-then-is_none : goal.returns-then-is_none
