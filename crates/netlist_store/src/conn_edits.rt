@@ -39,14 +39,21 @@ fn written(alloc: Global, conns: &[Conn], pin: &Name, net: &Name) -> Result<Item
     Ok(made)
 }
 
+/// Adds a connection.
+fn push_conn(made: &mut Items<Conn>, alloc: Global, pin: &Name, net: &Name) -> Result<(), Memory>
+    ensures { OnOk result (made.new ≡ made.old ++ record { pin = pin.now; net = Some net.now } ∷ []) }
+{
+    let pin = pin.copied(alloc)?;
+    let net = Some(net.copied(alloc)?);
+    made.push(Conn { pin, net })
+}
+
 /// The connections with one more.
 fn pushed(alloc: Global, conns: &Items<Conn>, pin: &Name, net: &Name) -> Result<Items<Conn>, Memory>
     ensures { IfOk result (λ made. made ≡ conns.now ++ record { pin = pin.now; net = Some net.now } ∷ []) }
 {
     let mut made = conns.again(alloc)?;
-    let pin = pin.copied(alloc)?;
-    let net = Some(net.copied(alloc)?);
-    made.push(Conn { pin, net })?;
+    push_conn(&mut made, alloc, pin, net)?;
     Ok(made)
 }
 

@@ -43,13 +43,20 @@ fn put_inst_pin(
     ensures follows { IfOk result (λ after. Follows base.now after) }
     ensures filled { IfOk result (λ after. IsFilled after rows.new) }
 {
-    let name = full_name(alloc, &inst.name, &pin.name)?;
-    let row = PinRow {
-        owner: Some(owner),
-        net: conn_number(nets, inst, &pin.name),
-        dir: pin.dir,
-    };
-    put_pin(names, rows, alloc, base, name, row)
+    match full_name(alloc, &inst.name, &pin.name) {
+        Ok(name) => {
+            let row = PinRow {
+                owner: Some(owner),
+                net: conn_number(nets, inst, &pin.name),
+                dir: pin.dir,
+            };
+            put_pin(names, rows, alloc, base, name, row)
+        }
+        Err(wanting) => {
+            names.discard();
+            Err(wanting)
+        }
+    }
 }
 
 /// Writes the rows of the pins of an instance.
@@ -101,10 +108,15 @@ fn without_pin(
     ensures gone { IfOk result (λ after. (q : List ℕ) → number_of after q ≡ (if bytes_eq q (inst.now ++ 58 ∷ pin.now) then None else number_of names q)) }
     ensures longer { IfOk result (λ after. length names ≤ length after) }
 {
-    let name = full_name(alloc, inst, pin)?;
-    match names.number(&name) {
-        Some(number) => without_name(names, &name, number),
-        None => Ok(names),
+    match full_name(alloc, inst, pin) {
+        Ok(name) => match names.number(&name) {
+            Some(number) => without_name(names, &name, number),
+            None => Ok(names),
+        },
+        Err(wanting) => {
+            names.discard();
+            Err(wanting)
+        }
     }
 }
 
