@@ -1,9 +1,9 @@
 //! Texts of parasitics, and texts with faults.
 
+use crate::showing::{show, show_number};
 use spef_reader::read_parasitics;
-use std::alloc::{AllocError, Global};
+use std::alloc::Global;
 use std::process::Abort;
-use std::test::Fail;
 use timing_defs::{NetRc, RcNode, ReadFault};
 
 /// The code and the text of each row, with a number sign before the faulty byte.
@@ -100,72 +100,65 @@ fn fault_of(alloc: Global, text: &str) -> Option<(&'static str, u64)> {
     }
 }
 
-fn check_faults(rt: &impl Abort, alloc: Global, header: &str, rows: &str) -> Result<(), Fail> {
+fn check_faults(rt: &impl Abort, alloc: Global, header: &str, rows: &str) {
     for row in rows.lines() {
-        let (code, marked) = row.split_once(' ').ok_or("a row without a text")?;
-        let (before, behind) = marked.split_once('#').ok_or("a row without a place")?;
-        let text = format!(in alloc; "{header}{before}{behind}")?;
+        let (code, marked) = row.split_once(' ').expect(rt, "a text");
+        let (before, behind) = marked.split_once('#').expect(rt, "a place");
+        let text = format!(in alloc; "{header}{before}{behind}").expect(rt, "memory");
         let at = (header.len() + before.len()) as u64;
         assert_eq!(rt; fault_of(alloc, text.as_str()), Some((code, at)), "{row}");
     }
-    Ok(())
 }
 
 #[test]
-fn tells_the_least_fault(rt: HostRuntime) -> Result<(), Fail> {
-    check_faults(&rt, rt.alloc(), "", FAULTY)
+fn tells_the_least_fault(rt: HostRuntime) {
+    check_faults(&rt, rt.alloc(), "", FAULTY);
 }
 
 #[test]
-fn tells_the_least_fault_of_nets(rt: HostRuntime) -> Result<(), Fail> {
-    check_faults(&rt, rt.alloc(), HEADER, FAULTY_NETS)
+fn tells_the_least_fault_of_nets(rt: HostRuntime) {
+    check_faults(&rt, rt.alloc(), HEADER, FAULTY_NETS);
 }
 
-fn show_node(out: &mut Vec<u8>, alloc: Global, node: &RcNode) -> Result<(), AllocError> {
-    out.extend_from_slice(b" ")?;
+fn show_node(rt: &impl Abort, alloc: Global, out: &mut Vec<u8>, node: &RcNode) {
+    show(rt, out, b" ");
     match node {
-        RcNode::Pin(name) => out.extend_from_slice(name.as_bytes()),
+        RcNode::Pin(name) => show(rt, out, name.as_bytes()),
         RcNode::Inner(number) => {
-            let text = format!(in alloc; "#{number}")?;
-            out.extend_from_slice(text.as_bytes())
+            show_number(rt, alloc, out, b"#", i64::from(*number));
         }
     }
 }
 
-fn show_number(out: &mut Vec<u8>, alloc: Global, number: i64) -> Result<(), AllocError> {
-    let text = format!(in alloc; " {number}")?;
-    out.extend_from_slice(text.as_bytes())
-}
-
 /// A net's name, its lump, its capacitances and its resistances.
-fn show_net(out: &mut Vec<u8>, alloc: Global, net: &NetRc) -> Result<(), AllocError> {
-    out.extend_from_slice(net.net.as_bytes())?;
-    show_number(out, alloc, net.lump.0)?;
+fn show_net(rt: &impl Abort, alloc: Global, out: &mut Vec<u8>, net: &NetRc) {
+    show(rt, out, net.net.as_bytes());
+    show_number(rt, alloc, out, b" ", net.lump.0);
     for cap in net.caps.as_slice() {
-        out.extend_from_slice(b" c")?;
-        show_node(out, alloc, &cap.node)?;
-        show_number(out, alloc, cap.cap.0)?;
+        show(rt, out, b" c");
+        show_node(rt, alloc, out, &cap.node);
+        show_number(rt, alloc, out, b" ", cap.cap.0);
     }
     for res in net.ress.as_slice() {
-        out.extend_from_slice(b" r")?;
-        show_node(out, alloc, &res.a)?;
-        show_node(out, alloc, &res.b)?;
-        show_number(out, alloc, res.res.0)?;
+        show(rt, out, b" r");
+        show_node(rt, alloc, out, &res.a);
+        show_node(rt, alloc, out, &res.b);
+        show_number(rt, alloc, out, b" ", res.res.0);
     }
-    out.extend_from_slice(b";")
+    show(rt, out, b";");
 }
 
-fn shown(alloc: Global, text: &str) -> Result<Vec<u8>, Fail> {
-    let found = read_parasitics(alloc, text.as_bytes())?;
+fn shown(rt: &impl Abort, alloc: Global, text: &str) -> Vec<u8> {
+    let found = read_parasitics(alloc, text.as_bytes()).expect(rt, "parasitics");
     let mut out = Vec::new(alloc);
     for net in found.nets.as_slice() {
-        show_net(&mut out, alloc, net)?;
+        show_net(rt, alloc, &mut out, net);
     }
-    Ok(out)
+    out
 }
 
 #[test]
-fn reads_parasitics(rt: HostRuntime) -> Result<(), Fail> {
+fn reads_parasitics(rt: HostRuntime) {
     for (text, want) in [
         (
             "*SPEF \"IEEE 1481-1998\"
@@ -222,8 +215,7 @@ fn reads_parasitics(rt: HostRuntime) -> Result<(), Fail> {
             "a:b 0 r #1 c\\:: 1000 r *x #1 1000;",
         ),
     ] {
-        let found = shown(rt.alloc(), text)?;
+        let found = shown(&rt, rt.alloc(), text);
         assert_eq!(rt; found.as_slice(), want.as_bytes(), "{text}");
     }
-    Ok(())
 }

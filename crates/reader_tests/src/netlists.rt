@@ -1,7 +1,8 @@
 //! Texts of netlists, and texts with faults.
 
-use std::alloc::{AllocError, Global};
-use std::test::Fail;
+use crate::showing::{parts_of, show};
+use std::alloc::Global;
+use std::process::Abort;
 use timing_defs::{Conn, Dir, Inst, Module, Name, Port, ReadFault};
 use verilog_netlist::read_module;
 
@@ -78,65 +79,61 @@ fn fault_of(alloc: Global, text: &str) -> Option<(&'static str, u64)> {
 }
 
 #[test]
-fn tells_the_least_fault(rt: HostRuntime) -> Result<(), Fail> {
+fn tells_the_least_fault(rt: HostRuntime) {
     for row in FAULTY.lines() {
-        let (code, rest) = row.split_once(' ').ok_or("a row without a place")?;
-        let (place, text) = rest.split_once(' ').ok_or("a row without a text")?;
-        let at = place.parse::<u64>()?;
+        let (code, at, text) = parts_of(&rt, row);
         assert_eq!(rt; fault_of(rt.alloc(), text), Some((code, at)), "{text}");
     }
-    Ok(())
 }
 
-fn show_name(out: &mut Vec<u8>, mark: &[u8], name: &Name) -> Result<(), AllocError> {
-    out.extend_from_slice(mark)?;
-    out.extend_from_slice(name.as_bytes())
+fn show_name(rt: &impl Abort, out: &mut Vec<u8>, mark: &[u8], name: &Name) {
+    show(rt, out, mark);
+    show(rt, out, name.as_bytes());
 }
 
-fn show_port(out: &mut Vec<u8>, port: &Port) -> Result<(), AllocError> {
+fn show_port(rt: &impl Abort, out: &mut Vec<u8>, port: &Port) {
     let mark = match port.dir {
         Dir::Input => b" <".as_slice(),
         Dir::Output => b" >".as_slice(),
     };
-    show_name(out, mark, &port.name)
+    show_name(rt, out, mark, &port.name);
 }
 
-fn show_conn(out: &mut Vec<u8>, conn: &Conn) -> Result<(), AllocError> {
-    show_name(out, b" ", &conn.pin)?;
+fn show_conn(rt: &impl Abort, out: &mut Vec<u8>, conn: &Conn) {
+    show_name(rt, out, b" ", &conn.pin);
     match &conn.net {
-        Some(net) => show_name(out, b"=", net),
-        None => out.extend_from_slice(b"=?"),
+        Some(net) => show_name(rt, out, b"=", net),
+        None => show(rt, out, b"=?"),
     }
 }
 
-fn show_inst(out: &mut Vec<u8>, inst: &Inst) -> Result<(), AllocError> {
-    show_name(out, b"; ", &inst.cell)?;
-    show_name(out, b" ", &inst.name)?;
+fn show_inst(rt: &impl Abort, out: &mut Vec<u8>, inst: &Inst) {
+    show_name(rt, out, b"; ", &inst.cell);
+    show_name(rt, out, b" ", &inst.name);
     for conn in inst.conns.as_slice() {
-        show_conn(out, conn)?;
+        show_conn(rt, out, conn);
     }
-    Ok(())
 }
 
 /// The name, the ports, the nets and the instances.
-fn shown(alloc: Global, module: &Module) -> Result<Vec<u8>, AllocError> {
+fn shown(rt: &impl Abort, alloc: Global, module: &Module) -> Vec<u8> {
     let mut out = Vec::new(alloc);
-    show_name(&mut out, b"", &module.name)?;
+    show_name(rt, &mut out, b"", &module.name);
     for port in module.ports.as_slice() {
-        show_port(&mut out, port)?;
+        show_port(rt, &mut out, port);
     }
-    out.extend_from_slice(b";")?;
+    show(rt, &mut out, b";");
     for net in module.nets.as_slice() {
-        show_name(&mut out, b" ", net)?;
+        show_name(rt, &mut out, b" ", net);
     }
     for inst in module.insts.as_slice() {
-        show_inst(&mut out, inst)?;
+        show_inst(rt, &mut out, inst);
     }
-    Ok(out)
+    out
 }
 
 #[test]
-fn reads_modules(rt: HostRuntime) -> Result<(), Fail> {
+fn reads_modules(rt: HostRuntime) {
     for (text, want) in [
         (
             "module top (in, out); input in; output out; wire w; INV u1 (.A(in), .Z(w)); INV u2 (.A(w), .Z(out)); endmodule",
@@ -175,9 +172,8 @@ AND2 g (.A(a[002]), .B(1'b0), .Z(z), .C(), .D( b [3] ), .E(loose)); INV h (); en
             "m; y a[1] c[1] a[0]; and g Y=y A=?; buf h[1] A=a[1] Y=a[0]",
         ),
     ] {
-        let module = read_module(rt.alloc(), text.as_bytes())?;
-        let found = shown(rt.alloc(), &module)?;
+        let module = read_module(rt.alloc(), text.as_bytes()).expect(&rt, "a module");
+        let found = shown(&rt, rt.alloc(), &module);
         assert_eq!(rt; found.as_slice(), want.as_bytes(), "{text}");
     }
-    Ok(())
 }

@@ -1,8 +1,9 @@
 //! Texts of libraries, and texts with faults.
 
+use crate::showing::{parts_of, show, show_number};
 use liberty_cells::{read_library, units};
 use std::alloc::{AllocError, Global};
-use std::test::Fail;
+use std::process::Abort;
 use timing_defs::{
     ArcKind, Cell, CellArc, CellPin, CellTest, Code, Dir, Items, Kind, Library, Name, ReadFault,
     Table, Tran,
@@ -70,76 +71,58 @@ fn fault_of(alloc: Global, text: &str) -> Option<(&'static str, u64)> {
 }
 
 #[test]
-fn tells_the_least_fault(rt: HostRuntime) -> Result<(), Fail> {
+fn tells_the_least_fault(rt: HostRuntime) {
     for row in FAULTY.lines() {
-        let (code, rest) = row.split_once(' ').ok_or("a row without a place")?;
-        let (place, text) = rest.split_once(' ').ok_or("a row without a text")?;
-        let at = place.parse::<u64>()?;
+        let (code, at, text) = parts_of(&rt, row);
         assert_eq!(rt; fault_of(rt.alloc(), text), Some((code, at)), "{text}");
     }
-    Ok(())
 }
 
 fn text_of(
+    rt: &impl Abort,
     alloc: Global,
     head: &str,
     item: &str,
     count: u32,
     tail: &str,
-) -> Result<String, AllocError> {
-    let mut text = String::from_str(alloc, head)?;
+) -> String {
+    let mut text = String::from_str(alloc, head).expect(rt, "memory");
     for number in 0..count {
-        let piece = format!(in alloc; "{item}{number}")?;
-        text.push_str(piece.as_str())?;
+        let piece = format!(in alloc; "{item}{number}").expect(rt, "memory");
+        text.push_str(piece.as_str()).expect(rt, "memory");
     }
-    text.push_str(tail)?;
-    Ok(text)
+    text.push_str(tail).expect(rt, "memory");
+    text
 }
 
 #[test]
-fn counts_the_pins_of_a_cell(rt: HostRuntime) -> Result<(), Fail> {
+fn counts_the_pins_of_a_cell(rt: HostRuntime) {
     let head = "library (A) { capacitive_load_unit (1, ff); cell (B) { pin (P";
     let tail = ") { direction : input; } } }";
-    let full = text_of(rt.alloc(), head, " P", 9_999, tail)?;
+    let full = text_of(&rt, rt.alloc(), head, " P", 9_999, tail);
     assert_eq!(rt; fault_of(rt.alloc(), full.as_str()), None);
-    let more = text_of(rt.alloc(), head, " P", 10_000, tail)?;
+    let more = text_of(&rt, rt.alloc(), head, " P", 10_000, tail);
     assert_eq!(rt; fault_of(rt.alloc(), more.as_str()), Some(("L10", 55)));
-    Ok(())
-}
-
-fn show_text(out: &mut Vec<u8>, text: &[u8]) -> Result<(), AllocError> {
-    out.extend_from_slice(text)
-}
-
-fn show_number(
-    alloc: Global,
-    out: &mut Vec<u8>,
-    mark: &[u8],
-    number: i64,
-) -> Result<(), AllocError> {
-    let text = format!(in alloc; "{number}")?;
-    show_text(out, mark)?;
-    show_text(out, text.as_bytes())
 }
 
 fn show_numbers(
+    rt: &impl Abort,
     alloc: Global,
     out: &mut Vec<u8>,
     mark: &[u8],
     numbers: &Items<i64>,
-) -> Result<(), AllocError> {
+) {
     let mut next = mark;
     for number in numbers.as_slice() {
-        show_number(alloc, out, next, *number)?;
+        show_number(rt, alloc, out, next, *number);
         next = b",";
     }
-    Ok(())
 }
 
-fn show_table(alloc: Global, out: &mut Vec<u8>, table: &Table) -> Result<(), AllocError> {
-    show_numbers(alloc, out, b" ", &table.xs)?;
-    show_numbers(alloc, out, b"/", &table.ys)?;
-    show_numbers(alloc, out, b"/", &table.vals)
+fn show_table(rt: &impl Abort, alloc: Global, out: &mut Vec<u8>, table: &Table) {
+    show_numbers(rt, alloc, out, b" ", &table.xs);
+    show_numbers(rt, alloc, out, b"/", &table.ys);
+    show_numbers(rt, alloc, out, b"/", &table.vals);
 }
 
 fn tran_text(tran: Tran) -> &'static [u8] {
@@ -149,10 +132,10 @@ fn tran_text(tran: Tran) -> &'static [u8] {
     }
 }
 
-fn show_end(out: &mut Vec<u8>, mark: &[u8], name: &Name, tran: Tran) -> Result<(), AllocError> {
-    show_text(out, mark)?;
-    show_text(out, name.as_bytes())?;
-    show_text(out, tran_text(tran))
+fn show_end(rt: &impl Abort, out: &mut Vec<u8>, mark: &[u8], name: &Name, tran: Tran) {
+    show(rt, out, mark);
+    show(rt, out, name.as_bytes());
+    show(rt, out, tran_text(tran));
 }
 
 fn kind_text(kind: ArcKind) -> &'static [u8] {
@@ -162,12 +145,12 @@ fn kind_text(kind: ArcKind) -> &'static [u8] {
     }
 }
 
-fn show_arc(alloc: Global, out: &mut Vec<u8>, arc: &CellArc) -> Result<(), AllocError> {
-    show_end(out, b"; ", &arc.from, arc.from_tran)?;
-    show_end(out, b" ", &arc.to, arc.to_tran)?;
-    show_text(out, kind_text(arc.kind))?;
-    show_table(alloc, out, &arc.delay)?;
-    show_table(alloc, out, &arc.slew)
+fn show_arc(rt: &impl Abort, alloc: Global, out: &mut Vec<u8>, arc: &CellArc) {
+    show_end(rt, out, b"; ", &arc.from, arc.from_tran);
+    show_end(rt, out, b" ", &arc.to, arc.to_tran);
+    show(rt, out, kind_text(arc.kind));
+    show_table(rt, alloc, out, &arc.delay);
+    show_table(rt, alloc, out, &arc.slew);
 }
 
 fn test_text(kind: Kind) -> &'static [u8] {
@@ -177,54 +160,53 @@ fn test_text(kind: Kind) -> &'static [u8] {
     }
 }
 
-fn show_test(alloc: Global, out: &mut Vec<u8>, test: &CellTest) -> Result<(), AllocError> {
-    show_end(out, test_text(test.kind), &test.pin, test.tran)?;
-    show_end(out, b" ", &test.clock, test.active)?;
-    show_table(alloc, out, &test.need)
+fn show_test(rt: &impl Abort, alloc: Global, out: &mut Vec<u8>, test: &CellTest) {
+    show_end(rt, out, test_text(test.kind), &test.pin, test.tran);
+    show_end(rt, out, b" ", &test.clock, test.active);
+    show_table(rt, alloc, out, &test.need);
 }
 
-fn show_pin(alloc: Global, out: &mut Vec<u8>, pin: &CellPin) -> Result<(), AllocError> {
+fn show_pin(rt: &impl Abort, alloc: Global, out: &mut Vec<u8>, pin: &CellPin) {
     let mark = match pin.dir {
         Dir::Input => b" <".as_slice(),
         Dir::Output => b" >".as_slice(),
     };
-    show_text(out, mark)?;
-    show_text(out, pin.name.as_bytes())?;
-    show_number(alloc, out, b" ", pin.cap.0)
+    show(rt, out, mark);
+    show(rt, out, pin.name.as_bytes());
+    show_number(rt, alloc, out, b" ", pin.cap.0);
 }
 
-fn show_ends(alloc: Global, out: &mut Vec<u8>, cell: &Cell) -> Result<(), AllocError> {
+fn show_ends(rt: &impl Abort, alloc: Global, out: &mut Vec<u8>, cell: &Cell) {
     for arc in cell.arcs.as_slice() {
-        show_arc(alloc, out, arc)?;
+        show_arc(rt, alloc, out, arc);
     }
     for test in cell.tests.as_slice() {
-        show_test(alloc, out, test)?;
+        show_test(rt, alloc, out, test);
     }
-    Ok(())
 }
 
-fn show_cell(alloc: Global, out: &mut Vec<u8>, cell: &Cell) -> Result<(), AllocError> {
-    show_text(out, cell.name.as_bytes())?;
+fn show_cell(rt: &impl Abort, alloc: Global, out: &mut Vec<u8>, cell: &Cell) {
+    show(rt, out, cell.name.as_bytes());
     for pin in cell.pins.as_slice() {
-        show_pin(alloc, out, pin)?;
+        show_pin(rt, alloc, out, pin);
     }
-    show_ends(alloc, out, cell)
+    show_ends(rt, alloc, out, cell);
 }
 
 /// The cells, each on a line: its name, pins with their capacitances, arcs and tests.
-fn shown(alloc: Global, library: &Library) -> Result<Vec<u8>, AllocError> {
+fn shown(rt: &impl Abort, alloc: Global, library: &Library) -> Vec<u8> {
     let mut out = Vec::new(alloc);
     let mut mark = b"".as_slice();
     for cell in library.cells.as_slice() {
-        show_text(&mut out, mark)?;
-        show_cell(alloc, &mut out, cell)?;
+        show(rt, &mut out, mark);
+        show_cell(rt, alloc, &mut out, cell);
         mark = b"\n";
     }
-    Ok(out)
+    out
 }
 
 #[test]
-fn reads_libraries(rt: HostRuntime) -> Result<(), Fail> {
+fn reads_libraries(rt: HostRuntime) {
     for (text, want) in [
         (
             "library (a) { time_unit : \"1ps\"; capacitive_load_unit (1, ff);
@@ -449,15 +431,14 @@ DFF_X1 <CK 1000 <D 2000 >Q 0; CK rise Q rise edge 0/0/30000 0/0/15000; CK rise Q
 C",
         ),
     ] {
-        let library = read_library(rt.alloc(), text.as_bytes())?;
-        let found = shown(rt.alloc(), &library)?;
+        let library = read_library(rt.alloc(), text.as_bytes()).expect(&rt, "a library");
+        let found = shown(&rt, rt.alloc(), &library);
         assert_eq!(rt; found.as_slice(), want.as_bytes());
     }
-    Ok(())
 }
 
 #[test]
-fn reads_units(rt: HostRuntime) -> Result<(), Fail> {
+fn reads_units(rt: HostRuntime) {
     for (text, time, cap) in [
         ("library (A) { capacitive_load_unit (1, ff); }", 6, 3),
         (
@@ -476,7 +457,7 @@ fn reads_units(rt: HostRuntime) -> Result<(), Fail> {
             6,
         ),
     ] {
-        let found = units(rt.alloc(), text.as_bytes())?;
+        let found = units(rt.alloc(), text.as_bytes()).expect(&rt, "units");
         assert_eq!(rt; (found.time.ten, found.cap.ten), (time, cap), "{text}");
     }
     let fault = units(rt.alloc(), b"library (A) { }").err();
@@ -485,5 +466,4 @@ fn reads_units(rt: HostRuntime) -> Result<(), Fail> {
         offset: 15,
     };
     assert_eq!(rt; fault, Some(want));
-    Ok(())
 }

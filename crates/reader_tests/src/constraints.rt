@@ -1,9 +1,10 @@
 //! Texts of constraints, and texts with faults.
 
+use crate::showing::{parts_of, show, show_number};
 use sdc_reader::read_constraints;
 use sta_units::Unit;
-use std::alloc::{AllocError, Global};
-use std::test::Fail;
+use std::alloc::Global;
+use std::process::Abort;
 use timing_defs::{
     Clock, Constraints, Derates, Effect, Exception, Items, Object, PortDelay, PortLoad, PortSlew,
     ReadFault, Split, Tran, Units,
@@ -125,46 +126,39 @@ fn fault_of(alloc: Global, text: &str) -> Option<(&'static str, u64)> {
 }
 
 #[test]
-fn tells_the_least_fault(rt: HostRuntime) -> Result<(), Fail> {
+fn tells_the_least_fault(rt: HostRuntime) {
     for row in FAULTY.lines() {
-        let (code, rest) = row.split_once(' ').ok_or("a row without a place")?;
-        let (place, text) = rest.split_once(' ').ok_or("a row without a text")?;
-        let at = place.parse::<u64>()?;
+        let (code, at, text) = parts_of(&rt, row);
         assert_eq!(rt; fault_of(rt.alloc(), text), Some((code, at)), "{text}");
     }
-    Ok(())
 }
 
-fn show(out: &mut Vec<u8>, word: &[u8]) -> Result<(), AllocError> {
-    out.extend_from_slice(b" ")?;
-    out.extend_from_slice(word)
+/// Appends a word behind a space.
+fn show_word(rt: &impl Abort, out: &mut Vec<u8>, word: &[u8]) {
+    show(rt, out, b" ");
+    show(rt, out, word);
 }
 
-fn show_number(out: &mut Vec<u8>, alloc: Global, number: i64) -> Result<(), AllocError> {
-    let text = number.to_string(alloc)?;
-    show(out, text.as_bytes())
-}
-
-fn show_split(out: &mut Vec<u8>, split: Split) -> Result<(), AllocError> {
+fn show_split(rt: &impl Abort, out: &mut Vec<u8>, split: Split) {
     match split {
-        Split::Early => show(out, b"early"),
-        Split::Late => show(out, b"late"),
+        Split::Early => show_word(rt, out, b"early"),
+        Split::Late => show_word(rt, out, b"late"),
     }
 }
 
-fn show_tran(out: &mut Vec<u8>, tran: Tran) -> Result<(), AllocError> {
+fn show_tran(rt: &impl Abort, out: &mut Vec<u8>, tran: Tran) {
     match tran {
-        Tran::Rise => show(out, b"rise"),
-        Tran::Fall => show(out, b"fall"),
+        Tran::Rise => show_word(rt, out, b"rise"),
+        Tran::Fall => show_word(rt, out, b"fall"),
     }
 }
 
-fn show_clock(out: &mut Vec<u8>, alloc: Global, clock: &Clock) -> Result<(), AllocError> {
-    out.extend_from_slice(b"clock")?;
-    show(out, clock.name.as_bytes())?;
+fn show_clock(rt: &impl Abort, alloc: Global, out: &mut Vec<u8>, clock: &Clock) {
+    show(rt, out, b"clock");
+    show_word(rt, out, clock.name.as_bytes());
     match &clock.port {
-        Some(port) => show(out, port.as_bytes())?,
-        None => show(out, b"-")?,
+        Some(port) => show_word(rt, out, port.as_bytes()),
+        None => show_word(rt, out, b"-"),
     }
     for time in [
         clock.period,
@@ -173,160 +167,140 @@ fn show_clock(out: &mut Vec<u8>, alloc: Global, clock: &Clock) -> Result<(), All
         clock.unc_setup,
         clock.unc_hold,
     ] {
-        show_number(out, alloc, time.0)?;
+        show_number(rt, alloc, out, b" ", time.0);
     }
-    out.extend_from_slice(b"; ")
+    show(rt, out, b"; ");
 }
 
-fn show_delay(
-    out: &mut Vec<u8>,
-    alloc: Global,
-    word: &[u8],
-    delay: &PortDelay,
-) -> Result<(), AllocError> {
-    out.extend_from_slice(word)?;
-    show(out, delay.port.as_bytes())?;
-    show_split(out, delay.split)?;
-    show_tran(out, delay.tran)?;
-    show_number(out, alloc, i64::from(delay.clock))?;
-    show_number(out, alloc, delay.delay.0)?;
-    out.extend_from_slice(b"; ")
+fn show_delay(rt: &impl Abort, alloc: Global, out: &mut Vec<u8>, word: &[u8], delay: &PortDelay) {
+    show(rt, out, word);
+    show_word(rt, out, delay.port.as_bytes());
+    show_split(rt, out, delay.split);
+    show_tran(rt, out, delay.tran);
+    show_number(rt, alloc, out, b" ", i64::from(delay.clock));
+    show_number(rt, alloc, out, b" ", delay.delay.0);
+    show(rt, out, b"; ");
 }
 
-fn show_slew(out: &mut Vec<u8>, alloc: Global, slew: &PortSlew) -> Result<(), AllocError> {
-    out.extend_from_slice(b"slew")?;
-    show(out, slew.port.as_bytes())?;
-    show_split(out, slew.split)?;
-    show_tran(out, slew.tran)?;
-    show_number(out, alloc, slew.slew.0)?;
-    out.extend_from_slice(b"; ")
+fn show_slew(rt: &impl Abort, alloc: Global, out: &mut Vec<u8>, slew: &PortSlew) {
+    show(rt, out, b"slew");
+    show_word(rt, out, slew.port.as_bytes());
+    show_split(rt, out, slew.split);
+    show_tran(rt, out, slew.tran);
+    show_number(rt, alloc, out, b" ", slew.slew.0);
+    show(rt, out, b"; ");
 }
 
-fn show_load(out: &mut Vec<u8>, alloc: Global, load: &PortLoad) -> Result<(), AllocError> {
-    out.extend_from_slice(b"load")?;
-    show(out, load.port.as_bytes())?;
-    show_split(out, load.split)?;
-    show_number(out, alloc, load.load.0)?;
-    out.extend_from_slice(b"; ")
+fn show_load(rt: &impl Abort, alloc: Global, out: &mut Vec<u8>, load: &PortLoad) {
+    show(rt, out, b"load");
+    show_word(rt, out, load.port.as_bytes());
+    show_split(rt, out, load.split);
+    show_number(rt, alloc, out, b" ", load.load.0);
+    show(rt, out, b"; ");
 }
 
-fn show_object(out: &mut Vec<u8>, object: &Object) -> Result<(), AllocError> {
+fn show_object(rt: &impl Abort, out: &mut Vec<u8>, object: &Object) {
     match object {
         Object::Clock(name) => {
-            show(out, b"clock")?;
-            show(out, name.as_bytes())
+            show_word(rt, out, b"clock");
+            show_word(rt, out, name.as_bytes())
         }
         Object::Port(name) => {
-            show(out, b"port")?;
-            show(out, name.as_bytes())
+            show_word(rt, out, b"port");
+            show_word(rt, out, name.as_bytes())
         }
         Object::Pin(name) => {
-            show(out, b"pin")?;
-            show(out, name.as_bytes())
+            show_word(rt, out, b"pin");
+            show_word(rt, out, name.as_bytes())
         }
         Object::Cell(name) => {
-            show(out, b"cell")?;
-            show(out, name.as_bytes())
+            show_word(rt, out, b"cell");
+            show_word(rt, out, name.as_bytes())
         }
         Object::Any(name) => {
-            show(out, b"any")?;
-            show(out, name.as_bytes())
+            show_word(rt, out, b"any");
+            show_word(rt, out, name.as_bytes())
         }
     }
 }
 
-fn show_objects(
-    out: &mut Vec<u8>,
-    word: &[u8],
-    objects: &Option<Items<Object>>,
-) -> Result<(), AllocError> {
+fn show_objects(rt: &impl Abort, out: &mut Vec<u8>, word: &[u8], objects: &Option<Items<Object>>) {
     match objects {
         Some(objects) => {
-            show(out, word)?;
+            show_word(rt, out, word);
             for object in objects.as_slice() {
-                show_object(out, object)?;
+                show_object(rt, out, object);
             }
-            Ok(())
         }
-        None => Ok(()),
+        None => {}
     }
 }
 
-fn show_effect(out: &mut Vec<u8>, alloc: Global, effect: Effect) -> Result<(), AllocError> {
+fn show_effect(rt: &impl Abort, alloc: Global, out: &mut Vec<u8>, effect: Effect) {
     match effect {
-        Effect::FalseSetup => out.extend_from_slice(b"false setup"),
-        Effect::FalseHold => out.extend_from_slice(b"false hold"),
+        Effect::FalseSetup => show(rt, out, b"false setup"),
+        Effect::FalseHold => show(rt, out, b"false hold"),
         Effect::CyclesSetup(cycles) => {
-            out.extend_from_slice(b"cycles setup")?;
-            show_number(out, alloc, i64::from(cycles))
+            show(rt, out, b"cycles setup");
+            show_number(rt, alloc, out, b" ", i64::from(cycles))
         }
         Effect::CyclesHold(cycles) => {
-            out.extend_from_slice(b"cycles hold")?;
-            show_number(out, alloc, i64::from(cycles))
+            show(rt, out, b"cycles hold");
+            show_number(rt, alloc, out, b" ", i64::from(cycles))
         }
     }
 }
 
-fn show_exception(
-    out: &mut Vec<u8>,
-    alloc: Global,
-    exception: &Exception,
-) -> Result<(), AllocError> {
-    show_effect(out, alloc, exception.effect)?;
-    show_objects(out, b"from", &exception.from)?;
-    show_objects(out, b"to", &exception.to)?;
-    out.extend_from_slice(b"; ")
+fn show_exception(rt: &impl Abort, alloc: Global, out: &mut Vec<u8>, exception: &Exception) {
+    show_effect(rt, alloc, out, exception.effect);
+    show_objects(rt, out, b"from", &exception.from);
+    show_objects(rt, out, b"to", &exception.to);
+    show(rt, out, b"; ");
 }
 
-fn show_derates(out: &mut Vec<u8>, alloc: Global, derates: Derates) -> Result<(), AllocError> {
-    out.extend_from_slice(b"derates")?;
+fn show_derates(rt: &impl Abort, alloc: Global, out: &mut Vec<u8>, derates: Derates) {
+    show(rt, out, b"derates");
     for factor in [
         derates.early_cell,
         derates.late_cell,
         derates.early_net,
         derates.late_net,
     ] {
-        show_number(out, alloc, i64::from(factor))?;
+        show_number(rt, alloc, out, b" ", i64::from(factor));
     }
-    Ok(())
 }
 
-fn show_ports(
-    out: &mut Vec<u8>,
-    alloc: Global,
-    constraints: &Constraints,
-) -> Result<(), AllocError> {
+fn show_ports(rt: &impl Abort, alloc: Global, out: &mut Vec<u8>, constraints: &Constraints) {
     for delay in constraints.inputs.as_slice() {
-        show_delay(out, alloc, b"input", delay)?;
+        show_delay(rt, alloc, out, b"input", delay);
     }
     for delay in constraints.outputs.as_slice() {
-        show_delay(out, alloc, b"output", delay)?;
+        show_delay(rt, alloc, out, b"output", delay);
     }
     for slew in constraints.slews.as_slice() {
-        show_slew(out, alloc, slew)?;
+        show_slew(rt, alloc, out, slew);
     }
     for load in constraints.loads.as_slice() {
-        show_load(out, alloc, load)?;
+        show_load(rt, alloc, out, load);
     }
-    Ok(())
 }
 
 /// All constraints, each list in its order.
-fn shown(alloc: Global, constraints: &Constraints) -> Result<Vec<u8>, AllocError> {
+fn shown(rt: &impl Abort, alloc: Global, constraints: &Constraints) -> Vec<u8> {
     let mut out = Vec::new(alloc);
     for clock in constraints.clocks.as_slice() {
-        show_clock(&mut out, alloc, clock)?;
+        show_clock(rt, alloc, &mut out, clock);
     }
-    show_ports(&mut out, alloc, constraints)?;
+    show_ports(rt, alloc, &mut out, constraints);
     for exception in constraints.exceptions.as_slice() {
-        show_exception(&mut out, alloc, exception)?;
+        show_exception(rt, alloc, &mut out, exception);
     }
-    show_derates(&mut out, alloc, constraints.derates)?;
-    Ok(out)
+    show_derates(rt, alloc, &mut out, constraints.derates);
+    out
 }
 
 #[test]
-fn reads_constraints(rt: HostRuntime) -> Result<(), Fail> {
+fn reads_constraints(rt: HostRuntime) {
     for (time, cap, text, want) in [
         (3, 3, "", "derates 1000000 1000000 1000000 1000000"),
         (
@@ -386,9 +360,11 @@ set_multicycle_path 1000 -setup -end -from [get_pins i:p]",
             "false hold from clock a to any b any c/d; false setup from to pin u/v:w; false hold from to pin u/v:w; cycles setup 2 from cell r1 cell r2; cycles hold 0 to port d[0]; cycles setup 1000 from pin i:p; derates 1000000 1000000 1000000 1000000",
         ),
     ] {
-        let constraints = read_constraints(rt.alloc(), text.as_bytes(), &units(time, cap))?;
-        let found = shown(rt.alloc(), &constraints)?;
+        let constraints = read_constraints(rt.alloc(), text.as_bytes(), &units(time, cap)).expect(
+            &rt,
+            "constraints",
+        );
+        let found = shown(&rt, rt.alloc(), &constraints);
         assert_eq!(rt; found.as_slice(), want.as_bytes(), "{text}");
     }
-    Ok(())
 }

@@ -4,8 +4,8 @@ use eco_journal::{
     block_read_back, block_text, eco_can_be_written, eco_read_back, entry_text, journal_read_back,
     read_eco, read_entries, read_saved, saved_read_back,
 };
+use std::alloc::Global;
 use std::process::Abort;
-use std::test::Fail;
 use timing_defs::{Code, Derates, Entry, Items, ReadFault};
 
 const UNSCALED: Derates = Derates {
@@ -45,7 +45,7 @@ fn check_fault<T>(rt: &impl Abort, found: &Result<T, ReadFault>, want: (Code, u6
 }
 
 #[test]
-fn refuses_journals(rt: HostRuntime) -> Result<(), Fail> {
+fn refuses_journals(rt: HostRuntime) {
     use Code::{JournalBadLine, JournalBadNumber, JournalVersion};
     for (text, want) in [
         ("", (JournalBadLine, 0)),
@@ -88,11 +88,10 @@ fn refuses_journals(rt: HostRuntime) -> Result<(), Fail> {
     ] {
         check_fault(&rt, &read_entries(rt.alloc(), text.as_bytes()), want, text);
     }
-    Ok(())
 }
 
 #[test]
-fn refuses_edits(rt: HostRuntime) -> Result<(), Fail> {
+fn refuses_edits(rt: HostRuntime) {
     use Code::{JournalBadLine, JournalBadNumber};
     for (text, want) in [
         ("", (JournalBadLine, 0)),
@@ -117,51 +116,47 @@ fn refuses_edits(rt: HostRuntime) -> Result<(), Fail> {
     ] {
         check_fault(&rt, &read_eco(rt.alloc(), text.as_bytes()), want, text);
     }
-    Ok(())
 }
 
 #[test]
-fn limits_edits(rt: HostRuntime) -> Result<(), Fail> {
+fn limits_edits(rt: HostRuntime) {
     let mut text = String::new(rt.alloc());
     for _ in 0..1_000 {
-        text.push_str("insert_net a\n")?;
+        text.push_str("insert_net a\n").expect(&rt, "memory");
     }
     let eco = read_eco(rt.alloc(), text.as_bytes());
     assert_eq!(rt; eco.map(|eco| eco.edits.len()), Ok(1_000));
-    text.push_str("insert_net a\n")?;
+    text.push_str("insert_net a\n").expect(&rt, "memory");
     let eco = read_eco(rt.alloc(), text.as_bytes());
     check_fault(&rt, &eco, (Code::JournalBadLine, 13_000), "1,001 edits");
-    Ok(())
+}
+
+/// The text of an entry as the first.
+fn first_text(rt: &impl Abort, alloc: Global, entry: &Entry) -> String {
+    entry_text(alloc, 1, entry).expect(rt, "memory")
 }
 
 #[test]
-fn reads_back_entries(rt: HostRuntime) -> Result<(), Fail> {
+fn reads_back_entries(rt: HostRuntime) {
     journal_read_back();
     eco_read_back();
     eco_can_be_written();
-    let eco = read_eco(rt.alloc(), EDITS.as_bytes());
-    let Ok(eco) = eco else {
-        assert!(rt; false, "{EDITS}");
-        return Ok(());
-    };
-    let entry = Entry { session: 16, eco };
-    let text = entry_text(rt.alloc(), 1, &entry)?;
-    let want = format!(in rt.alloc(); "entry 1 session 16 edits 11\n{EDITS}")?;
+    let eco = read_eco(rt.alloc(), EDITS.as_bytes()).expect(&rt, "edits");
+    let text = first_text(&rt, rt.alloc(), &Entry { session: 16, eco });
+    let want = format!(in rt.alloc(); "entry 1 session 16 edits 11\n{EDITS}").expect(&rt, "memory");
     assert_eq!(rt; text.as_str(), want.as_str());
-    let journal = format!(in rt.alloc(); "journal 1 1\n{text}")?;
-    let entries = read_entries(rt.alloc(), journal.as_bytes());
-    assert!(rt;
-        entries.is_ok_and(|entries| entries.get(0) == Some(&entry)),
-        "{journal}"
-    );
+    let journal = format!(in rt.alloc(); "journal 1 1\n{text}").expect(&rt, "memory");
+    let entries = read_entries(rt.alloc(), journal.as_bytes()).expect(&rt, "entries");
+    let found = entries.get(0).expect(&rt, "an entry");
+    let again = first_text(&rt, rt.alloc(), found);
+    assert_eq!(rt; again.as_str(), want.as_str());
     let first = read_entries(rt.alloc(), FIRST.as_bytes());
     assert_eq!(rt; first.map(|entries| entries.len()), Ok(1));
-    Ok(())
 }
 
 #[test]
-fn reads_saved_journals(rt: HostRuntime) -> Result<(), Fail> {
-    let both = format!(in rt.alloc(); "{FIRST}{SECOND}")?;
+fn reads_saved_journals(rt: HostRuntime) {
+    let both = format!(in rt.alloc(); "{FIRST}{SECOND}").expect(&rt, "memory");
     for (text, count) in [
         ("", 0),
         (FIRST, 1),
@@ -171,13 +166,12 @@ fn reads_saved_journals(rt: HostRuntime) -> Result<(), Fail> {
         let entries = read_saved(rt.alloc(), text.as_bytes(), &UNSCALED);
         assert_eq!(rt; entries.map(|entries| entries.len()), Ok(count), "{text}");
     }
-    Ok(())
 }
 
 #[test]
-fn refuses_saved_journals(rt: HostRuntime) -> Result<(), Fail> {
+fn refuses_saved_journals(rt: HostRuntime) {
     use Code::{JournalBadLine, JournalBadNumber, JournalOtherDerates, JournalVersion};
-    let twice = format!(in rt.alloc(); "{FIRST}journal 1 0\n")?;
+    let twice = format!(in rt.alloc(); "{FIRST}journal 1 0\n").expect(&rt, "memory");
     for (text, derates, want) in [
         (FIRST, SCALED, (JournalOtherDerates, 0)),
         ("journal 3 0", UNSCALED, (JournalVersion, 8)),
@@ -218,21 +212,18 @@ fn refuses_saved_journals(rt: HostRuntime) -> Result<(), Fail> {
         let found = read_saved(rt.alloc(), text.as_bytes(), &derates);
         check_fault(&rt, &found, want, text);
     }
-    Ok(())
 }
 
 #[test]
-fn writes_blocks(rt: HostRuntime) -> Result<(), Fail> {
+fn writes_blocks(rt: HostRuntime) {
     block_read_back();
     saved_read_back();
     let lines = "repower_gate g2 BUF_X1";
-    let Ok(eco) = read_eco(rt.alloc(), lines.as_bytes()) else {
-        assert!(rt; false, "{lines}");
-        return Ok(());
-    };
+    let eco = read_eco(rt.alloc(), lines.as_bytes()).expect(&rt, "an edit");
     let mut entries = Items::new(rt.alloc());
-    entries.push(Entry { session: 1, eco })?;
-    let block = block_text(rt.alloc(), 1, &UNSCALED, &entries)?;
+    entries
+        .push(Entry { session: 1, eco })
+        .expect(&rt, "memory");
+    let block = block_text(rt.alloc(), 1, &UNSCALED, &entries).expect(&rt, "memory");
     assert!(rt; block.as_slice() == SECOND.as_bytes(), "{SECOND}");
-    Ok(())
 }
