@@ -14,9 +14,12 @@ grep -E '^(sta_units|timing_defs|rc_tree)[: ]' "$top/crates.txt" > "$work/crates
 echo 'rc_bench: rc_tree sta_units timing_defs' >> "$work/crates.txt"
 
 # Whether a tree can be asked for is tested as in the tests of trees.
-cp -r "$top"/crates/rc_tree_tests/{src,specs,proofs} "$work/crates/rc_bench/"
-rm "$work/crates/rc_bench/src"/{lib,nets,tests}.rt
-sed -i 's/rc_tree_tests/rc_bench/' "$work"/crates/rc_bench/{src/measures.rt,specs/Measures.antt,proofs/Measuring.antt}
+tests="$top/crates/engine_tests"
+mkdir -p "$work/crates/rc_bench"/{src,specs,proofs}
+cp "$tests/src/measures.rt" "$work/crates/rc_bench/src/"
+cp "$tests"/specs/{Lib,Measures}.antt "$work/crates/rc_bench/specs/"
+cp "$tests"/proofs/{Lib,Measuring}.antt "$work/crates/rc_bench/proofs/"
+sed -i 's/engine_tests/rc_bench/' "$work"/crates/rc_bench/{src/measures.rt,specs/Measures.antt,proofs/Measuring.antt}
 
 cat > "$work/crates/rc_bench/src/main.rt" <<'PROGRAM'
 //! Times trees of a long chain of resistors.

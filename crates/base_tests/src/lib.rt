@@ -2,9 +2,15 @@
 #![tactic(auto)]
 
 #[cfg(test)]
+mod boards;
+#[cfg(test)]
 mod cow_tables;
 #[cfg(test)]
+mod data_types;
+#[cfg(test)]
 mod file_shelves;
+#[cfg(test)]
+mod given;
 #[cfg(test)]
 mod level_maps;
 #[cfg(test)]

@@ -1,4 +1,4 @@
-//! Tests of path rules, credits, worst walks and sessions, by public calls.
+//! Tests of path rules, credits, walks, wires and sessions, by public calls.
 #![tactic(auto)]
 
 #[cfg(test)]
@@ -8,6 +8,10 @@ mod clock_credits;
 #[cfg(test)]
 mod given;
 #[cfg(test)]
+mod measures;
+#[cfg(test)]
+mod nets;
+#[cfg(test)]
 mod rules_of_paths;
 #[cfg(test)]
 mod same_sessions;
@@ -15,3 +19,5 @@ mod same_sessions;
 mod session_runs;
 #[cfg(test)]
 mod walks;
+#[cfg(test)]
+mod wires;

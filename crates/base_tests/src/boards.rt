@@ -1,12 +1,12 @@
 //! A board of logs: two threads, the answers of one turn after another, and a first number above 0.
-ghost use Rattle.std.specs.Prelude.{◌≡◌, ◌+◌, ◌^◌, ◌<◌, ◌≤◌, [], ◌∷◌, ◌++◌, length, IfOk};
+
+ghost use Rattle.std.specs.Prelude.{◌≡◌, ◌+◌, ◌^◌, ◌<◌, ◌≤◌, [], ◌∷◌, ◌++◌, length};
 ghost use Rattle.std.specs.Arc.{arc_value};
 ghost use Rattle.version_board.specs.Callers.{meaning, IsSeatOf, IsSame, IsNew};
 
-use sta_units::Memory;
-use std::alloc::{AllocError, Global};
+use std::alloc::Global;
+use std::process::Abort;
 use std::sync::{Arc, Wait};
-use std::test::Fail;
 use std::thread::{Threads, join};
 use version_board::{Begun, Board, Seat, Stands, Unpublished};
 
@@ -46,131 +46,127 @@ impl Stands for Log {
     }
 }
 
-fn empty(alloc: Global, first: u64) -> Result<Arc<Log>, AllocError>
+fn empty(rt: &impl Abort, alloc: Global, first: u64) -> Arc<Log>
     requires { first ≤ 2 ^ 62 }
-    ensures { IfOk result (λ a. ((arc_value a).notes.items ≡ []) × ((arc_value a).first ≡ first)) }
+    ensures { ((arc_value result).notes.items ≡ []) × ((arc_value result).first ≡ first) }
 {
     let log = Log {
         first,
         notes: Vec::new(alloc),
     };
-    Ok(Arc::new(alloc, log)?)
+    Arc::new(alloc, log).expect(rt, "memory")
 }
 
 /// The log with one more note.
-fn longer(alloc: Global, base: &Log, note: Note) -> Result<Arc<Log>, AllocError>
-    ensures { IfOk result (λ a. ((arc_value a).notes.items ≡ base.now.notes.items ++ note ∷ []) × ((arc_value a).first ≡ base.now.first)) }
+fn longer(rt: &impl Abort, alloc: Global, base: &Log, note: Note) -> Arc<Log>
+    ensures { ((arc_value result).notes.items ≡ base.now.notes.items ++ note ∷ []) × ((arc_value result).first ≡ base.now.first) }
 {
-    if base.count() >= 1 << 62 {
-        return Err(AllocError);
-    }
-    let mut notes = Vec::from_slice(alloc, base.notes.as_slice())?;
-    notes.push(note)?;
+    assert!(rt; base.count() < 1 << 62);
+    let mut notes = Vec::from_slice(alloc, base.notes.as_slice()).expect(rt, "memory");
+    notes.push(note).expect(rt, "memory");
     let log = Log {
         first: base.first,
         notes,
     };
-    Ok(Arc::new(alloc, log)?)
+    Arc::new(alloc, log).expect(rt, "memory")
 }
 
 /// Adds a note, and takes again where another was published since.
-fn add<R: Wait>(
+fn add<R: Wait + Abort>(
     rt: &R,
     alloc: Global,
     board: &Board<Log>,
     seat: &mut Seat<Log>,
     note: Note,
-) -> Result<u64, Memory>
+) -> u64
     requires { let l = ⟦<Log as Stands>⟧ in IsSeatOf (meaning l.entries l.from l.origin l.by) board.now seat.old × (note.seat ≡ seat.old.view.number) }
     ensures seat { IsSame seat.old seat.new }
-    ensures mine { IfOk result (λ _. seat.new.view.mine ≡ seat.old.view.mine ++ note ∷ []) }
+    ensures mine { seat.new.view.mine ≡ seat.old.view.mine ++ note ∷ [] }
 {
     for _ in rt.forever() {
-        let base = board.take(rt, seat)?;
-        let next = longer(alloc, &base, note)?;
+        let base = board.take(rt, seat).expect(rt, "memory");
+        let next = longer(rt, alloc, &base, note);
         match board.publish(rt, seat, base.count(), next) {
-            Ok(count) => return Ok(count),
+            Ok(count) => return count,
             Err(Unpublished::Moved { newest: _, back: _ }) => {}
-            Err(Unpublished::Memory { back: _ }) => return Err(Memory),
+            Err(Unpublished::Memory { back: _ }) => assert!(rt; false, "memory"),
         }
     }
     unreachable!()
 }
 
-/// Adds so many notes, and says whether all of them stand on the board.
-fn add_all<R: Wait>(
+/// Adds so many notes.
+fn add_all<R: Wait + Abort>(
     rt: &R,
     alloc: Global,
     board: &Board<Log>,
     mut seat: Seat<Log>,
     who: u64,
     count: u64,
-) -> (Seat<Log>, bool)
+) -> Seat<Log>
     requires { let l = ⟦<Log as Stands>⟧ in IsSeatOf (meaning l.entries l.from l.origin l.by) board.now seat × (seat.view.number ≡ who) }
-    ensures { let l = ⟦<Log as Stands>⟧ in IsSeatOf (meaning l.entries l.from l.origin l.by) board.now result.0 }
+    ensures { let l = ⟦<Log as Stands>⟧ in IsSeatOf (meaning l.entries l.from l.origin l.by) board.now result }
 {
     for number in 0..count {
-        if add(rt, alloc, board, &mut seat, Note { seat: who, number }).is_err() {
-            return (seat, false);
-        }
+        add(rt, alloc, board, &mut seat, Note { seat: who, number });
     }
-    (seat, true)
+    seat
 }
 
 /// Two threads add so many notes each.
-fn add_beside<R: Threads + Wait + Sync>(
+fn add_beside<R: Threads + Wait + Abort + Sync>(
     rt: &R,
     alloc: Global,
     board: &Board<Log>,
     one: Seat<Log>,
     two: Seat<Log>,
     count: u64,
-) -> (Seat<Log>, Seat<Log>, bool)
+) -> (Seat<Log>, Seat<Log>)
     requires one { let l = ⟦<Log as Stands>⟧ in IsSeatOf (meaning l.entries l.from l.origin l.by) board.now one × (one.view.number ≡ 1) }
     requires two { let l = ⟦<Log as Stands>⟧ in IsSeatOf (meaning l.entries l.from l.origin l.by) board.now two × (two.view.number ≡ 2) }
     ensures one { let l = ⟦<Log as Stands>⟧ in IsSeatOf (meaning l.entries l.from l.origin l.by) board.now result.0 }
     ensures two { let l = ⟦<Log as Stands>⟧ in IsSeatOf (meaning l.entries l.from l.origin l.by) board.now result.1 }
 {
-    let (one, two) = join(
+    join(
         rt,
-        || -> (Seat<Log>, bool)
+        || -> Seat<Log>
             requires { IsSeatOf (meaning (λ (l : Log). l.notes.items) (λ (l : Log). l.first) (λ (l : Log). tt) (λ (n : Note). n.seat)) board.now one × (one.view.number ≡ 1) }
-            ensures { IsSeatOf (meaning (λ (l : Log). l.notes.items) (λ (l : Log). l.first) (λ (l : Log). tt) (λ (n : Note). n.seat)) board.entry.now result.0 }
+            ensures { IsSeatOf (meaning (λ (l : Log). l.notes.items) (λ (l : Log). l.first) (λ (l : Log). tt) (λ (n : Note). n.seat)) board.entry.now result }
         { add_all(rt, alloc, board, one, 1, count) },
-        || -> (Seat<Log>, bool)
+        || -> Seat<Log>
             requires { IsSeatOf (meaning (λ (l : Log). l.notes.items) (λ (l : Log). l.first) (λ (l : Log). tt) (λ (n : Note). n.seat)) board.now two × (two.view.number ≡ 2) }
-            ensures { IsSeatOf (meaning (λ (l : Log). l.notes.items) (λ (l : Log). l.first) (λ (l : Log). tt) (λ (n : Note). n.seat)) board.entry.now result.0 }
+            ensures { IsSeatOf (meaning (λ (l : Log). l.notes.items) (λ (l : Log). l.first) (λ (l : Log). tt) (λ (n : Note). n.seat)) board.entry.now result }
         { add_all(rt, alloc, board, two, 2, count) },
-    );
-    (one.0, two.0, one.1 && two.1)
+    )
 }
 
 /// A board from 0 with two seats.
-fn opened(alloc: Global) -> Result<(Board<Log>, Seat<Log>, Seat<Log>), Memory>
-    ensures board { IfOk result (λ t. (t.0.seats ≡ 2) × (t.0.opening.first ≡ 0)) }
-    ensures one { let l = ⟦<Log as Stands>⟧ in IfOk result (λ t. IsSeatOf (meaning l.entries l.from l.origin l.by) t.0 t.1 × IsNew 1 t.1) }
-    ensures two { let l = ⟦<Log as Stands>⟧ in IfOk result (λ t. IsSeatOf (meaning l.entries l.from l.origin l.by) t.0 t.2 × IsNew 2 t.2) }
+fn opened(rt: &impl Abort, alloc: Global) -> (Board<Log>, Seat<Log>, Seat<Log>)
+    ensures board { (result.0.seats ≡ 2) × (result.0.opening.first ≡ 0) }
+    ensures one { let l = ⟦<Log as Stands>⟧ in IsSeatOf (meaning l.entries l.from l.origin l.by) result.0 result.1 × IsNew 1 result.1 }
+    ensures two { let l = ⟦<Log as Stands>⟧ in IsSeatOf (meaning l.entries l.from l.origin l.by) result.0 result.2 × IsNew 2 result.2 }
 {
-    let value = empty(alloc, 0)?;
-    let Begun { board, mut seats } = Board::begin(alloc, 0, value, 2)?;
+    let value = empty(rt, alloc, 0);
+    let Begun { board, mut seats } = Board::begin(alloc, 0, value, 2).expect(rt, "memory");
     let two = seats.pop().unwrap();
     let one = seats.pop().unwrap();
-    Ok((board, one, two))
+    (board, one, two)
 }
 
 fn closed(
+    rt: &impl Abort,
     alloc: Global,
     board: Board<Log>,
     one: Seat<Log>,
     two: Seat<Log>,
-) -> Result<Arc<Log>, AllocError>
+) -> Arc<Log>
     requires board { board.seats ≡ 2 }
     requires seats { let l = ⟦<Log as Stands>⟧ in IsSeatOf (meaning l.entries l.from l.origin l.by) board one × IsSeatOf (meaning l.entries l.from l.origin l.by) board two }
 {
-    let mut seats = Vec::with_capacity(alloc, 2)?;
+    let mut seats = Vec::with_capacity(alloc, 2).expect(rt, "memory");
     seats.push_reserved(one);
     seats.push_reserved(two);
-    Ok(board.close(seats))
+    board.close(seats)
 }
 
 /// How many notes the seat has, if they stand in their order.
@@ -188,51 +184,50 @@ fn in_order(notes: &[Note], seat: u64) -> Option<u64> {
 }
 
 #[test]
-fn two_threads_publish_a_thousand_notes_each(rt: HostRuntime) -> Result<(), Fail> {
+fn two_threads_publish_a_thousand_notes_each(rt: HostRuntime) {
     let alloc = rt.alloc();
-    let (board, one, two) = opened(alloc)?;
-    let (one, two, added) = add_beside(&rt, alloc, &board, one, two, 1000);
-    assert!(rt; added);
-    let log = closed(alloc, board, one, two)?;
+    let (board, one, two) = opened(&rt, alloc);
+    let (one, two) = add_beside(&rt, alloc, &board, one, two, 1000);
+    let log = closed(&rt, alloc, board, one, two);
     assert_eq!(rt; log.notes.len(), 2000);
     assert_eq!(rt; in_order(log.notes.as_slice(), 1), Some(1000));
     assert_eq!(rt; in_order(log.notes.as_slice(), 2), Some(1000));
-    Ok(())
 }
 
 /// Publishes a first note on the number 0.
-fn add_first<R: Wait>(
+fn add_first<R: Wait + Abort>(
     rt: &R,
     alloc: Global,
     board: &Board<Log>,
     seat: &mut Seat<Log>,
     who: u64,
-) -> Result<Result<u64, Unpublished<Log>>, AllocError>
+) -> Result<u64, Unpublished<Log>>
     requires { let l = ⟦<Log as Stands>⟧ in IsSeatOf (meaning l.entries l.from l.origin l.by) board.now seat.old × IsNew who seat.old × (board.now.opening.first ≡ 0) }
     ensures { IsSame seat.old seat.new }
 {
-    let base = empty(alloc, 0)?;
+    let base = empty(rt, alloc, 0);
     let next = longer(
+        rt,
         alloc,
         &base,
         Note {
             seat: who,
             number: 0,
         },
-    )?;
-    Ok(board.publish(rt, seat, 0, next))
+    );
+    board.publish(rt, seat, 0, next)
 }
 
 #[test]
-fn a_late_seat_is_given_the_version_that_came_first(rt: HostRuntime) -> Result<(), Fail> {
+fn a_late_seat_is_given_the_version_that_came_first(rt: HostRuntime) {
     let alloc = rt.alloc();
-    let (board, mut one, mut two) = opened(alloc)?;
+    let (board, mut one, mut two) = opened(&rt, alloc);
     let first = Note { seat: 2, number: 0 };
-    let count = add_first(&rt, alloc, &board, &mut two, 2)?
+    let count = add_first(&rt, alloc, &board, &mut two, 2)
         .ok()
-        .ok_or("not published")?;
+        .expect(&rt, "a publication");
     assert_eq!(rt; count, 1);
-    match add_first(&rt, alloc, &board, &mut one, 1)? {
+    match add_first(&rt, alloc, &board, &mut one, 1) {
         Err(Unpublished::Moved { newest, back }) => {
             assert_eq!(rt; newest.notes.as_slice(), [first].as_slice());
             assert_eq!(rt;
@@ -240,22 +235,20 @@ fn a_late_seat_is_given_the_version_that_came_first(rt: HostRuntime) -> Result<(
                 [Note { seat: 1, number: 0 }].as_slice()
             );
         }
-        _ => return Err("not moved".into()),
+        _other => assert!(rt; false, "not moved"),
     }
-    let taken = board.take(&rt, &mut one)?;
+    let taken = board.take(&rt, &mut one).expect(&rt, "memory");
     assert_eq!(rt; taken.notes.as_slice(), [first].as_slice());
-    let last = closed(alloc, board, one, two)?;
+    let last = closed(&rt, alloc, board, one, two);
     assert_eq!(rt; last.notes.as_slice(), [first].as_slice());
-    Ok(())
 }
 
 #[test]
-fn a_board_from_five_counts_from_five(rt: HostRuntime) -> Result<(), Fail> {
+fn a_board_from_five_counts_from_five(rt: HostRuntime) {
     let alloc = rt.alloc();
-    let value = empty(alloc, 5)?;
-    let Begun { board, mut seats } = Board::begin(alloc, 5, value, 1)?;
-    let mut seat = seats.pop().ok_or("no seat")?;
-    let count = add(&rt, alloc, &board, &mut seat, Note { seat: 1, number: 0 })?;
+    let value = empty(&rt, alloc, 5);
+    let Begun { board, mut seats } = Board::begin(alloc, 5, value, 1).expect(&rt, "memory");
+    let mut seat = seats.pop().expect(&rt, "a seat");
+    let count = add(&rt, alloc, &board, &mut seat, Note { seat: 1, number: 0 });
     assert_eq!(rt; count, 6);
-    Ok(())
 }

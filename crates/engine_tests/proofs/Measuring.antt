@@ -10,7 +10,7 @@ use Rattle.timing_defs.specs.declared.parasitics.RcCap.{RcCap}
 use Rattle.timing_defs.specs.declared.parasitics.NetRc.{NetRc}
 use Rattle.timing_defs.specs.declared.rows.PinCap.{PinCap}
 use Rattle.rc_tree.specs.Trees.{is_amount, is_listed_pin, IsMeasured}
-use Rattle.rc_tree_tests.specs.Measures.{are_ends_listed, are_nodes_listed, are_resistances, are_capacitances, are_pins_light, is_named, is_limited}
+use Rattle.engine_tests.specs.Measures.{are_ends_listed, are_nodes_listed, are_resistances, are_capacitances, are_pins_light, is_named, is_limited}
 
 each : {X : Type 0} (p : X → Bool) (xs : List X) → list_all p xs ≡ true → AllByRecursion (λ x. p x ≡ true) xs
 each p [] h = tt

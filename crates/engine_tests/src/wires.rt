@@ -4,30 +4,29 @@ use crate::nets::{net, pins, tree};
 use rc_tree::{RcFault, Tree};
 use sta_units::{LIM, Mo};
 use std::alloc::Global;
-use std::test::Fail;
+use std::process::Abort;
 use timing_defs::{Items, Name, NetRc, PinCap, RcNode, RcRes};
 
 /// Adds the delay in fs and the impulse in fs² of the wire to a pin, or that it is no node.
-fn push_wire(alloc: Global, text: &mut String, tree: &Tree, pin: &Name) -> Result<(), Fail> {
+fn push_wire(rt: &impl Abort, alloc: Global, text: &mut String, tree: &Tree, pin: &Name) {
     let Some(node) = tree.find(pin) else {
-        text.push_str("; none")?;
-        return Ok(());
+        text.push_str("; none").expect(rt, "memory");
+        return;
     };
     let delay = tree.delay(node).0;
     let impulse = tree.impulse(node);
-    let wire = format!(in alloc; "; {delay} {impulse}")?;
-    text.push_str(wire.as_str())?;
-    Ok(())
+    let wire = format!(in alloc; "; {delay} {impulse}").expect(rt, "memory");
+    text.push_str(wire.as_str()).expect(rt, "memory");
 }
 
 /// The load in aF, and the wires to all pins.
-fn tree_text(alloc: Global, tree: &Tree, pins: &[PinCap]) -> Result<String, Fail> {
+fn tree_text(rt: &impl Abort, alloc: Global, tree: &Tree, pins: &[PinCap]) -> String {
     let load = tree.load().0;
-    let mut text = format!(in alloc; "{load}")?;
+    let mut text = format!(in alloc; "{load}").expect(rt, "memory");
     for pin in pins {
-        push_wire(alloc, &mut text, tree, &pin.pin)?;
+        push_wire(rt, alloc, &mut text, tree, &pin.pin);
     }
-    Ok(text)
+    text
 }
 
 fn fault_word(fault: RcFault) -> &'static str {
@@ -41,10 +40,10 @@ fn fault_word(fault: RcFault) -> &'static str {
 }
 
 /// What the tree of a net tells, or its fault.
-fn answer(alloc: Global, net: &NetRc, pins: &Items<PinCap>) -> Result<String, Fail> {
-    match tree(alloc, net, pins)? {
-        Ok(tree) => tree_text(alloc, &tree, pins.as_slice()),
-        Err(fault) => Ok(String::from_str(alloc, fault_word(fault))?),
+fn answer(rt: &impl Abort, alloc: Global, net: &NetRc, pins: &Items<PinCap>) -> String {
+    match tree(rt, alloc, net, pins) {
+        Ok(tree) => tree_text(rt, alloc, &tree, pins.as_slice()),
+        Err(fault) => String::from_str(alloc, fault_word(fault)).expect(rt, "memory"),
     }
 }
 
@@ -64,55 +63,47 @@ r d m 1; c m 999999999999; c d 1 at d 0; m 0 = 1000000000000; 0 0; 1000000 99999
 r d m 1000000000000; c m 1000001 at d 0; m 0 = out of range
 r d m 1000000000000; c m 1000000 at d 0; m 0 = 1000000; 0 0; 1000000000000 1000000000000000000000000";
 
-fn compare(alloc: Global, line: &str) -> Result<(), Fail> {
-    let Some((case, want)) = line.split_once(" = ") else {
-        return Err(Fail::from("no row"));
-    };
-    let Some((parts, listed)) = case.split_once(" at ") else {
-        return Err(Fail::from("no pins"));
-    };
-    let found = answer(alloc, &net(alloc, parts)?, &pins(alloc, listed)?)?;
-    if found.as_str() == want {
-        return Ok(());
-    }
-    let found = found.as_str();
-    Err(Fail::new(format_args!("{line}: {found}")))
+/// Asserts the answer of a row.
+fn compare(rt: &impl Abort, alloc: Global, line: &str) {
+    let (case, want) = line.split_once(" = ").expect(rt, "a row");
+    let (parts, listed) = case.split_once(" at ").expect(rt, "pins");
+    let found = answer(rt, alloc, &net(rt, alloc, parts), &pins(rt, alloc, listed));
+    assert_eq!(rt; found.as_str(), want, "{line}");
 }
 
 #[test]
-fn small_nets(rt: HostRuntime) -> Result<(), Fail> {
+fn small_nets(rt: HostRuntime) {
     for line in NETS.lines() {
-        compare(rt.alloc(), line)?;
+        compare(&rt, rt.alloc(), line);
     }
-    Ok(())
 }
 
 /// Adds a resistor from the inner node of a number to the next.
-fn add_link(net: &mut NetRc, number: u32, res: Mo) -> Result<(), Fail> {
-    net.ress.push(RcRes {
-        a: RcNode::Inner(number),
-        b: RcNode::Inner(number.saturating_add(1)),
-        res,
-    })?;
-    Ok(())
+fn add_link(rt: &impl Abort, net: &mut NetRc, number: u32, res: Mo) {
+    net.ress
+        .push(RcRes {
+            a: RcNode::Inner(number),
+            b: RcNode::Inner(number.saturating_add(1)),
+            res,
+        })
+        .expect(rt, "memory");
 }
 
 /// A chain of inner nodes behind the root.
-fn chain(alloc: Global, nodes: u32) -> Result<NetRc, Fail> {
-    let mut chain = net(alloc, "r d 1 1")?;
+fn chain(rt: &impl Abort, alloc: Global, nodes: u32) -> NetRc {
+    let mut chain = net(rt, alloc, "r d 1 1");
     for number in 1..nodes {
-        add_link(&mut chain, number, Mo(1))?;
+        add_link(rt, &mut chain, number, Mo(1));
     }
-    Ok(chain)
+    chain
 }
 
 #[test]
-fn most_nodes(rt: HostRuntime) -> Result<(), Fail> {
+fn most_nodes(rt: HostRuntime) {
     let alloc = rt.alloc();
-    let listed = pins(alloc, "d 0")?;
-    let mut net = chain(alloc, 65_534)?;
-    assert_eq!(rt; answer(alloc, &net, &listed)?.as_str(), "0; 0 0");
-    add_link(&mut net, 65_534, Mo(LIM))?;
-    assert_eq!(rt; answer(alloc, &net, &listed)?.as_str(), "too large");
-    Ok(())
+    let listed = pins(&rt, alloc, "d 0");
+    let mut net = chain(&rt, alloc, 65_534);
+    assert_eq!(rt; answer(&rt, alloc, &net, &listed).as_str(), "0; 0 0");
+    add_link(&rt, &mut net, 65_534, Mo(LIM));
+    assert_eq!(rt; answer(&rt, alloc, &net, &listed).as_str(), "too large");
 }

@@ -2,7 +2,7 @@
 
 ghost use Rattle.std.specs.Prelude.{◌≡◌, ◌&&◌, IsTrue};
 ghost use Rattle.rc_tree.specs.Trees.{is_amount, is_listed_pin, IsMeasured};
-ghost use Rattle.rc_tree_tests.specs.Measures.{are_ends_listed, are_nodes_listed, are_resistances, are_capacitances, are_pins_light, is_named, is_limited};
+ghost use Rattle.engine_tests.specs.Measures.{are_ends_listed, are_nodes_listed, are_resistances, are_capacitances, are_pins_light, is_named, is_limited};
 ghost use Rattle.timing_defs.specs.declared.parasitics.RcNode.TheVariants.{Pin as rc_pin};
 
 use sta_units::LIM;
