@@ -9,7 +9,8 @@ It prints a line for each row with its question, as `report_endpoint r2:D setup 
   --failing                             the endpoints of negative slack, counted and listed, worst first
   --histogram                           how many endpoints have which slack, as text
   --svg FILE                            the same as a picture
-  --design N                            for these three: the design whose rows count (default: the last one with endpoints)
+  --design N                            for the three above: the design whose rows count (default: the last one with endpoints)
+  --session N                           the session whose script it is (default: 1)
 
 Endpoints are those of the script's report_endpoint and report_worst; tools/endpoint_questions.py writes a script that asks all.
 """
@@ -68,7 +69,7 @@ class Output:
     """The output of a run: the ECOs of its journal, the rows of its sessions, and its last line."""
 
     def __init__(self, text):
-        self.ecos, self.sessions, self.final = [], [], None
+        self.ecos, self.sessions, self.final, self.rows = [], [], None, []
         lines, at = text.split("\n"), 0
         if not lines[0].startswith("journal"):
             raise ValueError(f"this is no output of a run: {lines[0][:60]}")
@@ -215,7 +216,7 @@ def path_text(row, edited):
 
 
 def print_lines(commands, output, edited):
-    for row in output.sessions[0]:
+    for row in output.rows:
         command = commands[row.command - 1]
         print(f"{command.text()} -> {answer_text(row)} (design {row.design})")
         if row.sort == "worst":
@@ -252,7 +253,7 @@ def row_value(row, edited):
 
 def as_data(commands, output, edited):
     rows = [{"command": row.command, "line": commands[row.command - 1].line, "question": commands[row.command - 1].lines,
-             "design": row.design, "answer": row.sort, **row_value(row, edited)} for row in output.sessions[0]]
+             "design": row.design, "answer": row.sort, **row_value(row, edited)} for row in output.rows]
     number, _, setup, setup_total, _, hold, hold_total = output.final
     final = {"design": int(number), "setup": {"wns": setup, "tns": setup_total}, "hold": {"wns": hold, "tns": hold_total}}
     return {"journal": output.ecos, "rows": rows, "final": final}
@@ -262,7 +263,7 @@ def print_csv(commands, output):
     """One line for each row and for each line below it: command, design, question, answer, pin, edge, time."""
     out = csv.writer(sys.stdout, lineterminator="\n")
     out.writerow(["command", "design", "question", "answer", "pin", "edge", "time"])
-    for row in output.sessions[0]:
+    for row in output.rows:
         head = [row.command, row.design, commands[row.command - 1].text(), row.sort]
         if row.sort in ("at", "rat"):
             for i in range(1, len(row.words) - 2, 3):
@@ -280,7 +281,7 @@ def print_csv(commands, output):
 def slacks_of(commands, output, design):
     """The slacks of endpoints by kind, in fs, from the rows of one design, and the number of that design."""
     found = {}
-    for row in output.sessions[0]:
+    for row in output.rows:
         words = commands[row.command - 1].words
         if row.sort == "endpoint":
             pairs, kind = [(words[1], row.words[0])], words[2]
@@ -362,15 +363,17 @@ def main():
     for name in ("--json", "--csv", "--failing", "--histogram"):
         parser.add_argument(name, action="store_true")
     parser.add_argument("--design", type=int)
+    parser.add_argument("--session", type=int, default=1)
     given = parser.parse_args()
     commands = read_script(documents.read_text(given.script))
     try:
         output = Output(documents.read_text(given.output))
     except ValueError as why:
         sys.exit(f"read_answers: {given.output}: {why}")
-    if not output.sessions or output.final is None or len(output.sessions[0]) != len(commands):
-        rows = len(output.sessions[0]) if output.sessions else 0
-        sys.exit(f"read_answers: {given.output} is no whole output of {given.script}: {len(commands)} commands, {rows} rows")
+    if 1 <= given.session <= len(output.sessions):
+        output.rows = output.sessions[given.session - 1]
+    if output.final is None or len(output.rows) != len(commands):
+        sys.exit(f"read_answers: {given.output} is no whole output of {given.script}: {len(commands)} commands, {len(output.rows)} rows")
     edited = None
     if given.netlist and given.library:
         library = documents.Library(documents.read_text(given.library))
