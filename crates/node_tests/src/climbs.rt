@@ -15,7 +15,7 @@ use timing_defs::{Clock, Dir, Name, Tran};
 
 /// Where a walk over the clock network starts: the number of the clock port's node, and its launch edge
 /// (the clock's place in the list of clocks, and the port's transition).
-#[derive(Debug, Clone, Copy, PartialEq, Eq, Drop)]
+#[derive(Clone, Copy, Drop)]
 pub struct WalkStart {
     pub node: u32,
     pub clock: u32,

@@ -45,7 +45,7 @@ pub(crate) struct Asked<'a> {
 }
 
 /// The tests against both nodes of a clock pin.
-#[derive(Debug, Clone, Copy, Drop)]
+#[derive(Clone, Copy, Drop)]
 pub(crate) struct PinTests {
     pub(crate) rise: Option<NodeTest>,
     pub(crate) fall: Option<NodeTest>,
