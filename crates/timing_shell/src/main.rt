@@ -1,16 +1,7 @@
 //! The static timing server: one run of documents and a script from its command line.
 #![tactic(auto)]
 
-mod answers;
-mod documents;
-#[cfg(test)]
-mod examples;
-mod serving;
-mod session;
-mod texts;
-mod words;
-
-use serving::{Status, serve};
+use shell_session::{Status, serve};
 use sta_outside::{FileShelf, NoGate, StdSink};
 use sta_units::Memory;
 use std::env;

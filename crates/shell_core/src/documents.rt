@@ -1,0 +1,488 @@
+//! The documents of a run, fetched and read one after the other.
+
+ghost use Rattle.std.specs.Prelude.{◌≡◌, ◌≤◌, ◌∷◌, [], true, IfOk, IfErr, MatchResult};
+ghost use Rattle.timing_defs.specs.Documents.{is_library, are_constraints, are_parasitics, IsNetlist};
+ghost use Rattle.sta_text.specs.Faults.{Fails};
+ghost use Rattle.liberty_cells.specs.Faults.{faults_of, units_of_text};
+ghost use Rattle.eco_journal.specs.Lines.{lines_of};
+ghost use Rattle.script_reader.specs.Scripts.{outside, events};
+ghost use Rattle.script_reader.specs.Scripts.{faults as line_faults};
+ghost use Rattle.shell_core.specs.declared.documents.Role.TheVariants as role;
+ghost use Rattle.shell_core.specs.Words.{run_words};
+ghost use Rattle.shell_core.specs.Scripts.{IsScript};
+ghost use Rattle.shell_core.specs.Documents.{has_no_spef, no_parasitics, name_of, Gives, role_text, how_text, last_sources, sources, Stops, Says, SaysLibrary, SaysModule, SaysParasitics, SaysScript, AreUnits, AreConstraints, AreLast, AreDocuments};
+ghost use Rattle.shell_core.specs.Kept.{AreKept};
+
+use crate::discards::{
+    discard_constraints, discard_library, discard_netlist, discard_parasitics,
+};
+use crate::words::Run;
+use liberty_cells::{read_library, units};
+use script_reader::read_script;
+use sdc_reader::read_constraints;
+use spef_reader::read_parasitics;
+use sta_outside::{Fetch, Shelf};
+use sta_units::Memory;
+use std::alloc::Global;
+use timing_defs::{
+    Code, Constraints, Items, Library, Module, Parasitics, ReadFault, Script, Units,
+};
+use verilog_netlist::read_module;
+
+/// A document of a run.
+#[derive(Clone, Copy, Drop)]
+pub enum Role {
+    Early,
+    Late,
+    Netlist,
+    Sdc,
+    Spef,
+    Session,
+}
+
+/// Why the shelf did not give a document.
+#[derive(Clone, Copy, Drop)]
+pub enum How {
+    Failed,
+    Absent,
+    TooLong,
+}
+
+/// Why the documents of a run were not read: one has a fault at a place, the shelf did not give one,
+/// or want of memory.
+#[derive(Clone, Copy, Drop)]
+pub enum Stop {
+    Refused(Role, Code, u64),
+    Missing(Role, How),
+    Memory,
+}
+
+/// The values of the documents of a run.
+#[derive(Drop)]
+pub struct Documents {
+    pub early: Library,
+    pub late: Library,
+    pub netlist: Module,
+    pub sdc: Constraints,
+    pub spef: Parasitics,
+    pub script: Script,
+}
+
+impl Role {
+    /// How the document is called in a line of fault.
+    pub fn label(self) -> &'static str
+        ensures { result.now ≡ role_text self }
+    {
+        match self {
+            Role::Early => "early",
+            Role::Late => "late",
+            Role::Netlist => "netlist",
+            Role::Sdc => "sdc",
+            Role::Spef => "spef",
+            Role::Session => "script1",
+        }
+    }
+}
+
+impl How {
+    /// How the cause is called in a line of fault.
+    pub fn label(self) -> &'static str
+        ensures { result.now ≡ how_text self }
+    {
+        match self {
+            How::Failed => "failed",
+            How::Absent => "absent",
+            How::TooLong => "too_long",
+        }
+    }
+}
+
+/// The name that a command line has for a document.
+pub fn name_of<'a>(run: &Run<'a>, role: Role) -> &'a str
+    ensures { result.now ≡ name_of (run_words run.now) role }
+{
+    match role {
+        Role::Early => run.early,
+        Role::Late => run.late,
+        Role::Netlist => run.netlist,
+        Role::Sdc => run.sdc,
+        Role::Spef => run.spef,
+        Role::Session => run.script,
+    }
+}
+
+/// The bytes of a document, the first of those that are left.
+fn fetch<S: Shelf>(alloc: Global, shelf: &mut S, run: &Run<'_>, role: Role) -> Result<Vec<u8>, Stop>
+    ensures map { S.holds shelf.new ≡ S.holds shelf.old }
+    ensures rising { S.faults shelf.old ≤ S.faults shelf.new }
+    ensures text { IfOk result (λ doc. Gives (S.holds shelf.old) (name_of (run_words run.now) role) doc.items × (S.faults shelf.new ≡ S.faults shelf.old)) }
+    ensures stop { IfErr result (λ stop. Stops (S.holds shelf.old) (run_words run.now) (S.faults shelf.old) (S.faults shelf.new) (role ∷ []) stop) }
+{
+    match shelf.fetch(alloc, name_of(run, role)) {
+        Ok(doc) => Ok(doc),
+        Err(Fetch::Failed) => Err(Stop::Missing(role, How::Failed)),
+        Err(Fetch::Absent) => Err(Stop::Missing(role, How::Absent)),
+        Err(Fetch::TooLong { .. }) => Err(Stop::Missing(role, How::TooLong)),
+        Err(Fetch::Memory) => Err(Stop::Memory),
+    }
+}
+
+fn early<S: Shelf>(alloc: Global, shelf: &mut S, run: &Run<'_>) -> Result<Library, Stop>
+    ensures map { S.holds shelf.new ≡ S.holds shelf.old }
+    ensures rising { S.faults shelf.old ≤ S.faults shelf.new }
+    ensures value { IfOk result (λ value. Says (S.holds shelf.old) (run_words run.now).early (SaysLibrary value) × (S.faults shelf.new ≡ S.faults shelf.old)) }
+    ensures kept { IfOk result (λ value. is_library value ≡ true) }
+    ensures stop { IfErr result (λ stop. Stops (S.holds shelf.old) (run_words run.now) (S.faults shelf.old) (S.faults shelf.new) (role.Early ∷ []) stop) }
+{
+    let text = fetch(alloc, shelf, run, Role::Early)?;
+    match read_library(alloc, text.as_slice()) {
+        Ok(value) => Ok(value),
+        Err(ReadFault::At { code, offset }) => Err(Stop::Refused(Role::Early, code, offset)),
+        Err(ReadFault::Memory) => Err(Stop::Memory),
+    }
+}
+
+/// A late library and its units.
+fn read_late(alloc: Global, text: &[u8]) -> Result<(Library, Units), ReadFault>
+    ensures value { MatchResult result (λ got. SaysLibrary got.0 text.now × (got.1 ≡ units_of_text text.now)) (λ e. Fails e (faults_of text.now)) }
+    ensures kept { IfOk result (λ got. is_library got.0 ≡ true) }
+{
+    let units = units(alloc, text)?;
+    let library = read_library(alloc, text)?;
+    Ok((library, units))
+}
+
+fn late<S: Shelf>(alloc: Global, shelf: &mut S, run: &Run<'_>) -> Result<(Library, Units), Stop>
+    ensures map { S.holds shelf.new ≡ S.holds shelf.old }
+    ensures rising { S.faults shelf.old ≤ S.faults shelf.new }
+    ensures value { IfOk result (λ got. Says (S.holds shelf.old) (run_words run.now).late (SaysLibrary got.0) × (S.faults shelf.new ≡ S.faults shelf.old)) }
+    ensures units { IfOk result (λ got. AreUnits (S.holds shelf.old) (run_words run.now) got.1) }
+    ensures kept { IfOk result (λ got. is_library got.0 ≡ true) }
+    ensures stop { IfErr result (λ stop. Stops (S.holds shelf.old) (run_words run.now) (S.faults shelf.old) (S.faults shelf.new) (role.Late ∷ []) stop) }
+{
+    let text = fetch(alloc, shelf, run, Role::Late)?;
+    match read_late(alloc, text.as_slice()) {
+        Ok(got) => Ok(got),
+        Err(ReadFault::At { code, offset }) => Err(Stop::Refused(Role::Late, code, offset)),
+        Err(ReadFault::Memory) => Err(Stop::Memory),
+    }
+}
+
+fn netlist<S: Shelf>(alloc: Global, shelf: &mut S, run: &Run<'_>) -> Result<Module, Stop>
+    ensures map { S.holds shelf.new ≡ S.holds shelf.old }
+    ensures rising { S.faults shelf.old ≤ S.faults shelf.new }
+    ensures value { IfOk result (λ value. Says (S.holds shelf.old) (run_words run.now).netlist (SaysModule value) × (S.faults shelf.new ≡ S.faults shelf.old)) }
+    ensures kept { IfOk result IsNetlist }
+    ensures stop { IfErr result (λ stop. Stops (S.holds shelf.old) (run_words run.now) (S.faults shelf.old) (S.faults shelf.new) (role.Netlist ∷ []) stop) }
+{
+    let text = fetch(alloc, shelf, run, Role::Netlist)?;
+    match read_module(alloc, text.as_slice()) {
+        Ok(value) => Ok(value),
+        Err(ReadFault::At { code, offset }) => Err(Stop::Refused(Role::Netlist, code, offset)),
+        Err(ReadFault::Memory) => Err(Stop::Memory),
+    }
+}
+
+fn sdc<S: Shelf>(
+    alloc: Global,
+    shelf: &mut S,
+    run: &Run<'_>,
+    units: &Units,
+) -> Result<Constraints, Stop>
+    requires { AreUnits (S.holds shelf.old) (run_words run.now) units.now }
+    ensures map { S.holds shelf.new ≡ S.holds shelf.old }
+    ensures rising { S.faults shelf.old ≤ S.faults shelf.new }
+    ensures value { IfOk result (λ value. AreConstraints (S.holds shelf.old) (run_words run.now) value × (S.faults shelf.new ≡ S.faults shelf.old)) }
+    ensures kept { IfOk result (λ value. are_constraints value ≡ true) }
+    ensures stop { IfErr result (λ stop. Stops (S.holds shelf.old) (run_words run.now) (S.faults shelf.old) (S.faults shelf.new) (role.Sdc ∷ []) stop) }
+{
+    let text = fetch(alloc, shelf, run, Role::Sdc)?;
+    match read_constraints(alloc, text.as_slice(), units) {
+        Ok(value) => Ok(value),
+        Err(ReadFault::At { code, offset }) => Err(Stop::Refused(Role::Sdc, code, offset)),
+        Err(ReadFault::Memory) => Err(Stop::Memory),
+    }
+}
+
+fn spef<S: Shelf>(alloc: Global, shelf: &mut S, run: &Run<'_>) -> Result<Parasitics, Stop>
+    ensures map { S.holds shelf.new ≡ S.holds shelf.old }
+    ensures rising { S.faults shelf.old ≤ S.faults shelf.new }
+    ensures value { IfOk result (λ value. Says (S.holds shelf.old) (run_words run.now).spef (SaysParasitics value) × (S.faults shelf.new ≡ S.faults shelf.old)) }
+    ensures kept { IfOk result (λ value. are_parasitics value.nets ≡ true) }
+    ensures stop { IfErr result (λ stop. Stops (S.holds shelf.old) (run_words run.now) (S.faults shelf.old) (S.faults shelf.new) (role.Spef ∷ []) stop) }
+{
+    let text = fetch(alloc, shelf, run, Role::Spef)?;
+    match read_parasitics(alloc, text.as_slice()) {
+        Ok(value) => Ok(value),
+        Err(ReadFault::At { code, offset }) => Err(Stop::Refused(Role::Spef, code, offset)),
+        Err(ReadFault::Memory) => Err(Stop::Memory),
+    }
+}
+
+/// A script, with what is known of it.
+#[tactic(auto, using(crate::proofs::ScriptLaws::script_told))]
+fn read_session(alloc: Global, text: &[u8]) -> Result<Script, ReadFault>
+    ensures { MatchResult result (λ s. SaysScript s text.now × IsScript s) (λ e. Fails e (line_faults 0 outside (events 1 (lines_of text.now)))) }
+{
+    read_script(alloc, text)
+}
+
+fn session<S: Shelf>(alloc: Global, shelf: &mut S, run: &Run<'_>) -> Result<Script, Stop>
+    ensures map { S.holds shelf.new ≡ S.holds shelf.old }
+    ensures rising { S.faults shelf.old ≤ S.faults shelf.new }
+    ensures value { IfOk result (λ value. Says (S.holds shelf.old) (run_words run.now).script (SaysScript value) × (S.faults shelf.new ≡ S.faults shelf.old)) }
+    ensures kept { IfOk result IsScript }
+    ensures stop { IfErr result (λ stop. Stops (S.holds shelf.old) (run_words run.now) (S.faults shelf.old) (S.faults shelf.new) (role.Session ∷ []) stop) }
+{
+    let text = fetch(alloc, shelf, run, Role::Session)?;
+    match read_session(alloc, text.as_slice()) {
+        Ok(value) => Ok(value),
+        Err(ReadFault::At { code, offset }) => Err(Stop::Refused(Role::Session, code, offset)),
+        Err(ReadFault::Memory) => Err(Stop::Memory),
+    }
+}
+
+/// Whether the word of a run says that it has no parasitics.
+fn has_no_spef(run: &Run<'_>) -> bool
+    ensures { result ≡ has_no_spef (run_words run.now) }
+{
+    run.spef == "none"
+}
+
+/// A script, behind parasitics that are read.
+#[tactic(auto, using(crate::proofs::Stopping::stops_first, crate::proofs::Stopping::stops_behind))]
+fn from_spef<S: Shelf>(
+    alloc: Global,
+    shelf: &mut S,
+    run: &Run<'_>,
+) -> Result<(Parasitics, Script), Stop>
+    ensures map { S.holds shelf.new ≡ S.holds shelf.old }
+    ensures rising { S.faults shelf.old ≤ S.faults shelf.new }
+    ensures value { IfOk result (λ got. Says (S.holds shelf.old) (run_words run.now).spef (SaysParasitics got.0) × Says (S.holds shelf.old) (run_words run.now).script (SaysScript got.1) × (S.faults shelf.new ≡ S.faults shelf.old)) }
+    ensures kept { IfOk result (λ got. (are_parasitics got.0.nets ≡ true) × IsScript got.1) }
+    ensures stop { IfErr result (λ stop. Stops (S.holds shelf.old) (run_words run.now) (S.faults shelf.old) (S.faults shelf.new) (role.Spef ∷ role.Session ∷ []) stop) }
+{
+    let parasitics = spef(alloc, shelf, run)?;
+    match session(alloc, shelf, run) {
+        Ok(script) => Ok((parasitics, script)),
+        Err(stop) => {
+            discard_parasitics(parasitics);
+            Err(stop)
+        }
+    }
+}
+
+/// The script of a run without parasitics.
+fn without_spef<S: Shelf>(
+    alloc: Global,
+    shelf: &mut S,
+    run: &Run<'_>,
+) -> Result<(Parasitics, Script), Stop>
+    ensures map { S.holds shelf.new ≡ S.holds shelf.old }
+    ensures rising { S.faults shelf.old ≤ S.faults shelf.new }
+    ensures value { IfOk result (λ got. (got.0 ≡ no_parasitics) × Says (S.holds shelf.old) (run_words run.now).script (SaysScript got.1) × (S.faults shelf.new ≡ S.faults shelf.old)) }
+    ensures kept { IfOk result (λ got. (are_parasitics got.0.nets ≡ true) × IsScript got.1) }
+    ensures stop { IfErr result (λ stop. Stops (S.holds shelf.old) (run_words run.now) (S.faults shelf.old) (S.faults shelf.new) (role.Session ∷ []) stop) }
+{
+    let script = session(alloc, shelf, run)?;
+    let parasitics = Parasitics {
+        nets: Items::new(alloc),
+    };
+    Ok((parasitics, script))
+}
+
+/// Parasitics and the script behind them.
+fn last<S: Shelf>(alloc: Global, shelf: &mut S, run: &Run<'_>) -> Result<(Parasitics, Script), Stop>
+    ensures map { S.holds shelf.new ≡ S.holds shelf.old }
+    ensures rising { S.faults shelf.old ≤ S.faults shelf.new }
+    ensures value { IfOk result (λ got. AreLast (S.holds shelf.old) (run_words run.now) got.0 got.1 × (S.faults shelf.new ≡ S.faults shelf.old)) }
+    ensures kept { IfOk result (λ got. (are_parasitics got.0.nets ≡ true) × IsScript got.1) }
+    ensures stop { IfErr result (λ stop. Stops (S.holds shelf.old) (run_words run.now) (S.faults shelf.old) (S.faults shelf.new) (last_sources (run_words run.now)) stop) }
+{
+    if has_no_spef(run) {
+        without_spef(alloc, shelf, run)
+    } else {
+        from_spef(alloc, shelf, run)
+    }
+}
+
+/// Constraints and what is behind them.
+#[tactic(auto, using(crate::proofs::Stopping::stops_first, crate::proofs::Stopping::stops_behind))]
+fn from_sdc<S: Shelf>(
+    alloc: Global,
+    shelf: &mut S,
+    run: &Run<'_>,
+    units: &Units,
+) -> Result<(Constraints, Parasitics, Script), Stop>
+    requires { AreUnits (S.holds shelf.old) (run_words run.now) units.now }
+    ensures map { S.holds shelf.new ≡ S.holds shelf.old }
+    ensures rising { S.faults shelf.old ≤ S.faults shelf.new }
+    ensures value { IfOk result (λ got. AreConstraints (S.holds shelf.old) (run_words run.now) got.0 × AreLast (S.holds shelf.old) (run_words run.now) got.1 got.2 × (S.faults shelf.new ≡ S.faults shelf.old)) }
+    ensures kept { IfOk result (λ got. (are_constraints got.0 ≡ true) × (are_parasitics got.1.nets ≡ true) × IsScript got.2) }
+    ensures stop { IfErr result (λ stop. Stops (S.holds shelf.old) (run_words run.now) (S.faults shelf.old) (S.faults shelf.new) (role.Sdc ∷ last_sources (run_words run.now)) stop) }
+{
+    let constraints = sdc(alloc, shelf, run, units)?;
+    match last(alloc, shelf, run) {
+        Ok((parasitics, script)) => Ok((constraints, parasitics, script)),
+        Err(stop) => {
+            discard_constraints(constraints);
+            Err(stop)
+        }
+    }
+}
+
+/// Both libraries, with the units of the late one.
+#[derive(Drop)]
+struct Libraries {
+    early: Library,
+    late: Library,
+    units: Units,
+}
+
+impl Libraries {
+    /// Gives the libraries up.
+    fn discard(self) {
+        let Libraries { early, late, .. } = self;
+        discard_library(early);
+        discard_library(late);
+    }
+}
+
+#[tactic(auto, using(crate::proofs::Stopping::stops_first, crate::proofs::Stopping::stops_behind))]
+fn read_libraries<S: Shelf>(alloc: Global, shelf: &mut S, run: &Run<'_>) -> Result<Libraries, Stop>
+    ensures map { S.holds shelf.new ≡ S.holds shelf.old }
+    ensures rising { S.faults shelf.old ≤ S.faults shelf.new }
+    ensures value { IfOk result (λ got. Says (S.holds shelf.old) (run_words run.now).early (SaysLibrary got.early) × Says (S.holds shelf.old) (run_words run.now).late (SaysLibrary got.late) × (S.faults shelf.new ≡ S.faults shelf.old)) }
+    ensures units { IfOk result (λ got. AreUnits (S.holds shelf.old) (run_words run.now) got.units) }
+    ensures kept { IfOk result (λ got. (is_library got.early ≡ true) × (is_library got.late ≡ true)) }
+    ensures stop { IfErr result (λ stop. Stops (S.holds shelf.old) (run_words run.now) (S.faults shelf.old) (S.faults shelf.new) (role.Early ∷ role.Late ∷ []) stop) }
+{
+    let early = early(alloc, shelf, run)?;
+    match late(alloc, shelf, run) {
+        Ok((late, units)) => Ok(Libraries { early, late, units }),
+        Err(stop) => {
+            discard_library(early);
+            Err(stop)
+        }
+    }
+}
+
+/// Libraries and netlist.
+#[derive(Drop)]
+struct Netted {
+    libraries: Libraries,
+    netlist: Module,
+}
+
+impl Netted {
+    /// Gives libraries and netlist up.
+    fn discard(self) {
+        let Netted { libraries, netlist } = self;
+        libraries.discard();
+        discard_netlist(netlist);
+    }
+}
+
+/// A netlist, behind libraries that were read.
+fn with_netlist<S: Shelf>(
+    alloc: Global,
+    shelf: &mut S,
+    run: &Run<'_>,
+    libraries: Libraries,
+) -> Result<Netted, Stop>
+    requires early { Says (S.holds shelf.old) (run_words run.now).early (SaysLibrary libraries.early) }
+    requires late { Says (S.holds shelf.old) (run_words run.now).late (SaysLibrary libraries.late) }
+    requires units { AreUnits (S.holds shelf.old) (run_words run.now) libraries.units }
+    requires kept { (is_library libraries.early ≡ true) × (is_library libraries.late ≡ true) }
+    ensures map { S.holds shelf.new ≡ S.holds shelf.old }
+    ensures rising { S.faults shelf.old ≤ S.faults shelf.new }
+    ensures libraries { IfOk result (λ got. Says (S.holds shelf.old) (run_words run.now).early (SaysLibrary got.libraries.early) × Says (S.holds shelf.old) (run_words run.now).late (SaysLibrary got.libraries.late) × (S.faults shelf.new ≡ S.faults shelf.old)) }
+    ensures netlist { IfOk result (λ got. Says (S.holds shelf.old) (run_words run.now).netlist (SaysModule got.netlist)) }
+    ensures units { IfOk result (λ got. AreUnits (S.holds shelf.old) (run_words run.now) got.libraries.units) }
+    ensures kept { IfOk result (λ got. (is_library got.libraries.early ≡ true) × (is_library got.libraries.late ≡ true) × IsNetlist got.netlist) }
+    ensures stop { IfErr result (λ stop. Stops (S.holds shelf.old) (run_words run.now) (S.faults shelf.old) (S.faults shelf.new) (role.Netlist ∷ []) stop) }
+{
+    match netlist(alloc, shelf, run) {
+        Ok(netlist) => Ok(Netted { libraries, netlist }),
+        Err(stop) => {
+            libraries.discard();
+            Err(stop)
+        }
+    }
+}
+
+#[tactic(auto, using(crate::proofs::Stopping::stops_both, crate::proofs::Stopping::stops_netlist))]
+fn to_netlist<S: Shelf>(alloc: Global, shelf: &mut S, run: &Run<'_>) -> Result<Netted, Stop>
+    ensures map { S.holds shelf.new ≡ S.holds shelf.old }
+    ensures rising { S.faults shelf.old ≤ S.faults shelf.new }
+    ensures libraries { IfOk result (λ got. Says (S.holds shelf.old) (run_words run.now).early (SaysLibrary got.libraries.early) × Says (S.holds shelf.old) (run_words run.now).late (SaysLibrary got.libraries.late) × (S.faults shelf.new ≡ S.faults shelf.old)) }
+    ensures netlist { IfOk result (λ got. Says (S.holds shelf.old) (run_words run.now).netlist (SaysModule got.netlist)) }
+    ensures units { IfOk result (λ got. AreUnits (S.holds shelf.old) (run_words run.now) got.libraries.units) }
+    ensures kept { IfOk result (λ got. (is_library got.libraries.early ≡ true) × (is_library got.libraries.late ≡ true) × IsNetlist got.netlist) }
+    ensures stop { IfErr result (λ stop. Stops (S.holds shelf.old) (run_words run.now) (S.faults shelf.old) (S.faults shelf.new) (role.Early ∷ role.Late ∷ role.Netlist ∷ []) stop) }
+{
+    let libraries = read_libraries(alloc, shelf, run)?;
+    let netted = with_netlist(alloc, shelf, run, libraries)?;
+    Ok(netted)
+}
+
+/// All documents, behind libraries and netlist that were read.
+fn with_rest<S: Shelf>(
+    alloc: Global,
+    shelf: &mut S,
+    run: &Run<'_>,
+    netted: Netted,
+) -> Result<Documents, Stop>
+    requires early { Says (S.holds shelf.old) (run_words run.now).early (SaysLibrary netted.libraries.early) }
+    requires late { Says (S.holds shelf.old) (run_words run.now).late (SaysLibrary netted.libraries.late) }
+    requires netlist { Says (S.holds shelf.old) (run_words run.now).netlist (SaysModule netted.netlist) }
+    requires units { AreUnits (S.holds shelf.old) (run_words run.now) netted.libraries.units }
+    requires kept { (is_library netted.libraries.early ≡ true) × (is_library netted.libraries.late ≡ true) × IsNetlist netted.netlist }
+    ensures map { S.holds shelf.new ≡ S.holds shelf.old }
+    ensures rising { S.faults shelf.old ≤ S.faults shelf.new }
+    ensures value { IfOk result (λ got. AreDocuments (S.holds shelf.old) (run_words run.now) got × (S.faults shelf.new ≡ S.faults shelf.old)) }
+    ensures kept { IfOk result AreKept }
+    ensures stop { IfErr result (λ stop. Stops (S.holds shelf.old) (run_words run.now) (S.faults shelf.old) (S.faults shelf.new) (role.Sdc ∷ last_sources (run_words run.now)) stop) }
+{
+    match from_sdc(alloc, shelf, run, &netted.libraries.units) {
+        Ok((sdc, spef, script)) => {
+            let Netted { libraries, netlist } = netted;
+            let Libraries { early, late, .. } = libraries;
+            Ok(Documents {
+                early,
+                late,
+                netlist,
+                sdc,
+                spef,
+                script,
+            })
+        }
+        Err(stop) => {
+            netted.discard();
+            Err(stop)
+        }
+    }
+}
+
+/// The values of the documents of a run, each fetched and at once read: libraries, netlist,
+/// constraints in the units of the late library, parasitics and script.
+///
+/// # Errors
+///
+/// The first document that has a fault, or that the shelf did not give; or want of memory.
+#[tactic(auto, using(crate::proofs::Stopping::stops_three, crate::proofs::Stopping::stops_rest))]
+pub fn read_all<S: Shelf>(
+    alloc: Global,
+    shelf: &mut S,
+    run: &Run<'_>,
+) -> Result<Documents, Stop>
+    ensures map { S.holds shelf.new ≡ S.holds shelf.old }
+    ensures rising { S.faults shelf.old ≤ S.faults shelf.new }
+    ensures value { IfOk result (λ got. AreDocuments (S.holds shelf.old) (run_words run.now) got × (S.faults shelf.new ≡ S.faults shelf.old)) }
+    ensures kept { IfOk result AreKept }
+    ensures stop { IfErr result (λ stop. Stops (S.holds shelf.old) (run_words run.now) (S.faults shelf.old) (S.faults shelf.new) (sources (run_words run.now)) stop) }
+{
+    let netted = to_netlist(alloc, shelf, run)?;
+    let documents = with_rest(alloc, shelf, run, netted)?;
+    Ok(documents)
+}

@@ -1,0 +1,63 @@
+//! What a run ends with: its status and its text.
+
+ghost use Rattle.std.specs.Prelude.{◌≡◌, ◌≤◌, ◌∷◌, [], false, IfOk};
+ghost use Rattle.shell_core.specs.Documents.{design_line};
+ghost use Rattle.shell_core.specs.Answers.{is_wanting, is_refusal, has_refusal, status_of};
+
+use crate::texts::design_line;
+use sta_units::Memory;
+use std::alloc::Global;
+use timing_defs::{Answer, Fault, Row};
+
+/// What a run ends with: its status, and what it writes.
+#[derive(Drop)]
+pub struct End {
+    pub status: u8,
+    pub text: Vec<u8>,
+}
+
+/// Whether an answer is none: refused, no, or not yet.
+fn is_refusal(answer: &Answer) -> bool
+    ensures { result ≡ is_refusal answer.now }
+{
+    match answer {
+        Answer::NotYet(_) | Answer::Refused(_) | Answer::No(_) => true,
+        Answer::Taken | Answer::Reached | Answer::Accepted | Answer::Told(_) => false,
+    }
+}
+
+fn has_refusal(rows: &[Row]) -> bool
+    ensures { result ≡ has_refusal rows.now }
+{
+    rows.iter().any(|row| is_refusal(&row.answer))
+}
+
+/// The status of a run that is answered with these rows: 1 where some row is refused, no or not yet.
+pub fn status(rows: &[Row]) -> u8
+    ensures status { result ≡ status_of (record { rows = rows.now } ∷ []) }
+    ensures low { result ≤ 3 }
+{
+    if has_refusal(rows) { 1 } else { 0 }
+}
+
+/// Whether a fault is want of memory.
+fn is_wanting(fault: &Fault) -> bool
+    ensures { result ≡ is_wanting fault.now }
+{
+    matches!(fault, Fault::Memory)
+}
+
+/// The end of a run that a fault of its design stops.
+///
+/// # Errors
+///
+/// Want of memory, also where it is the fault.
+pub fn fault_end(alloc: Global, fault: &Fault) -> Result<End, Memory>
+    ensures { IfOk result (λ end. (is_wanting fault.now ≡ false) × (end.status ≡ 3) × (end.text.items ≡ design_line fault.now)) }
+{
+    if is_wanting(fault) {
+        return Err(Memory);
+    }
+    let text = design_line(alloc, fault)?;
+    Ok(End { status: 3, text })
+}

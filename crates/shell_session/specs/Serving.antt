@@ -1,0 +1,95 @@
+-- What a run of the server ends with: its status, and the bytes that it writes or would have written.
+
+use Rattle.std.specs.Prelude.{◌≡◌, ◌⊎◌, ◌≤◌, ℕ, List, [], ◌∷◌, length, Option, Some, None, Ok, Err, Result, ⊤}
+use Rattle.sta_outside.specs.Shelf.{held, document_limit, Rose}
+use Rattle.sta_outside.specs.Sink.{Appends, AppendsPrefix}
+use Rattle.timing_defs.specs.declared.edits.Entry.{Entry}
+use Rattle.timing_defs.specs.declared.faults.Fault.{Fault}
+use Rattle.timing_defs.specs.declared.design.Design.{Design}
+use Rattle.timing_defs.specs.declared.scripts.Script.{Script}
+use Rattle.timing_defs.specs.declared.scripts.Transcript.{Transcript}
+use Rattle.timing_defs.specs.Edits.{linked}
+use Rattle.timing_defs.specs.Checks.{Faulty}
+use Rattle.timing_defs.specs.Output.{journal_text}
+use Rattle.timing_defs.specs.Sessions.{IsWhole, IsOutput}
+use Rattle.sta_text.specs.declared.faults.Wrong.{Wrong}
+use Rattle.eco_journal.specs.Journal.{entries_of}
+use Rattle.session_engine.specs.Soundness.{IsFaultless}
+use Rattle.shell_core.specs.Answers.{status_of}
+use Rattle.shell_core.specs.Words.{RunWords, run_of}
+use Rattle.shell_core.specs.declared.documents.Role.{Role}
+use Rattle.shell_core.specs.declared.documents.How.{How}
+use Rattle.shell_core.specs.declared.documents.Documents.{Documents}
+use Rattle.shell_core.specs.Documents.{Docs, sources, name_of, HasFaults, FirstRefused, ShelfFails, AreDocuments, words_line, design_line, refusal_line, shelf_line}
+
+-- the answer of a run of scripts over a design: the whole output of a journal and transcripts, whose
+-- bytes of the journal are read back as its entries
+abbrev pub IsAnswer : Design → List Script → ℕ → List ℕ → Type 0
+IsAnswer d scripts status text =
+    (journal : List Entry) × (ts : List Transcript)
+    × IsWhole d 0 scripts journal ts × IsOutput d 0 journal ts text × (status ≡ status_of ts)
+    × (entries_of (journal_text journal) ≡ Ok journal)
+
+-- how a run over a design ends: with a fault of the design, or with an answer where it has none
+abbrev pub DesignEnds : Design → List Script → ℕ → List ℕ → Type 0
+DesignEnds d scripts status text =
+    ((status ≡ 3) × ((x : Fault) × Faulty d x × (text ≡ design_line x)))
+    ⊎ (IsFaultless d × IsAnswer d scripts status text)
+
+abbrev pub linked_of : Documents → Result Design Fault
+linked_of docs = linked docs.early docs.late docs.netlist docs.sdc docs.spef
+
+-- how a run ends whose documents were read: with the fault of linking them, or over their design
+abbrev pub DocumentsEnd : Documents → ℕ → List ℕ → Type 0
+DocumentsEnd docs status text =
+    ((status ≡ 3) × ((x : Fault) × (linked_of docs ≡ Err x) × (text ≡ design_line x)))
+    ⊎ ((d : Design) × (linked_of docs ≡ Ok d) × DesignEnds d (docs.script ∷ []) status text)
+
+-- how a run ends, with the line or the output that is written
+abbrev pub RunEnds : Docs → ℕ → ℕ → RunWords → ℕ → List ℕ → Type 0
+RunEnds holds old new run status text =
+    ((status ≡ 3)
+    × ((role : Role) × (wrong : Wrong) × FirstRefused holds run (sources run) role wrong × (text ≡ refusal_line role wrong)))
+    ⊎ ((status ≡ 4)
+    × ((role : Role) × (how : How) × ShelfFails holds run old new (sources run) role how × (text ≡ shelf_line (name_of run role) how)))
+    ⊎ ((docs : Documents) × AreDocuments holds run docs × DocumentsEnd docs status text)
+
+abbrev pub Ends : Docs → ℕ → ℕ → List (List ℕ) → ℕ → List ℕ → Type 0
+Ends holds old new words status text =
+    ((status ≡ 2) × (run_of words ≡ None) × (text ≡ words_line))
+    ⊎ ((run : RunWords) × (run_of words ≡ Some run) × RunEnds holds old new run status text)
+
+-- what stands at the sink after a run, by its status: all that the run ends with, a prefix of it
+-- where the sink failed, or nothing for want of memory
+abbrev pub Written : Option (List ℕ) → Option (List ℕ) → ℕ → ℕ → Docs → ℕ → ℕ → List (List ℕ) → ℕ → Type 0
+Written old new faults faults' holds f f' words status =
+    ((status ≡ 5) × Rose faults faults'
+    × ((meant : ℕ) × (text : List ℕ) × Ends holds f f' words meant text × AppendsPrefix old new text))
+    ⊎ ((status ≡ 6) × Appends old new [] × (faults' ≡ faults))
+    ⊎ ((status ≤ 4) × (faults' ≡ faults) × ((text : List ℕ) × Ends holds f f' words status text × Appends old new text))
+
+-- a told document within the limit, and without a fault
+abbrev pub HasText : List (List ℕ × List ℕ) → RunWords → Role → Type 0
+HasText map run role =
+    (text : List ℕ) × (held map (name_of run role) ≡ Some text) × (length text ≤ document_limit) × HasFaults (Some map) run role text []
+
+abbrev pub HasTexts : List (List ℕ × List ℕ) → RunWords → List Role → Type 0
+HasTexts map run [] = ⊤
+HasTexts map run (role ∷ roles) = HasText map run role × HasTexts map run roles
+
+-- documents that are linked to a design without a fault
+abbrev pub AreSound : Documents → Type 0
+AreSound docs = (d : Design) × (linked_of docs ≡ Ok d) × IsFaultless d
+
+-- where a run has nothing that refuses it: its words ask for it, the shelf tells each document, what
+-- they say is sound, and neither the shelf nor the sink failed
+abbrev pub NothingRefuses : Docs → ℕ → ℕ → ℕ → ℕ → List (List ℕ) → Type 0
+NothingRefuses holds f f' faults faults' words =
+    (map : List (List ℕ × List ℕ)) × (run : RunWords)
+    × (holds ≡ Some map) × (run_of words ≡ Some run) × HasTexts map run (sources run)
+    × ((docs : Documents) → AreDocuments (Some map) run docs → AreSound docs)
+    × (Rose f f' → ⊥) × (Rose faults faults' → ⊥)
+
+-- it is answered, or memory is wanting
+abbrev pub IsAnswered : ℕ → Type 0
+IsAnswered status = (status ≡ 0) ⊎ (status ≡ 1) ⊎ (status ≡ 6)

@@ -1,0 +1,127 @@
+//! The top call: one run of the server.
+
+ghost use Rattle.std.specs.Prelude.{◌≡◌, ◌≤◌, map, IfOk};
+ghost use Rattle.std.specs.String.{string_bytes};
+ghost use Rattle.shell_core.specs.Words.{run_words};
+ghost use Rattle.shell_session.specs.Serving.{RunEnds, Ends, Written, NothingRefuses, IsAnswered};
+
+use crate::answers::end_of;
+use shell_core::{
+    End, Run, Stop, name_of, read_all, read_words, refusal_line, shelf_line, words_line,
+};
+use sta_outside::{Gate, Shelf, Sink};
+use sta_units::Memory;
+use std::alloc::Global;
+use std::thread::Threads;
+
+/// How a run ended: 0 where all rows are answers, 1 where some row is refused, no or not yet, 2 where
+/// the words ask for no run, 3 where a document or the design has a fault, 4 where the shelf did not
+/// give a document, 5 where the sink failed, 6 for want of memory.
+pub type Status = u8;
+
+/// How a run ends, by its words.
+#[tactic(auto, using(crate::proofs::EndLemmas::run_read, crate::proofs::EndLemmas::run_refused, crate::proofs::EndLemmas::run_missing))]
+fn run_end<H: Threads + Sync, S: Shelf, G: Gate>(
+    rt: &H,
+    alloc: Global,
+    shelf: &mut S,
+    run: &Run<'_>,
+    gate: &G,
+) -> Result<End, Memory>
+    requires some { 1 ≤ run.now.workers }
+    requires most { run.now.workers ≤ 32 }
+    ensures ends { IfOk result (λ end. RunEnds (S.holds shelf.old) (S.faults shelf.old) (S.faults shelf.new) (run_words run.now) end.status end.text.items) }
+    ensures kept { S.holds shelf.new ≡ S.holds shelf.old }
+    ensures rising { S.faults shelf.old ≤ S.faults shelf.new }
+    ensures count { IfOk result (λ end. end.status ≤ 3 → S.faults shelf.new ≡ S.faults shelf.old) }
+    ensures status { IfOk result (λ end. end.status ≤ 4) }
+{
+    match read_all(alloc, shelf, run) {
+        Ok(docs) => {
+            let end = end_of(rt, alloc, docs, run.workers, gate)?;
+            Ok(end)
+        }
+        Err(Stop::Memory) => Err(Memory),
+        Err(Stop::Refused(role, code, place)) => {
+            let text = refusal_line(alloc, role, code, place)?;
+            Ok(End { status: 3, text })
+        }
+        Err(Stop::Missing(role, how)) => {
+            let text = shelf_line(alloc, name_of(run, role), how)?;
+            Ok(End { status: 4, text })
+        }
+    }
+}
+
+/// How a run ends, and what it is to write.
+#[tactic(auto, using(crate::proofs::EndLemmas::ends_asked, crate::proofs::EndLemmas::ends_unasked))]
+fn ending<H: Threads + Sync, S: Shelf, G: Gate>(
+    rt: &H,
+    alloc: Global,
+    words: &[String],
+    shelf: &mut S,
+    gate: &G,
+) -> Result<End, Memory>
+    ensures ends { IfOk result (λ end. Ends (S.holds shelf.old) (S.faults shelf.old) (S.faults shelf.new) (map string_bytes words.now) end.status end.text.items) }
+    ensures kept { S.holds shelf.new ≡ S.holds shelf.old }
+    ensures rising { S.faults shelf.old ≤ S.faults shelf.new }
+    ensures count { IfOk result (λ end. end.status ≤ 3 → S.faults shelf.new ≡ S.faults shelf.old) }
+    ensures status { IfOk result (λ end. end.status ≤ 4) }
+{
+    match read_words(words) {
+        None => {
+            let text = words_line(alloc)?;
+            Ok(End { status: 2, text })
+        }
+        Some(run) => {
+            let end = run_end(rt, alloc, shelf, &run, gate)?;
+            Ok(end)
+        }
+    }
+}
+
+/// Runs the server once, by its words.
+#[tactic(auto, using(crate::proofs::EndLemmas::written_whole, crate::proofs::EndLemmas::written_partly, crate::proofs::EndLemmas::written_nothing))]
+fn written<H: Threads + Sync, S: Shelf, K: Sink, G: Gate>(
+    rt: &H,
+    alloc: Global,
+    words: &[String],
+    shelf: &mut S,
+    out: &mut K,
+    gate: &G,
+) -> Status
+    ensures ends { Written (K.written out.old) (K.written out.new) (K.faults out.old) (K.faults out.new) (S.holds shelf.old) (S.faults shelf.old) (S.faults shelf.new) (map string_bytes words.now) result }
+    ensures kept { S.holds shelf.new ≡ S.holds shelf.old }
+    ensures rising { S.faults shelf.old ≤ S.faults shelf.new }
+    ensures shelf_count { result ≤ 3 → S.faults shelf.new ≡ S.faults shelf.old }
+{
+    match ending(rt, alloc, words, shelf, gate) {
+        Err(Memory) => 6,
+        Ok(end) => match out.put(end.text.as_slice()) {
+            Ok(()) => end.status,
+            Err(_) => 5,
+        },
+    }
+}
+
+/// Runs the server once: the words after the program's name ask for a run of documents and a script,
+/// which are fetched from the shelf and read. The script is answered over the design of the documents,
+/// each question by the full analysis of the design after the ECOs before it, and what the run writes
+/// is put into the sink in one piece. Takes the work of its readers, of one full analysis for the first
+/// version and for each ECO, and of its questions.
+pub fn serve<H: Threads + Sync, S: Shelf, K: Sink, G: Gate>(
+    rt: &H,
+    alloc: Global,
+    words: &[String],
+    shelf: &mut S,
+    out: &mut K,
+    gate: &G,
+) -> Status
+    ensures ends { Written (K.written out.old) (K.written out.new) (K.faults out.old) (K.faults out.new) (S.holds shelf.old) (S.faults shelf.old) (S.faults shelf.new) (map string_bytes words.now) result }
+    ensures kept { S.holds shelf.new ≡ S.holds shelf.old }
+    ensures rising { S.faults shelf.old ≤ S.faults shelf.new }
+    ensures shelf_count { result ≤ 3 → S.faults shelf.new ≡ S.faults shelf.old }
+    ensures completeness { NothingRefuses (S.holds shelf.old) (S.faults shelf.old) (S.faults shelf.new) (K.faults out.old) (K.faults out.new) (map string_bytes words.now) → IsAnswered result }
+{
+    written(rt, alloc, words, shelf, out, gate)
+}

@@ -1,0 +1,102 @@
+//! Each status of a run, and what is written with it.
+
+use crate::running::{Texts, run};
+
+const LIBRARY: &str = "library (a) { time_unit : \"1ps\"; capacitive_load_unit (1, ff);
+ cell (INV) { pin (A) { direction : input; capacitance : 2; }
+  pin (Z) { direction : output;
+   timing () { related_pin : \"A\"; timing_sense : negative_unate;
+cell_rise (scalar) { values (\"10\"); } rise_transition (scalar) { values (\"4\"); }
+cell_fall (scalar) { values (\"12\"); } fall_transition (scalar) { values (\"6\"); } } } } }
+";
+
+const NETLIST: &str =
+    "module top (in, out); input in; output out; wire w; INV u1 (.A(in), .Z(w)); INV u2 (.A(w), .Z(out)); endmodule\n";
+
+const UNKNOWN: &str =
+    "module top (in, out); input in; output out; wire w; NOCELL u1 (.A(in), .Z(w)); INV u2 (.A(w), .Z(out)); endmodule\n";
+
+const TWICE: &str =
+    "module top (in, out); input in; output out; INV u1 (.A(in), .Z(out)); INV u2 (.A(in), .Z(out)); endmodule\n";
+
+const BEHIND: &str =
+    "module top (in, out); input in; output out; wire w; INV u2 (.A(w), .Z(out)); INV u1 (.A(in), .Z(w)); endmodule\n";
+
+const RUN: &str = "run a.lib a.lib a.v empty none 1 s1";
+
+const SLEW: &str = "report_slew u2:Z late rise\n";
+
+const EDITS: &str =
+    "repower_gate u9 INV\ntake\nawait 1 2\nbegin_eco\ninsert_net n9\nremove_net n9\ncommit_eco\nawait 1 2\nreport_at in late rise\n";
+
+const ANSWERS: &str = "journal 1 1
+entry 1 session 1 edits 2
+insert_net n9
+remove_net n9
+session 1 rows 6
+1 0 refused E1 u9
+2 0 taken
+3 0 not_yet 2
+4 1 accepted
+5 1 reached
+6 1 at 0
+final 1 setup none 0.000 hold none 0.000
+";
+
+#[test]
+fn a_run_ends_with_its_status_and_its_text(rt: HostRuntime) {
+    let answer =
+        "journal 1 0\nsession 1 rows 1\n1 0 slew 4.000\nfinal 0 setup none 0.000 hold none 0.000\n";
+    let refusal =
+        "journal 1 0\nsession 1 rows 1\n1 0 no Q1 zz\nfinal 0 setup none 0.000 hold none 0.000\n";
+    let silence = "journal 1 0\nsession 1 rows 0\nfinal 0 setup none 0.000 hold none 0.000\n";
+    let absent = "run a.lib x.lib a.v empty none 1 s1";
+    let parasitics = "run a.lib a.lib a.v empty a.v 1 s1";
+    let zz = "report_slew zz early fall";
+    let rows = [
+        (RUN, NETLIST, SLEW, 0, 1000, 0, answer),
+        (RUN, NETLIST, zz, 0, 1000, 1, refusal),
+        (RUN, NETLIST, "", 0, 1000, 0, silence),
+        (RUN, BEHIND, SLEW, 0, 1000, 0, answer),
+        (RUN, NETLIST, EDITS, 0, 1000, 1, ANSWERS),
+        (RUN, NETLIST, "tack", 0, 1000, 3, "fault script1 C1 1\n"),
+        (RUN, "", SLEW, 0, 1000, 3, "fault netlist V5 0\n"),
+        (parasitics, NETLIST, SLEW, 0, 1000, 3, "fault spef P1 0\n"),
+        (RUN, UNKNOWN, SLEW, 0, 1000, 3, "fault design E3 NOCELL\n"),
+        (RUN, TWICE, SLEW, 0, 1000, 3, "fault design E10 out\n"),
+        ("", NETLIST, SLEW, 0, 1000, 2, "fault words\n"),
+        ("run", NETLIST, SLEW, 0, 1000, 2, "fault words\n"),
+        (
+            absent,
+            NETLIST,
+            SLEW,
+            0,
+            1000,
+            4,
+            "fault shelf x.lib absent\n",
+        ),
+        (RUN, NETLIST, SLEW, 1, 1000, 4, "fault shelf a.lib failed\n"),
+        (RUN, NETLIST, SLEW, 0, 5, 5, "journ"),
+    ];
+    let alloc = rt.alloc();
+    for (line, netlist, script, fails, room, status, text) in rows {
+        let mut texts = Texts::new(alloc);
+        texts.add(
+            &rt,
+            alloc,
+            &[
+                ("a.lib", LIBRARY),
+                ("a.v", netlist),
+                ("empty", ""),
+                ("s1", script),
+            ],
+        );
+        let (ended, written) = run(&rt, alloc, line, texts, &[fails], room);
+        assert_eq!(rt; ended, status, "at {line} with {script}");
+        assert_eq!(rt;
+            written.as_slice(),
+            text.as_bytes(),
+            "at {line} with {script}"
+        );
+    }
+}
