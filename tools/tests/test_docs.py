@@ -40,7 +40,7 @@ class Documents(unittest.TestCase):
         gone = [f"{row[0]}: {name}" for row in index_rows() for name in re.findall(r"`(\w+)`", row[3]) if f"fn {name}(" not in text]
         files = [(row[0], name) for row in index_rows() for name in re.findall(r"`([\w/]+\.rt)`", row[3])]
         gone += [f"{rule}: {name}" for rule, name in files
-                 if not (CRATES / name if "/" in name else CRATES / "timing_shell" / "src" / "examples" / name).exists()]
+                 if not (CRATES / name if "/" in name else CRATES / "shell_tests" / "src" / "examples" / name).exists()]
         if gone:
             # A test may move at any time, and what the page says of it is no reason to refuse the change.
             self.skipTest(f"the index of docs/DEFINITIONS.md names tests that are gone: {'; '.join(gone)}")

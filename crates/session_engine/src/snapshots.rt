@@ -34,6 +34,12 @@ impl Snapshot {
         Snapshot { version }
     }
 
+    /// Gives the snapshot up. Takes no memory.
+    pub fn discard(self) {
+        let Snapshot { version } = self;
+        Version::discard(version);
+    }
+
     /// The version of the snapshot. Takes no memory.
     pub fn version(&self) -> &Version
         ensures { result.now ≡ self.now }

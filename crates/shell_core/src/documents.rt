@@ -13,9 +13,7 @@ ghost use Rattle.shell_core.specs.Scripts.{IsScript};
 ghost use Rattle.shell_core.specs.Documents.{has_no_spef, no_parasitics, name_of, Gives, role_text, how_text, last_sources, sources, Stops, Says, SaysLibrary, SaysModule, SaysParasitics, SaysScript, AreUnits, AreConstraints, AreLast, AreDocuments};
 ghost use Rattle.shell_core.specs.Kept.{AreKept};
 
-use crate::discards::{
-    discard_constraints, discard_library, discard_netlist, discard_parasitics,
-};
+use crate::discards::{discard_constraints, discard_library, discard_netlist, discard_parasitics};
 use crate::words::Run;
 use liberty_cells::{read_library, units};
 use script_reader::read_script;
@@ -471,11 +469,7 @@ fn with_rest<S: Shelf>(
 ///
 /// The first document that has a fault, or that the shelf did not give; or want of memory.
 #[tactic(auto, using(crate::proofs::Stopping::stops_three, crate::proofs::Stopping::stops_rest))]
-pub fn read_all<S: Shelf>(
-    alloc: Global,
-    shelf: &mut S,
-    run: &Run<'_>,
-) -> Result<Documents, Stop>
+pub fn read_all<S: Shelf>(alloc: Global, shelf: &mut S, run: &Run<'_>) -> Result<Documents, Stop>
     ensures map { S.holds shelf.new ≡ S.holds shelf.old }
     ensures rising { S.faults shelf.old ≤ S.faults shelf.new }
     ensures value { IfOk result (λ got. AreDocuments (S.holds shelf.old) (run_words run.now) got × (S.faults shelf.new ≡ S.faults shelf.old)) }

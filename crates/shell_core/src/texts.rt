@@ -1,7 +1,7 @@
 //! The lines that a run writes where it is refused, put behind the bytes that are there.
 
-ghost use Rattle.std.specs.Prelude.{◌≡◌, ◌++◌, ◌∷◌, [], codes, OnOk, IfOk};
-ghost use Rattle.timing_defs.specs.Output.{line, word, number};
+ghost use Rattle.std.specs.Prelude.{◌≡◌, ◌++◌, ◌∷◌, [], OnOk, IfOk};
+ghost use Rattle.timing_defs.specs.Output.{word, number};
 ghost use Rattle.shell_core.specs.Documents.{words_line, design_line, refusal_line, shelf_line};
 
 use crate::documents::{How, Role};
@@ -37,39 +37,6 @@ fn push_number(alloc: Global, out: &mut Vec<u8>, n: u64) -> Result<(), Memory>
     push_word(out, digits.as_bytes())
 }
 
-fn push_design(out: &mut Vec<u8>, words: &[u8]) -> Result<(), Memory>
-    ensures { OnOk result (out.new.items ≡ out.old.items ++ line (codes "fault design" ++ word words.now)) }
-{
-    push(out, b"fault design")?;
-    push_word(out, words)?;
-    push_end(out)
-}
-
-fn push_refusal(
-    alloc: Global,
-    out: &mut Vec<u8>,
-    role: Role,
-    code: Code,
-    place: u64,
-) -> Result<(), Memory>
-    ensures { OnOk result (out.new.items ≡ out.old.items ++ refusal_line role (record { code = code; at = place })) }
-{
-    push(out, b"fault")?;
-    push_word(out, role.label().as_bytes())?;
-    push_word(out, code.label().as_bytes())?;
-    push_number(alloc, out, place)?;
-    push_end(out)
-}
-
-fn push_shelf(out: &mut Vec<u8>, name: &str, how: How) -> Result<(), Memory>
-    ensures { OnOk result (out.new.items ≡ out.old.items ++ shelf_line name.now how) }
-{
-    push(out, b"fault shelf")?;
-    push_word(out, name.as_bytes())?;
-    push_word(out, how.label().as_bytes())?;
-    push_end(out)
-}
-
 /// The line of words that ask for no run.
 ///
 /// # Errors
@@ -93,7 +60,9 @@ pub fn design_line(alloc: Global, fault: &Fault) -> Result<Vec<u8>, Memory>
 {
     let words = fault_bytes(alloc, fault)?;
     let mut text = Vec::new(alloc);
-    push_design(&mut text, words.as_slice())?;
+    push(&mut text, b"fault design")?;
+    push_word(&mut text, words.as_slice())?;
+    push_end(&mut text)?;
     Ok(text)
 }
 
@@ -102,16 +71,15 @@ pub fn design_line(alloc: Global, fault: &Fault) -> Result<Vec<u8>, Memory>
 /// # Errors
 ///
 /// Want of memory.
-pub fn refusal_line(
-    alloc: Global,
-    role: Role,
-    code: Code,
-    place: u64,
-) -> Result<Vec<u8>, Memory>
+pub fn refusal_line(alloc: Global, role: Role, code: Code, place: u64) -> Result<Vec<u8>, Memory>
     ensures { IfOk result (λ text. text.items ≡ refusal_line role (record { code = code; at = place })) }
 {
     let mut text = Vec::new(alloc);
-    push_refusal(alloc, &mut text, role, code, place)?;
+    push(&mut text, b"fault")?;
+    push_word(&mut text, role.label().as_bytes())?;
+    push_word(&mut text, code.label().as_bytes())?;
+    push_number(alloc, &mut text, place)?;
+    push_end(&mut text)?;
     Ok(text)
 }
 
@@ -124,6 +92,9 @@ pub fn shelf_line(alloc: Global, name: &str, how: How) -> Result<Vec<u8>, Memory
     ensures { IfOk result (λ text. text.items ≡ shelf_line name.now how) }
 {
     let mut text = Vec::new(alloc);
-    push_shelf(&mut text, name, how)?;
+    push(&mut text, b"fault shelf")?;
+    push_word(&mut text, name.as_bytes())?;
+    push_word(&mut text, how.label().as_bytes())?;
+    push_end(&mut text)?;
     Ok(text)
 }

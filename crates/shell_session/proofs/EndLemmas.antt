@@ -1,5 +1,6 @@
 -- How a run ends, and what stands at the sink then.
-use Rattle.std.proofs.Common.{◌≡◌, ◌⊎◌, ℕ, ◌≤◌, true, false, List, [], ◌∷◌, Option, Some, None, Ok, Err, refl, sym, ap, ◌∙◌, inl, inr, append-nil}
+use Rattle.std.proofs.Common.{◌≡◌, ◌⊎◌, ℕ, ◌≤◌, true, false, List, [], ◌∷◌, Option, Some, None, Result, Ok, Err, refl, sym, ap, ◌∙◌, inl, inr, append-nil}
+use Rattle.std.specs.Prelude.{IfOk}
 use Rattle.std.proofs.lemmas.Bool.{false≢true}
 use Rattle.sta_outside.specs.Shelf.{Rose}
 use Rattle.sta_outside.specs.Sink.{Appends, AppendsPrefix}
@@ -14,6 +15,8 @@ use Rattle.shell_core.specs.declared.documents.Role.{Role}
 use Rattle.shell_core.specs.declared.documents.How.{How}
 use Rattle.shell_core.specs.declared.documents.Stop.TheVariants.{Refused, Missing}
 use Rattle.shell_core.specs.declared.documents.Documents.{Documents}
+use Rattle.shell_core.specs.declared.ends.End.{End}
+use Rattle.sta_units.specs.declared.units.Memory.{Memory}
 use Rattle.shell_core.specs.Documents.{Docs, sources, name_of, Stops, AreDocuments, words_line, design_line, refusal_line, shelf_line}
 use Rattle.shell_core.specs.Kept.{AreKept}
 use Rattle.design_link.specs.Documents.{AreDocuments as AreLinkable}
@@ -63,6 +66,11 @@ caused x Cause (inr cause) not = cause
 pub design_unsound : (d : Design) (scripts : List Script) (x : Fault) (status : ℕ) (text : List ℕ) → IsUnsound d x → is_wanting x ≡ false → status ≡ 3 → text ≡ design_line x
     → DesignEnds d scripts status text
 design_unsound d scripts x status text unsound not is written = inl (is, (x, caused x (Faulty d) unsound not, written))
+
+-- a run ends as follows of what it ends with
+pub ended : (r : Result End Memory) (P Q : End → Type 0) → ((end : End) → P end → Q end) → IfOk r P → IfOk r Q
+ended (Ok end) P Q more h = more end h
+ended (Err x) P Q more h = tt
 
 -- documents that were read can be linked
 pub linkable : (docs : Documents) → AreKept docs → AreLinkable docs.early docs.late docs.netlist docs.sdc docs.spef

@@ -6,6 +6,7 @@ use Rattle.sta_outside.specs.Sink.{Appends, AppendsPrefix}
 use Rattle.timing_defs.specs.declared.edits.Entry.{Entry}
 use Rattle.timing_defs.specs.declared.faults.Fault.{Fault}
 use Rattle.timing_defs.specs.declared.design.Design.{Design}
+use Rattle.timing_defs.specs.declared.scripts.Row.{Row}
 use Rattle.timing_defs.specs.declared.scripts.Script.{Script}
 use Rattle.timing_defs.specs.declared.scripts.Transcript.{Transcript}
 use Rattle.timing_defs.specs.Edits.{linked}
@@ -15,11 +16,13 @@ use Rattle.timing_defs.specs.Sessions.{IsWhole, IsOutput}
 use Rattle.sta_text.specs.declared.faults.Wrong.{Wrong}
 use Rattle.eco_journal.specs.Journal.{entries_of}
 use Rattle.session_engine.specs.Soundness.{IsFaultless}
+use Rattle.session_engine.specs.Versions.{Versioned, IsVersion}
 use Rattle.shell_core.specs.Answers.{status_of}
 use Rattle.shell_core.specs.Words.{RunWords, run_of}
 use Rattle.shell_core.specs.declared.documents.Role.{Role}
 use Rattle.shell_core.specs.declared.documents.How.{How}
 use Rattle.shell_core.specs.declared.documents.Documents.{Documents}
+use Rattle.shell_session.specs.Session.{IsWritten}
 use Rattle.shell_core.specs.Documents.{Docs, sources, name_of, HasFaults, FirstRefused, ShelfFails, AreDocuments, words_line, design_line, refusal_line, shelf_line}
 
 -- the answer of a run of scripts over a design: the whole output of a journal and transcripts, whose
@@ -29,6 +32,12 @@ IsAnswer d scripts status text =
     (journal : List Entry) × (ts : List Transcript)
     × IsWhole d 0 scripts journal ts × IsOutput d 0 journal ts text × (status ≡ status_of ts)
     × (entries_of (journal_text journal) ≡ Ok journal)
+
+-- how a session ends that has answered its script: its output, and the status of its rows
+pub record IsSessionEnd (v : Versioned) (rows : List Row) (status : ℕ) (text : List ℕ) : Type 0 where
+  pub stands : IsVersion v
+  pub written : IsWritten v rows text
+  pub counted : status ≡ status_of (record { rows = rows } ∷ [])
 
 -- how a run over a design ends: with a fault of the design, or with an answer where it has none
 abbrev pub DesignEnds : Design → List Script → ℕ → List ℕ → Type 0

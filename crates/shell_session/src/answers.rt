@@ -4,15 +4,12 @@ ghost use Rattle.std.specs.Prelude.{◌≡◌, ◌≤◌, ◌∷◌, [], false, 
 ghost use Rattle.std.specs.Arc.{arc_value};
 ghost use Rattle.shell_core.specs.Kept.{AreKept};
 ghost use Rattle.shell_core.specs.Scripts.{IsScript};
-ghost use Rattle.shell_core.specs.Answers.{is_wanting, status_of};
+ghost use Rattle.shell_core.specs.Answers.{is_wanting};
 ghost use Rattle.shell_core.specs.Documents.{design_line};
-ghost use Rattle.session_engine.specs.Versions.{IsVersion};
 ghost use Rattle.shell_session.specs.Session.{IsOutputOf, IsWritten};
-ghost use Rattle.shell_session.specs.Serving.{DesignEnds, DocumentsEnd};
+ghost use Rattle.shell_session.specs.Serving.{IsSessionEnd, DesignEnds, DocumentsEnd};
 
-use crate::discards::{
-    discard_entries, discard_fault, discard_script, discard_transcripts, discard_version,
-};
+use crate::discards::{discard_entries, discard_fault, discard_script, discard_transcripts};
 use crate::session::{Session, run};
 use design_link::link;
 use netlist_store::Store;
@@ -44,11 +41,7 @@ fn transcribed(alloc: Global, rows: Items<Row>) -> Result<Items<Transcript>, Mem
 }
 
 /// The output of a session with a transcript.
-fn output(
-    alloc: Global,
-    held: &Version,
-    transcripts: &Items<Transcript>,
-) -> Result<Vec<u8>, Memory>
+fn output(alloc: Global, held: &Version, transcripts: &Items<Transcript>) -> Result<Vec<u8>, Memory>
     ensures { IfOk result (λ text. IsOutputOf held.now transcripts.now text.items) }
 {
     match held.entries(alloc) {
@@ -79,16 +72,14 @@ fn written(alloc: Global, held: &Version, rows: Items<Row>) -> Result<Vec<u8>, M
 
 /// The end of a session that has answered its script.
 fn session_end(alloc: Global, session: Session) -> Result<End, Memory>
-    ensures status { IfOk result (λ end. end.status ≡ status_of (record { rows = session.rows } ∷ [])) }
-    ensures text { IfOk result (λ end. IsWritten (arc_value session.held) session.rows end.text.items) }
-    ensures laws { IfOk result (λ end. IsVersion (arc_value session.held)) }
+    ensures ends { IfOk result (λ end. IsSessionEnd (arc_value session.held) session.rows end.status end.text.items) }
     ensures low { IfOk result (λ end. end.status ≤ 3) }
 {
     session.held.laws();
     let status = status(session.rows.as_slice());
     let Session { held, rows } = session;
     let text = written(alloc, &held, rows);
-    discard_version(held);
+    Version::discard(held);
     match text {
         Ok(text) => Ok(End { status, text }),
         Err(Memory) => Err(Memory),

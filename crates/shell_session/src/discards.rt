@@ -1,12 +1,6 @@
 //! Values that are given up where a run ends: each is dropped at one place.
 
-use session_engine::{Snapshot, Version};
-use std::sync::Arc;
 use timing_defs::{Entry, Fault, Items, Query, Row, Script, Transcript};
-
-pub(crate) fn discard_version(_version: Arc<Version>) {}
-
-pub(crate) fn discard_snapshot(_snapshot: Snapshot) {}
 
 pub(crate) fn discard_query(_query: Option<Query>) {}
 

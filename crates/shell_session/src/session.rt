@@ -11,7 +11,7 @@ ghost use Rattle.script_reader.specs.Ecos.{has_eco};
 ghost use Rattle.shell_core.specs.Scripts.{has_looks};
 ghost use Rattle.shell_session.specs.Session.{Waits, Tells, Changes, Answers, IsRow, IsRun};
 
-use crate::discards::{discard_query, discard_rows, discard_snapshot, discard_version};
+use crate::discards::{discard_query, discard_rows};
 use session_engine::{Snapshot, Version, prepare};
 use sta_outside::Gate;
 use sta_units::{Memory, Steps};
@@ -73,7 +73,7 @@ fn ask(alloc: Global, held: &Arc<Version>, query: &Query) -> Result<Answer, Memo
 {
     let snapshot = Snapshot::of(held.clone()?);
     let answer = told(alloc, &snapshot, query);
-    discard_snapshot(snapshot);
+    snapshot.discard();
     answer
 }
 
@@ -94,11 +94,11 @@ fn change<H: Threads + Sync, G: Gate>(
     let mut steps: Steps<Evaluated> = Steps::none();
     match prepare(rt, alloc, &held, SESSION, eco, workers, gate, &mut steps) {
         Ok(next) => {
-            discard_version(held);
+            Version::discard(held);
             Ok((next, Answer::Accepted))
         }
         Err(Fault::Memory) => {
-            discard_version(held);
+            Version::discard(held);
             Err(Memory)
         }
         Err(fault) => Ok((held, Answer::Refused(fault))),
@@ -115,7 +115,7 @@ fn held_with(
     match answer {
         Ok(answer) => Ok((held, answer)),
         Err(Memory) => {
-            discard_version(held);
+            Version::discard(held);
             Err(Memory)
         }
     }
@@ -197,14 +197,13 @@ fn answered<H: Threads + Sync, G: Gate>(
             }
         },
         Err(Memory) => {
-            discard_version(held);
+            Version::discard(held);
             Err(Memory)
         }
     }
 }
 
 /// Answers the command at a place: its row stands behind the others.
-#[tactic(auto, using(crate::proofs::RunLaws::row_more))]
 fn step<H: Threads + Sync, G: Gate>(
     rt: &H,
     alloc: Global,
@@ -225,7 +224,7 @@ fn step<H: Threads + Sync, G: Gate>(
         Ok((held, row)) => match rows.push(row) {
             Ok(()) => Ok(held),
             Err(Memory) => {
-                discard_version(held);
+                Version::discard(held);
                 Err(Memory)
             }
         },
@@ -294,7 +293,7 @@ pub(crate) fn run<H: Threads + Sync, G: Gate>(
             }
         },
         Err(Memory) => {
-            discard_version(first);
+            Version::discard(first);
             Err(Memory)
         }
     }
