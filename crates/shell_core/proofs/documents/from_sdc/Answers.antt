@@ -3,11 +3,11 @@ use Rattle.shell_core.specs.Words.{run_words}
 use Rattle.shell_core.specs.Documents.{AreLast}
 use Rattle.shell_core.proofs.documents.from_sdc.Goals as goal
 
-pub returns-clause-value : goal.returns-clause-value
-returns-clause-value g c =
+pub returns-in-Ok-clause-value : goal.returns-in-Ok-clause-value
+returns-in-Ok-clause-value g c =
     let first = c.in_ok-constraints.ensures.value in
-    let last = c.in_ok-parasitics.ensures.value in (
+    let last = c.in-Ok.ensures.value in (
       first.0,
-      subst (λ docs. AreLast docs (run_words c.args.run.now) c.in_ok-parasitics.parasitics c.in_ok-parasitics.script) c.sdc.ensures.map last.0,
+      subst (λ docs. AreLast docs (run_words c.args.run.now) c.in-Ok.parasitics c.in-Ok.script) c.sdc.ensures.map last.0,
       last.1 ∙ first.1,
     )
