@@ -156,6 +156,11 @@ impl Graph {
         Graph::of(alloc, store)
     }
 
+    /// Gives the graph up.
+    pub fn discard(self) {
+        self.store.discard();
+    }
+
     /// What every graph keeps, told to the proofs of callers; the call does nothing.
     pub fn laws(&self)
         ensures { IsGraph self.now }
