@@ -1,9 +1,10 @@
 -- A store that is made of a linked design.
 
-use Rattle.std.proofs.Common.{◌≡◌, ◌≤◌, true, List, map, length, Some, ap, ◌∙◌}
+use Rattle.std.proofs.Common.{◌≡◌, ◌≤◌, ℕ, true, List, map, length, Some, ap, ◌∙◌}
 use Rattle.std.specs.List.{filter_map}
 use Rattle.std.proofs.lemmas.List.{length-map}
 use Rattle.timing_defs.specs.declared.netlist.Inst.{Inst}
+use Rattle.timing_defs.specs.declared.parasitics.NetRc.{NetRc}
 use Rattle.timing_defs.specs.declared.design.Design.{Design}
 use Rattle.timing_defs.specs.Netlist.{name_of, are_distinct}
 use Rattle.netlist_store.specs.declared.tables.Frame.{Frame}
@@ -62,6 +63,27 @@ new_from d frame held names rows orders same early late ports constraints insts 
   net_order = net_order;
   rc_order = rc_order;
 }
+
+-- a design as its frame and its lists make it
+abbrev pub whole : (frame : Frame) (nets : List (List ℕ)) (insts : List Inst) (rcs : List NetRc) → Design
+whole frame nets insts rcs =
+    record {
+      early = frame.early;
+      late = frame.late;
+      ports = frame.ports;
+      nets = nets;
+      insts = insts;
+      constraints = frame.constraints;
+      rcs = rcs;
+    }
+
+pub whole_is : (d : Design) (frame : Frame) → frame.early ≡ d.early → frame.late ≡ d.late → frame.ports ≡ d.ports → frame.constraints ≡ d.constraints
+    → whole frame d.nets d.insts d.rcs ≡ d
+whole_is d frame early late ports constraints =
+    ap (λ x. record d { early = x; late = frame.late; ports = frame.ports; constraints = frame.constraints }) early
+    ∙ ap (λ x. record d { late = x; ports = frame.ports; constraints = frame.constraints }) late
+    ∙ ap (λ x. record d { ports = x; constraints = frame.constraints }) ports
+    ∙ ap (λ x. record d { constraints = x }) constraints
 
 pub early_short : (d : Design) → IsLinked d → length d.early.cells ≤ 10000
 early_short d linked = short d.early linked.early

@@ -3,6 +3,7 @@
 ghost use Rattle.std.specs.Prelude.{◌≡◌, ◌++◌, ◌∷◌, [], true, false, find, is_some, None, Some, IfOk};
 ghost use Rattle.std.specs.List.{list_all};
 ghost use Rattle.std.specs.Option.{option_copied, option_map_or};
+ghost use Rattle.timing_defs.specs.declared.kinds.Dir.TheVariants.{Input, Output};
 ghost use Rattle.timing_defs.specs.declared.library.Cell.{Cell};
 ghost use Rattle.timing_defs.specs.declared.edits.Edit.TheVariants.{InsertBuffer};
 ghost use Rattle.timing_defs.specs.Netlist.{same_dir, is_listed};
@@ -37,6 +38,13 @@ fn pin_of_dir(cell: &Cell, dir: Dir) -> &CellPin
         Some(pin) => pin,
         None => unreachable!(),
     }
+}
+
+/// The names of the pins of a buffer.
+#[derive(Drop)]
+struct BufferEnds {
+    input: Name,
+    output: Name,
 }
 
 impl Store {
@@ -93,6 +101,46 @@ impl Store {
         Ok(name)
     }
 
+    /// The names of the pins of an instance of a buffer's cell.
+    fn buffer_ends(&self, alloc: Global, inst: &Name, cell: &Name) -> Result<BufferEnds, Memory>
+        requires { option_map_or is_buffer (cell_for self.now.design cell.now) false ≡ true }
+        ensures input { IfOk result (λ ends. (c : Cell) → cell_for self.now.design cell.now ≡ Some c → ends.input ≡ inst.now ++ 58 ∷ first_pin Input c) }
+        ensures output { IfOk result (λ ends. (c : Cell) → cell_for self.now.design cell.now ≡ Some c → ends.output ≡ inst.now ++ 58 ∷ first_pin Output c) }
+    {
+        let input = self.buffer_pin(alloc, inst, cell, Dir::Input)?;
+        let output = self.buffer_pin(alloc, inst, cell, Dir::Output)?;
+        Ok(BufferEnds { input, output })
+    }
+
+    /// The store with a new buffer between two nets, as the last instance; the buffer's pins by names.
+    fn with_ends_on(
+        self,
+        alloc: Global,
+        base: &Store,
+        net: &Name,
+        inst: &Name,
+        fresh: &Name,
+        cell: &Name,
+        ends: &BufferEnds,
+    ) -> Result<Store, Memory>
+        requires cell { option_map_or is_buffer (cell_for self.design cell.now) false ≡ true }
+        requires new { number_of self.insts inst.now ≡ None }
+        requires net { is_listed self.design.nets net.now ≡ true }
+        requires fresh { is_listed self.design.nets fresh.now ≡ true }
+        requires follows { FollowsAll base.now self }
+        requires input { (c : Cell) → cell_for self.design cell.now ≡ Some c → ends.now.input ≡ inst.now ++ 58 ∷ first_pin Input c }
+        requires output { (c : Cell) → cell_for self.design cell.now ≡ Some c → ends.now.output ≡ inst.now ++ 58 ∷ first_pin Output c }
+        ensures design { IfOk result (λ after. after.design ≡ record self.design { insts = self.design.insts ++ buffer_inst self.design net.now inst.now fresh.now cell.now ∷ [] }) }
+        ensures follows { IfOk result (λ after. FollowsAll base.now after) }
+    {
+        self.laws();
+        let gate = self.with_gate(alloc, base, inst, cell)?;
+        gate.laws();
+        let fed = gate.with_pin_on(alloc, &ends.input, net)?;
+        let done = fed.with_pin_on(alloc, &ends.output, fresh)?;
+        Ok(done)
+    }
+
     /// The store with a new buffer between two nets, as the last instance.
     fn with_buffer(
         self,
@@ -111,14 +159,13 @@ impl Store {
         ensures design { IfOk result (λ after. after.design ≡ record self.design { insts = self.design.insts ++ buffer_inst self.design net.now inst.now fresh.now cell.now ∷ [] }) }
         ensures follows { IfOk result (λ after. FollowsAll base.now after) }
     {
-        self.laws();
-        let input = self.buffer_pin(alloc, inst, cell, Dir::Input)?;
-        let output = self.buffer_pin(alloc, inst, cell, Dir::Output)?;
-        let gate = self.with_gate(alloc, base, inst, cell)?;
-        gate.laws();
-        let fed = gate.with_pin_on(alloc, &input, net)?;
-        let done = fed.with_pin_on(alloc, &output, fresh)?;
-        Ok(done)
+        match self.buffer_ends(alloc, inst, cell) {
+            Ok(ends) => self.with_ends_on(alloc, base, net, inst, fresh, cell, &ends),
+            Err(wanting) => {
+                self.discard();
+                Err(wanting)
+            }
+        }
     }
 
     /// A buffer comes into a net, and takes sinks over to a new net.

@@ -1,19 +1,19 @@
 //! ECOs on a store: all edits in order, or the first fault.
 
-ghost use Rattle.std.specs.Prelude.{◌≡◌, ◌∷◌, List, true, Ok, Err, IfOk, IfErr};
+ghost use Rattle.std.specs.Prelude.{◌≡◌, ◌∷◌, List, true, Ok, Err, IfOk, IfErr, OnOk};
 ghost use Rattle.timing_defs.specs.declared.edits.Edit.{Edit};
-ghost use Rattle.timing_defs.specs.Edits.{edit, edited};
+ghost use Rattle.timing_defs.specs.Edits.{edit, edited, edit_faults, first_fault, changed};
 ghost use Rattle.timing_defs.specs.Cones.{touched_list};
 ghost use Rattle.netlist_store.specs.Touching.{touched_with};
 ghost use Rattle.netlist_store.specs.Numbering.{KeepsNumbers};
 ghost use Rattle.netlist_store.specs.Linked.{IsSized};
 ghost use Rattle.timing_defs.specs.Documents.{is_eco, is_edit};
-ghost use Rattle.netlist_store.specs.Applying.{IsEdited, IsRefused};
+ghost use Rattle.netlist_store.specs.Applying.{IsChecked, IsEdited, IsRefused};
 ghost use Rattle.netlist_store.specs.Drafts.{FollowsAll};
 
 use crate::edit_checks::check_edit;
 use crate::stores::Store;
-use crate::tables::Names;
+use crate::tables::{Names, give_up_unnamed};
 use crate::touched::Touched;
 use sta_units::Memory;
 use std::alloc::Global;
@@ -25,10 +25,28 @@ impl Names {
         ensures { IfOk result (λ after. after ≡ self) }
     {
         let Names { insts, nets, pins } = self;
-        let insts = insts.settled()?;
-        let nets = nets.settled()?;
-        let pins = pins.settled()?;
-        Ok(Names { insts, nets, pins })
+        match insts.settled() {
+            Ok(insts) => match nets.settled() {
+                Ok(nets) => match pins.settled() {
+                    Ok(pins) => Ok(Names { insts, nets, pins }),
+                    Err(wanting) => {
+                        insts.discard();
+                        nets.discard();
+                        Err(wanting)
+                    }
+                },
+                Err(wanting) => {
+                    insts.discard();
+                    pins.discard();
+                    Err(wanting)
+                }
+            },
+            Err(wanting) => {
+                nets.discard();
+                pins.discard();
+                Err(wanting)
+            }
+        }
     }
 }
 
@@ -43,13 +61,28 @@ impl Store {
             rows,
             orders,
         } = self;
-        let names = names.settled()?;
-        Ok(Store {
-            frame,
-            names,
-            rows,
-            orders,
-        })
+        match names.settled() {
+            Ok(names) => Ok(Store {
+                frame,
+                names,
+                rows,
+                orders,
+            }),
+            Err(wanting) => {
+                give_up_unnamed(frame, rows, orders);
+                Err(wanting)
+            }
+        }
+    }
+
+    /// The first fault of an edit. What the edit touches is added where it has none.
+    fn checked(&self, alloc: Global, touched: &mut Touched, change: &Edit) -> Result<(), Fault>
+        ensures checked { IsChecked result (first_fault (edit_faults self.now.design change.now)) }
+        ensures touched { OnOk result ((edits : List Edit) → touched_with touched.new (changed self.now.design change.now) edits ≡ touched_with touched.old self.now.design (change.now ∷ edits)) }
+    {
+        check_edit(self, alloc, change)?;
+        touched.touch(alloc, self, change)?;
+        Ok(())
     }
 
     /// The store after one edit, or the edit's first fault. What the edit touches is added.
@@ -66,10 +99,16 @@ impl Store {
         ensures follows { IfOk result (λ after. FollowsAll base.now after) }
         ensures touched { IfOk result (λ after. (edits : List Edit) → touched_with touched.new after.design edits ≡ touched_with touched.old self.design (change.now ∷ edits)) }
     {
-        check_edit(&self, alloc, change)?;
-        touched.touch(alloc, &self, change)?;
-        let after = self.changed(alloc, base, change)?;
-        Ok(after)
+        match self.checked(alloc, touched, change) {
+            Ok(()) => {
+                let after = self.changed(alloc, base, change)?;
+                Ok(after)
+            }
+            Err(fault) => {
+                self.discard();
+                Err(fault)
+            }
+        }
     }
 
     /// The store after all edits in order, in which the numbers that became free wait, or the first fault.

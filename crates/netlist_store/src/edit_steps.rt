@@ -46,8 +46,13 @@ impl Store {
         ensures { IfOk result (λ after. after ≡ with_rcs self (with_rc rc.now self.design.rcs)) }
     {
         let number = self.known_net(net);
-        let copy = rc.again(alloc)?;
-        self.with_rc(alloc, copy, number)
+        match rc.again(alloc) {
+            Ok(copy) => self.with_rc(alloc, copy, number),
+            Err(wanting) => {
+                self.discard();
+                Err(wanting)
+            }
+        }
     }
 
     /// A net's parasitics are dropped.
@@ -162,11 +167,18 @@ impl Store {
         self.laws();
         let _ = base;
         let number = self.known_pin(pin);
-        let net = self.known_net_of(alloc, pin, number)?;
-        let from = self.known_net(&net);
-        let bare = self.without_rc(&net, from)?;
-        let after = bare.with_leave(alloc, pin, number)?;
-        Ok(after)
+        match self.known_net_of(alloc, pin, number) {
+            Ok(net) => {
+                let from = self.known_net(&net);
+                let bare = self.without_rc(&net, from)?;
+                let after = bare.with_leave(alloc, pin, number)?;
+                Ok(after)
+            }
+            Err(wanting) => {
+                self.discard();
+                Err(wanting)
+            }
+        }
     }
 
     /// The number of an instance that is there.

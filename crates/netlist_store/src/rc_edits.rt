@@ -11,7 +11,7 @@ ghost use Rattle.netlist_store.specs.Stores.{at};
 use crate::held::Held;
 use crate::row_edits::set_row;
 use crate::stores::Store;
-use crate::tables::{Frame, Names, Orders, Rows, row_at};
+use crate::tables::{Orders, give_up_unordered, row_at};
 use cow_table::CowTable;
 use sta_units::Memory;
 use std::alloc::Global;
@@ -54,13 +54,6 @@ impl Orders {
     }
 }
 
-/// Gives up what is left of a store whose orders are gone.
-fn give_up(frame: Held<Frame>, names: Names, rows: Rows) {
-    frame.discard();
-    names.discard();
-    rows.discard();
-}
-
 /// Writes the parasitics of a net.
 fn put_rc(
     rows: &mut CowTable<Option<Held<NetRc>>>,
@@ -99,12 +92,12 @@ impl Store {
                     orders,
                 }),
                 Err(wanting) => {
-                    give_up(frame, names, rows);
+                    give_up_unordered(frame, names, rows);
                     Err(wanting)
                 }
             },
             Err(wanting) => {
-                give_up(frame, names, rows);
+                give_up_unordered(frame, names, rows);
                 orders.discard();
                 Err(wanting)
             }
@@ -133,12 +126,12 @@ impl Store {
                     orders,
                 }),
                 Err(wanting) => {
-                    give_up(frame, names, rows);
+                    give_up_unordered(frame, names, rows);
                     Err(wanting)
                 }
             },
             Err(wanting) => {
-                give_up(frame, names, rows);
+                give_up_unordered(frame, names, rows);
                 orders.discard();
                 Err(wanting)
             }

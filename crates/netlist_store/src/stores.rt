@@ -1,12 +1,13 @@
 //! Stores, their copies and look-ups.
 
-ghost use Rattle.std.specs.Prelude.{◌≡◌, ◌<◌, ◌^◌, ℕ, true, false, None, length, count_by, nat_eq, is_some, option_and_then, option_map, if◌then◌else◌, IfOk, IfSome};
+ghost use Rattle.std.specs.Prelude.{◌≡◌, ◌<◌, ◌^◌, ℕ, true, false, None, length, count_by, map, nat_eq, is_some, option_and_then, option_map, if◌then◌else◌, IfOk, IfSome};
 ghost use Rattle.std.specs.Option.{option_copied};
-ghost use Rattle.timing_defs.specs.Netlist.{cell_named, cell_of, net_of};
+ghost use Rattle.timing_defs.specs.Netlist.{cell_named, cell_of, name_of, net_of};
 ghost use Rattle.timing_defs.specs.Wires.{rc_of};
 ghost use Rattle.timing_defs.specs.Names.{is_name};
 ghost use Rattle.timing_defs.specs.Edits.{inst_named, net_in_use};
 ghost use Rattle.netlist_store.specs.Numbering.{name_at, number_of, is_number, inst_numbered, pin_numbered, owner_number, net_number, is_on_number, IsNumbered};
+ghost use Rattle.netlist_store.specs.Building.{of_pins};
 ghost use Rattle.netlist_store.specs.Linked.{IsLinked, IsSized};
 ghost use Rattle.netlist_store.specs.Stores.{TellsInst, TellsPin};
 
@@ -17,7 +18,7 @@ use crate::tables::{Frame, Names, Orders, PinRow, Rows, row_at};
 use sta_units::Memory;
 use std::alloc::Global;
 use std::marker::Model;
-use timing_defs::{Cell, Constraints, Design, Dir, Inst, Name, NetRc, Port, Split};
+use timing_defs::{Cell, Constraints, Design, Dir, Inst, Items, Name, NetRc, Port, Split};
 
 /// A linked design with numbers for its instances, nets and pins. Contracts see the design and,
 /// for each kind, the list of the names that the numbers stand for, with gaps. A name keeps its
@@ -42,7 +43,80 @@ impl Model for Store {
     ghost invariant = { λ s. AreTables (stored_in s.frame s.names s.rows s.orders) s.rows s.orders };
 }
 
+/// The lists of a design, of which tables are made.
+#[derive(Drop)]
+struct Lists {
+    nets: Items<Name>,
+    insts: Items<Inst>,
+    rcs: Items<NetRc>,
+}
+
+impl Lists {
+    /// Gives the lists up.
+    fn discard(self) {}
+}
+
+/// Gives up a frame and names.
+fn give_up(frame: Held<Frame>, names: Names) {
+    frame.discard();
+    names.discard();
+}
+
 impl Store {
+    /// The store of a frame, names and lists that are of one linked design.
+    fn of_names(alloc: Global, frame: Frame, names: Names, lists: &Lists) -> Result<Store, Memory>
+        requires linked { IsLinked (record { early = frame.early; late = frame.late; ports = frame.ports; nets = lists.now.nets; insts = lists.now.insts; constraints = frame.constraints; rcs = lists.now.rcs }) }
+        requires insts { names.insts ≡ map Some (map (λ inst. inst.name) lists.now.insts) }
+        requires nets { names.nets ≡ map Some lists.now.nets }
+        requires pins { names.pins ≡ map Some (of_pins name_of frame.ports frame.late.cells lists.now.insts) }
+        ensures { IfOk result (λ store. store.design ≡ record { early = frame.early; late = frame.late; ports = frame.ports; nets = lists.now.nets; insts = lists.now.insts; constraints = frame.constraints; rcs = lists.now.rcs }) }
+    {
+        names.laws();
+        match rows_of(alloc, &frame, &names, &lists.insts, &lists.rcs) {
+            Ok(rows) => match orders_of(alloc, &names, &lists.rcs) {
+                Ok(orders) => match Held::of(alloc, frame) {
+                    Ok(frame) => Ok(Store {
+                        frame,
+                        names,
+                        rows,
+                        orders,
+                    }),
+                    Err(wanting) => {
+                        names.discard();
+                        rows.discard();
+                        orders.discard();
+                        Err(wanting)
+                    }
+                },
+                Err(wanting) => {
+                    frame.discard();
+                    names.discard();
+                    rows.discard();
+                    Err(wanting)
+                }
+            },
+            Err(wanting) => {
+                frame.discard();
+                names.discard();
+                Err(wanting)
+            }
+        }
+    }
+
+    /// The store of a frame and of lists that are of one linked design.
+    fn of_lists(alloc: Global, frame: Frame, lists: &Lists) -> Result<Store, Memory>
+        requires { IsLinked (record { early = frame.early; late = frame.late; ports = frame.ports; nets = lists.now.nets; insts = lists.now.insts; constraints = frame.constraints; rcs = lists.now.rcs }) }
+        ensures { IfOk result (λ store. store.design ≡ record { early = frame.early; late = frame.late; ports = frame.ports; nets = lists.now.nets; insts = lists.now.insts; constraints = frame.constraints; rcs = lists.now.rcs }) }
+    {
+        match names_of(alloc, &frame, &lists.nets, &lists.insts) {
+            Ok(names) => Store::of_names(alloc, frame, names, lists),
+            Err(wanting) => {
+                frame.discard();
+                Err(wanting)
+            }
+        }
+    }
+
     /// The store of a linked design, in time of its pins. It fails for want of memory alone.
     #[tactic(auto, using(crate::proofs::NewStores::store_ready))]
     pub fn of(alloc: Global, design: Design) -> Result<Store, Memory>
@@ -59,18 +133,18 @@ impl Store {
             constraints,
             rcs,
         } = design;
-        let frame = frame_of(alloc, early, late, ports, constraints)?;
-        let names = names_of(alloc, &frame, &nets, &insts)?;
-        names.laws();
-        let rows = rows_of(alloc, &frame, &names, &insts, &rcs)?;
-        let orders = orders_of(alloc, &names, &rcs)?;
-        let held = Held::of(alloc, frame)?;
-        Ok(Store {
-            frame: held,
-            names,
-            rows,
-            orders,
-        })
+        let lists = Lists { nets, insts, rcs };
+        match frame_of(alloc, early, late, ports, constraints) {
+            Ok(frame) => {
+                let made = Store::of_lists(alloc, frame, &lists);
+                lists.discard();
+                made
+            }
+            Err(wanting) => {
+                lists.discard();
+                Err(wanting)
+            }
+        }
     }
 
     /// Gives the store up.
@@ -92,15 +166,31 @@ impl Store {
         ensures { IfOk result (λ copy. copy ≡ self.now) }
     {
         let frame = self.frame.share()?;
-        let names = self.names.copy()?;
-        let rows = self.rows.copy()?;
-        let orders = self.orders.copy()?;
-        Ok(Store {
-            frame,
-            names,
-            rows,
-            orders,
-        })
+        match self.names.copy() {
+            Ok(names) => match self.rows.copy() {
+                Ok(rows) => match self.orders.copy() {
+                    Ok(orders) => Ok(Store {
+                        frame,
+                        names,
+                        rows,
+                        orders,
+                    }),
+                    Err(wanting) => {
+                        give_up(frame, names);
+                        rows.discard();
+                        Err(wanting)
+                    }
+                },
+                Err(wanting) => {
+                    give_up(frame, names);
+                    Err(wanting)
+                }
+            },
+            Err(wanting) => {
+                frame.discard();
+                Err(wanting)
+            }
+        }
     }
 
     /// What every store keeps, told to the proofs of callers; the call does nothing.

@@ -1,10 +1,9 @@
-use Rattle.std.proofs.Common.{◌≡◌, ap, sym, subst, ◌∙◌, map, true, false, ℕ, List, None, Some}
+use Rattle.std.proofs.Common.{ap, ◌∙◌, map, List, None}
 use Rattle.std.specs.Prelude.{if◌then◌else◌}
 use Rattle.std.specs.List.{list_any}
 use Rattle.std.specs.Option.{option_or}
 use Rattle.timing_defs.specs.declared.library.CellPin.{CellPin}
 use Rattle.timing_defs.specs.Netlist.{are_distinct}
-use Rattle.netlist_store.specs.Numbering.{number_of}
 use Rattle.netlist_store.specs.Drafts.{row_named, inst_row, row_among, is_lost}
 use Rattle.netlist_store.proofs.cell_edits.put_other_cell.Goals as goal
 

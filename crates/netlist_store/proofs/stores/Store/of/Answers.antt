@@ -1,22 +1,17 @@
-use Rattle.netlist_store.proofs.NewStores.{design_of, new_from, tables_of}
+use Rattle.std.proofs.Common.{◌≡◌, subst, sym}
+use Rattle.std.specs.Prelude.{IfOk}
+use Rattle.timing_defs.specs.declared.design.Design.{Design}
+use Rattle.netlist_store.specs.Numbering.{Stored}
+use Rattle.netlist_store.specs.Linked.{IsLinked}
+use Rattle.netlist_store.proofs.NewStores.{whole_is}
 use Rattle.netlist_store.proofs.stores.Store.of.Goals as goal
 
-pub invariant_of-result : goal.invariant_of-result
-invariant_of-result c =
-    tables_of c.args.design c.in_ok-held.held c.in_ok-names.names c.in_ok-rows.rows c.in_ok-orders.orders
-    (new_from c.args.design c.in_ok-frame.frame c.in_ok-held.held c.in_ok-names.names c.in_ok-rows.rows c.in_ok-orders.orders c.in_ok-held.ensures
-    c.in_ok-frame.ensures.early c.in_ok-frame.ensures.late c.in_ok-frame.ensures.ports c.in_ok-frame.ensures.constraints
-    c.in_ok-names.ensures.insts c.in_ok-names.ensures.nets c.in_ok-names.ensures.pins
-    c.in_ok-rows.ensures.insts c.in_ok-rows.ensures.rcs c.in_ok-rows.ensures.pins c.in_ok-rows.ensures.net_len c.in_ok-rows.ensures.net_pins
-    c.in_ok-orders.ensures.insts c.in_ok-orders.ensures.nets c.in_ok-orders.ensures.rcs)
-    c.requires.linked c.laws.ensures.insts c.laws.ensures.nets c.laws.ensures.pins
+pub of_lists-made-requires : goal.of_lists-made-requires
+of_lists-made-requires c =
+    subst (λ (d : Design). IsLinked d)
+    (sym (whole_is c.args.design c.in-Ok.frame c.in-Ok.ensures.early c.in-Ok.ensures.late c.in-Ok.ensures.ports c.in-Ok.ensures.constraints)) c.requires.linked
 
-pub returns : goal.returns
-returns c =
-    design_of c.args.design c.in_ok-held.held c.in_ok-names.names c.in_ok-rows.rows c.in_ok-orders.orders
-    (new_from c.args.design c.in_ok-frame.frame c.in_ok-held.held c.in_ok-names.names c.in_ok-rows.rows c.in_ok-orders.orders c.in_ok-held.ensures
-    c.in_ok-frame.ensures.early c.in_ok-frame.ensures.late c.in_ok-frame.ensures.ports c.in_ok-frame.ensures.constraints
-    c.in_ok-names.ensures.insts c.in_ok-names.ensures.nets c.in_ok-names.ensures.pins
-    c.in_ok-rows.ensures.insts c.in_ok-rows.ensures.rcs c.in_ok-rows.ensures.pins c.in_ok-rows.ensures.net_len c.in_ok-rows.ensures.net_pins
-    c.in_ok-orders.ensures.insts c.in_ok-orders.ensures.nets c.in_ok-orders.ensures.rcs)
-    c.requires.linked
+pub returns-in-Ok : goal.returns-in-Ok
+returns-in-Ok c =
+    subst (λ (d : Design). IfOk c.of_lists-made.result (λ (s : Stored). s.design ≡ d))
+    (whole_is c.args.design c.in-Ok.frame c.in-Ok.ensures.early c.in-Ok.ensures.late c.in-Ok.ensures.ports c.in-Ok.ensures.constraints) c.of_lists-made.ensures

@@ -15,11 +15,11 @@ with_rc-requires c =
     let k = and_parts (bytes_eq c.args.rc.now.net c.args.net.now) (is_net_rc c.args.rc.now) c.requires.edit in
     record {
       number =
-          ap (λ (r : NetRc). number_of c.args.self.nets r.net) c.in_ok-copy.ensures ∙ ap (number_of c.args.self.nets) (same_is c.args.rc.now.net c.args.net.now k.0)
+          ap (λ (r : NetRc). number_of c.args.self.nets r.net) c.in-Ok.ensures ∙ ap (number_of c.args.self.nets) (same_is c.args.rc.now.net c.args.net.now k.0)
           ∙ c.known_net-number.ensures;
-      amounts = ap is_net_rc c.in_ok-copy.ensures ∙ k.1;
+      amounts = ap is_net_rc c.in-Ok.ensures ∙ k.1;
     }
 
-pub returns : goal.returns
-returns c =
-    subst (λ (r : NetRc). IfOk c.with_rc.result (λ (after : Stored). after ≡ with_rcs c.args.self (with_rc r c.args.self.design.rcs))) c.in_ok-copy.ensures c.with_rc.ensures
+pub returns-in-Ok : goal.returns-in-Ok
+returns-in-Ok c =
+    subst (λ (r : NetRc). IfOk c.with_rc.result (λ (after : Stored). after ≡ with_rcs c.args.self (with_rc r c.args.self.design.rcs))) c.in-Ok.ensures c.with_rc.ensures

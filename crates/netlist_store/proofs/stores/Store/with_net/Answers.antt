@@ -1,4 +1,4 @@
-use Rattle.std.proofs.Common.{◌≤◌, ap, sym, subst, ◌∙◌, Some, List, ℕ, ◌∷◌, [], ◌++◌, length, arith}
+use Rattle.std.proofs.Common.{◌≤◌, ap, sym, subst, ◌∙◌, List, ℕ, ◌∷◌, [], ◌++◌, length, arith}
 use Rattle.std.specs.Prelude.{is_some}
 use Rattle.netlist_store.specs.declared.tables.Names.{Names}
 use Rattle.netlist_store.specs.Numbering.{Stored, number_of, with_name, AreKept}
