@@ -16,5 +16,7 @@ pub(crate) fn name(rt: &impl Abort, alloc: Global, text: &str) -> Name {
 pub(crate) fn one<T: Drop>(rt: &impl Abort, alloc: Global, item: T) -> Items<T>
     ensures { result ≡ item ∷ [] }
 {
-    Items::from_vec(vec![in alloc; item].expect(rt, "memory"))
+    let mut items = Items::new(alloc);
+    items.push(item).expect(rt, "memory");
+    items
 }

@@ -6,8 +6,8 @@ use sta_units::Unit;
 use std::alloc::Global;
 use std::process::Abort;
 use timing_defs::{
-    Clock, Constraints, Derates, Effect, Exception, Items, Object, PortDelay, PortLoad, PortSlew,
-    ReadFault, Split, Tran, Units,
+    Clock, Constraints, Derates, Effect, Exception, Items, Name, Object, PortDelay, PortLoad,
+    PortSlew, ReadFault, Split, Tran, Units,
 };
 
 /// The code, the place and the text of each row, in ps and fF.
@@ -199,40 +199,26 @@ fn show_load(rt: &impl Abort, alloc: Global, out: &mut Vec<u8>, load: &PortLoad)
     show(rt, out, b"; ");
 }
 
-fn show_object(rt: &impl Abort, out: &mut Vec<u8>, object: &Object) {
+/// The sort of an object, and its name.
+fn object_words(object: &Object) -> (&'static [u8], &Name) {
     match object {
-        Object::Clock(name) => {
-            show_word(rt, out, b"clock");
-            show_word(rt, out, name.as_bytes())
-        }
-        Object::Port(name) => {
-            show_word(rt, out, b"port");
-            show_word(rt, out, name.as_bytes())
-        }
-        Object::Pin(name) => {
-            show_word(rt, out, b"pin");
-            show_word(rt, out, name.as_bytes())
-        }
-        Object::Cell(name) => {
-            show_word(rt, out, b"cell");
-            show_word(rt, out, name.as_bytes())
-        }
-        Object::Any(name) => {
-            show_word(rt, out, b"any");
-            show_word(rt, out, name.as_bytes())
-        }
+        Object::Clock(name) => (b"clock", name),
+        Object::Port(name) => (b"port", name),
+        Object::Pin(name) => (b"pin", name),
+        Object::Cell(name) => (b"cell", name),
+        Object::Any(name) => (b"any", name),
     }
 }
 
 fn show_objects(rt: &impl Abort, out: &mut Vec<u8>, word: &[u8], objects: &Option<Items<Object>>) {
-    match objects {
-        Some(objects) => {
-            show_word(rt, out, word);
-            for object in objects.as_slice() {
-                show_object(rt, out, object);
-            }
-        }
-        None => {}
+    let Some(objects) = objects else {
+        return;
+    };
+    show_word(rt, out, word);
+    for object in objects.as_slice() {
+        let (sort, name) = object_words(object);
+        show_word(rt, out, sort);
+        show_word(rt, out, name.as_bytes());
     }
 }
 
