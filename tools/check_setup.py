@@ -4,8 +4,8 @@
 It lists, each with a count and some names: commands of the SDC that are not read, all in one run; clocks without registers; registers
 without a clock; inputs without a delay; endpoints without a test; undriven nets and open inputs; nets without parasitics, and parasitics
 that do not fit their net; arcs whose early delay exceeds the late one; derates that are crossed; exceptions that match nothing; timing
-types that are passed over; sections of the SPEF that are. Exit status 1 where it finds something, 0 where it does not; lines that begin
-with `note` are no findings.
+types that are passed over; sections of the SPEF that are. Exit status 1 where it finds something, 0 where it does not, 2 where a file cannot
+be read; lines that begin with `note` are no findings.
 
   --program FILE   ask this program (./lizdrog, say) for the slack of each endpoint, and list those without a tested path
   --all            list all names, not the first ten
@@ -14,6 +14,7 @@ It reads the documents itself, in a plain way, and proves nothing.
 import argparse
 import os
 import pathlib
+import re
 import subprocess
 import sys
 import tempfile
@@ -40,6 +41,7 @@ LEFT_OUT = {"create_generated_clock", "set_clock_latency", "set_case_analysis", 
 BETWEEN = {it: 1 for it in ("-through", "-from", "-to", "-rise_from", "-fall_from", "-rise_to", "-fall_to")}
 LEFT_OUT_OPTIONS = {"-through", "-clock_fall", "-add_delay"}
 GETTERS = {"get_ports", "get_clocks", "get_pins", "get_cells"}
+UNITS = {"-time": r"(10|100|1|1\.0)?ps|(1|1\.0)?ns", "-capacitance": r"(1|1\.0)?(fF|pF)"}
 KNOWN_TYPES = {"recovery_rising", "recovery_falling", "removal_rising", "removal_falling", "preset", "clear", "three_state_enable",
                "three_state_disable", "three_state_enable_rise", "three_state_enable_fall", "three_state_disable_rise",
                "three_state_disable_fall", "skew_rising", "skew_falling", "min_pulse_width", "minimum_period", "max_clock_tree_path",
@@ -121,6 +123,8 @@ FORMS = {"create_clock": (["objects"], None, None), "set_input_delay": (["number
 
 
 def number_faults(word, least, most):
+    if word.text.startswith("$"):
+        return
     value = documents.numbers([word.text], 1) if word.sort == "plain" else []
     if not value or not word.text.strip() or least is not None and value[0] < least or most is not None and value[0] > most:
         yield word.text, "S4"
@@ -163,11 +167,31 @@ def clock_faults(command, plain, clocks):
     if period is None or label is None:
         yield "-period, or a name, is missing", "S1"
     else:
-        yield from ((word, code) for word, code in number_faults(period, 1e-12, None))
+        yield from number_faults(period, 1e-12, None)
+        yield from waveform_faults(command, documents.numbers([period.text], 1))
     if label is not None:
         clocks.setdefault(label, ports[0] if ports else None)
         if len(clocks) == 9:
             yield "a ninth clock", "S6"
+
+
+def waveform_faults(command, period):
+    """What is wrong with the edges of a clock: they are two, the second less than a period behind the first."""
+    word = command.after("-waveform")
+    if word is None:
+        return
+    edges = documents.numbers(word.names, 1)
+    if word.sort != "list" or len(word.names) != 2:
+        yield f"-waveform {word.text}", "S1"
+    elif len(edges) != 2 or period and not 0 <= edges[0] < edges[1] < edges[0] + period[0]:
+        yield f"-waveform {word.text}", "S4"
+
+
+def unit_faults(command):
+    for option, form in UNITS.items():
+        word = command.after(option)
+        if command.has(option) and (word is None or not re.fullmatch(form, word.text)):
+            yield f"{option} {word.text if word else ''}".strip(), "S1"
 
 
 def sdc_faults(text, commands, file):
@@ -180,7 +204,10 @@ def sdc_faults(text, commands, file):
         if name in READ:
             for word, code in dict.fromkeys([*option_faults(command), *form_faults(command, clocks)]):
                 yield f"{shown} {word} ({code})"
-        elif name == "set_units" or name in PASSED_OVER or name == "set" and command.words and command.words[0].text == "sdc_version":
+        elif name == "set_units":
+            for word, code in unit_faults(command):
+                yield f"{shown} {word} ({code})"
+        elif name in PASSED_OVER or name == "set" and command.words and command.words[0].text == "sdc_version":
             continue
         elif name == "set" or name.startswith(("$", "[", "{")):
             yield f"{shown} {command.words[0].text if command.words else ''} (Tcl is not run)"
@@ -290,7 +317,8 @@ def check_nets(findings, joined):
             missing.setdefault(instance.cell, []).append(instance.name)
             continue
         unknown += [f"{instance.name}:{pin} ({instance.cell})" for pin in instance.nets if pin not in cell.pins]
-        open_inputs += [f"{instance.name}:{pin}" for pin, (way, _) in cell.pins.items() if way == "input" and pin not in instance.nets]
+        open_inputs += [f"{instance.name}:{pin}" for pin, (way, _) in cell.pins.items()
+                        if way == "input" and instance.nets.get(pin) is None and pin not in instance.tied]
     findings.add("cells that the late library lacks (E3)", sorted(f"{cell} ({len(names)} instances, first {names[0]})" for cell, names in missing.items()))
     findings.add("connections to pins that the cell lacks (E4)", unknown)
     findings.add("inputs of instances that are left open", open_inputs)
@@ -375,31 +403,49 @@ def is_crossed(early, late, arc, factors):
 
 # ------------------------------------------------------------------------------------------------ exceptions and endpoints
 
-def matches_nothing(joined, constraints, network, word, option):
-    """Names of an object word that match no path, with why."""
-    ports, made = joined.netlist.ports, joined.netlist.instances
+def has_pin(joined, pin):
+    """Whether there is this pin of an instance, connected or not; a cell that is not known may have any."""
+    instance = joined.netlist.instances.get(pin.rpartition(":")[0])
+    cell = joined.library.cells.get(instance.cell) if instance else None
+    return instance is not None and (cell is None or pin.rpartition(":")[2] in cell.pins)
+
+
+def kind_of(joined, constraints, word, name):
+    """What a name stands for: by its word, else the first of these that is there; none where nothing is."""
+    if word.sort in GETTERS:
+        return word.sort[4:-1]
+    there = {"clock": name in constraints.clocks, "port": name in joined.netlist.ports, "pin": has_pin(joined, documents.pin_word(name)),
+             "cell": name in joined.netlist.instances}
+    return next((kind for kind, is_there in there.items() if is_there), None)
+
+
+def why_unmatched(joined, network, kind, name, option):
+    """Why a port, pin or instance matches no path; none where it may match one."""
+    ports, pin, made = joined.netlist.ports, documents.pin_word(name), joined.netlist.instances.get(name)
+    cell = joined.library.cells.get(made.cell) if made else None
+    if kind == "pin" and ":" not in pin:
+        return "a pin is instance/pin (S1)"
+    if not {"port": name in ports, "pin": has_pin(joined, pin), "cell": made is not None}.get(kind, False):
+        return "not there (E13)"
+    if kind == "port":
+        return None if ports[name] == ("input" if option == "-from" else "output") else "a port of the wrong direction (E13)"
+    if kind == "pin" and option == "-from":
+        return None if pin in network else "no path is launched there; name the register's clock pin"
+    if kind == "pin":
+        return None if pin in joined.endpoints_as_set() else "no endpoint"
+    if cell and option == "-from" and not any(f"{name}:{it}" in network for it in cell.pins):
+        return "no clock reaches this instance"
+    return "this instance has no data pin" if cell and option == "-to" and not cell.data_pins() else None
+
+
+def unmatched(joined, constraints, network, command, option):
+    """The objects of an option of an exception that match no path, with why."""
+    word = command.after(option)
     for name in names_of(word):
-        pin = documents.pin_word(name)
-        instance = made.get(name)
-        cell = joined.library.cells.get(instance.cell) if instance else None
-        if word.sort == "get_clocks":
-            if name not in constraints.clocks:
-                yield f"{name}: no such clock"
-        elif word.sort == "get_pins" or word.sort != "get_cells" and ":" in pin and pin in joined.net_of and name not in constraints.clocks and name not in ports:
-            if option == "-from" and pin not in network:
-                yield f"{name}: no path is launched there; name the register's clock pin"
-            elif option == "-to" and pin not in joined.endpoints_as_set():
-                yield f"{name}: no endpoint"
-        elif cell is not None and name not in constraints.clocks and name not in ports:
-            if option == "-from" and not any(f"{name}:{it}" in network for it in cell.pins):
-                yield f"{name}: no clock reaches this instance"
-            elif option == "-to" and not cell.data_pins():
-                yield f"{name}: this instance has no data pin"
-        elif name in ports and name not in constraints.clocks:
-            if ports[name] != ("input" if option == "-from" else "output"):
-                yield f"{name}: a port of the wrong direction (E13)"
-        elif name not in constraints.clocks and cell is None and pin not in joined.net_of:
-            yield f"{name}: not there (E13)"
+        kind = kind_of(joined, constraints, word, name)
+        why = why_unmatched(joined, network, kind, name, option) if kind != "clock" else None if name in constraints.clocks else "no such clock"
+        if why:
+            yield f"{command.name} {option} {name}: {why}"
 
 
 def check_exceptions(findings, joined, constraints, network, text, file):
@@ -408,8 +454,7 @@ def check_exceptions(findings, joined, constraints, network, text, file):
         line, _ = documents.line_and_column(text, command.offset)
         if command.name in ("set_false_path", "set_multicycle_path"):
             for option in ("-from", "-to"):
-                word = command.after(option)
-                empty += [f"{file}:{line}: {command.name} {option} {it}" for it in matches_nothing(joined, constraints, network, word, option)] if word else []
+                empty += [f"{file}:{line}: {it}" for it in unmatched(joined, constraints, network, command, option)]
         elif command.name in READ and command.name not in ("set_timing_derate", "set_clock_uncertainty"):
             words = plain_words(command)[0 if command.name == "create_clock" else 1:]
             way = "output" if command.name in ("set_output_delay", "set_load") else "input"
@@ -444,7 +489,8 @@ def check_endpoints(findings, program, files, joined):
         findings.count += 1
         return
     for kind in ("setup", "hold"):
-        untested = [f"{pin}{' (no clock reaches it)' if said.startswith('no ') else ''}" for (pin, asked), said in answers.items()
+        why = {"no Q3": f" (it has no {kind} test, or no clock reaches it)"}
+        untested = [pin + why.get(said[:5], "") for (pin, asked), said in answers.items()
                     if asked == kind and (said == "none" or said.startswith("no "))]
         findings.add(f"endpoints without a tested {kind} path, by the program", untested)
 
@@ -458,13 +504,10 @@ def main():
     parser.add_argument("--program")
     parser.add_argument("--all", action="store_true")
     given = parser.parse_args()
-    try:
-        text, netlist = documents.read_text(given.sdc), documents.Netlist(documents.read_text(given.netlist))
-        same = os.path.samefile(given.early, given.late)
-        late = documents.Library(documents.read_text(given.late))
-        early = late if same else documents.Library(documents.read_text(given.early))
-    except OSError as why:
-        sys.exit(f"check_setup: {why}")
+    text, netlist = documents.read_text(given.sdc), documents.Netlist(documents.read_text(given.netlist))
+    same = os.path.samefile(given.early, given.late)
+    late = documents.Library(documents.read_text(given.late))
+    early = late if same else documents.Library(documents.read_text(given.early))
     findings, joined = Findings(given.all), documents.Joined(netlist, late)
     commands = documents.read_commands(text)
     constraints = Constraints(commands)
@@ -486,4 +529,4 @@ def main():
 
 
 if __name__ == "__main__":
-    sys.exit(main())
+    documents.run_tool("check_setup", main)

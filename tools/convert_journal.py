@@ -101,6 +101,8 @@ def main():
     parser.add_argument("--first", type=int, default=1)
     parser.add_argument("--last", type=int)
     given = parser.parse_args()
+    if given.first < 1:
+        parser.error("entries are counted from 1")
     try:
         entries = read_journal(documents.read_text(given.output))
     except (ValueError, IndexError) as why:
@@ -111,4 +113,4 @@ def main():
 
 
 if __name__ == "__main__":
-    main()
+    documents.run_tool("convert_journal", main)

@@ -4,7 +4,9 @@ They are plain and forgiving: what they do not know they pass over. They are no 
 is accepted, and what it means, the program alone says.
 """
 import decimal
+import os
 import re
+import sys
 
 RISE, FALL = "rise", "fall"
 TURNED = {RISE: FALL, FALL: RISE}
@@ -14,6 +16,20 @@ def read_text(name):
     """The text of a file, one character for each byte, so that places are counted in bytes."""
     with open(name, "rb") as file:
         return file.read().decode("latin-1")
+
+
+def run_tool(name, main):
+    """Runs a tool and ends it: with 2 and a sentence where a file cannot be read, quietly where nobody reads on."""
+    try:
+        status = main()
+        sys.stdout.flush()
+    except BrokenPipeError:
+        os.dup2(os.open(os.devnull, os.O_WRONLY), 1)
+        sys.exit(1)
+    except OSError as why:
+        print(f"{name}: {why.filename}: {why.strerror}", file=sys.stderr)
+        sys.exit(2)
+    sys.exit(status)
 
 
 def line_and_column(text, offset):
@@ -250,8 +266,10 @@ VERILOG_TOKEN = re.compile(r"//[^\n]*|/\*.*?\*/|\(\*(?!\)).*?\*\)|^`[^\n]*|\\(\S
 
 
 class Instance:
+    """An instance with the nets of its pins: none for one that is open or tied to a constant."""
+
     def __init__(self, name, cell, offset):
-        self.name, self.cell, self.offset, self.nets = name, cell, offset, {}
+        self.name, self.cell, self.offset, self.nets, self.tied = name, cell, offset, {}, set()
 
 
 class Netlist:
@@ -319,6 +337,8 @@ class Netlist:
                 self.take()
                 pin = self.take()[1]
                 self.take()
+                if self.tokens[self.place:self.place + 1] and self.tokens[self.place][0] == 3:
+                    made.tied.add(pin)
                 made.nets[pin] = self.connection()
             else:
                 self.take()
@@ -523,7 +543,7 @@ class Spef:
             self.at += 1
         elif section in PASSED_OVER:
             self.passed_over[section] = self.passed_over.get(section, 0) + 1
-            if word.startswith("*") and not word[1:].isdigit() and word not in ("*C", "*L", "*S", "*D", "*N", "*I", "*P"):
+            if re.match(r"\*[A-Za-z_]", word) and word not in ("*C", "*L", "*S", "*D", "*N", "*I", "*P"):
                 self.odd_words.append((word, offset, section))
         elif section is None:
             self.header(word)

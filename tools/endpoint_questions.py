@@ -33,4 +33,4 @@ def main():
 
 
 if __name__ == "__main__":
-    main()
+    documents.run_tool("endpoint_questions", main)

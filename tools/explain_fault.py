@@ -95,6 +95,8 @@ def hints(role, code, place, text, line):
         return ["  the file is compressed (gzip), which is not read: in bash, give <(zcat FILE) in its place"]
     if text.startswith("\xef\xbb\xbf"):
         return ["  the file begins with a byte order mark, which is not read: take its first three bytes away"]
+    if text.startswith(("\xff\xfe", "\xfe\xff")):
+        return ["  the file is UTF-16, which is not read: iconv -f UTF-16 -t ASCII FILE"]
     for pattern, kind, roles in KINDS:
         if re.match(pattern, COMMENTS.sub("", text[:100000])) and role.rstrip("0123456789") not in roles:
             return [f"  the file looks like {kind}, and stands in the place of {role}: the order is run {ORDER}"]
@@ -137,25 +139,27 @@ PINS = {"report_slew", "report_at", "report_rat", "report_slack"}
 KIND_WORDS = {"report_wns": 1, "report_tns": 1, "report_endpoint": 2, "report_path": 2, "report_worst": 2}
 EDITS = {"repower_gate": 2, "insert_gate": 2, "remove_gate": 1, "insert_net": 1, "remove_net": 1, "connect_pin": 2, "disconnect_pin": 1}
 OTHERS = {"take": 0, "await": 2, "begin_eco": 0, "commit_eco": 0}
+LONGEST_LINE = 65536
 
 
 def script_hints(code, line):
     """Why a line of a script is no command, where that can be seen in the line."""
     words = line.split()
     name = words[0] if words else ""
+    if code == "C2":
+        return [f"this line has {len(line)} bytes"] if len(line) > LONGEST_LINE else []
     if "\r" in line:
         return ["the line ends with CR LF; lines of a script end with a line feed alone: tr -d '\\r' <SCRIPT"]
     if any(it > "~" for it in line):
         return ["the line has a byte above 127: a script is ASCII, comments too"]
-    if "#" in line and not name.startswith("#"):
+    if any(it.startswith("#") and not (name == "set_parasitics" and it[1:].isdigit()) for it in words[1:]):
         return ["a comment stands in a line of its own: behind a command # begins none"]
-    if ";" in line:
+    if any(it.endswith(";") for it in words):
         return ["a line has one command: ; ends none"]
-    if code == "C2":
-        return []
     counts = {**{it: 3 for it in PINS}, **KIND_WORDS, **EDITS, **OTHERS}
     if name in counts and len(words) - 1 != counts[name]:
-        return [f"{name} takes {counts[name]} words, and here are {len(words) - 1}: see docs/SCRIPTS.md"]
+        here = "is 1" if len(words) == 2 else f"are {len(words) - 1}"
+        return [f"{name} takes {counts[name]} word{'' if counts[name] == 1 else 's'}, and here {here}: see docs/SCRIPTS.md"]
     if name in PINS and (words[2] not in ("early", "late") or words[3] not in ("rise", "fall")):
         return [f"{name} takes a pin, then early or late, then rise or fall"]
     if name in KIND_WORDS and words[2 if name in ("report_endpoint", "report_path") else 1] not in ("setup", "hold"):
@@ -166,9 +170,15 @@ def script_hints(code, line):
         return ["await takes a number of a design, then a number of looks from 1 to 1000"]
     if name in ("begin_eco", "commit_eco"):
         return ["a group has edits alone, at least one, and its end: begin_eco, edits, commit_eco"]
-    if name in counts or name in ("insert_buffer", "set_parasitics"):
+    if name in ("journal", "entry", "session", "final"):
+        return ["this is the output of a run, not a script: tools/convert_journal.py makes a script of its journal"]
+    if name == "set_parasitics":
+        return ["set_parasitics takes a net, and then none, or items `c NODE AF` and `r NODE NODE MO`: AF and MO are whole numbers up to 10^12"]
+    if name == "insert_buffer":
+        return ["insert_buffer takes a net, a new instance, a new net, a cell, and the sinks that move, at least one"]
+    if name in counts:
         return [f"the words of {name} do not fit, or it stands in a group of edits that allows no report: see docs/SCRIPTS.md"]
-    return [f"there is no command {name}: docs/SCRIPTS.md has all"] if name else []
+    return [f"there is no command {name[:60]}: docs/SCRIPTS.md has all"] if name else []
 
 
 DELAY = "a delay needs -clock"
@@ -187,21 +197,65 @@ def sdc_hints(code, text, place):
         return ["there are no patterns: name each object"]
     if code == "S3" and word in FORMS:
         return [FORMS[word]]
+    if code == "S5":
+        before = [it.after("-name") or it.words[-1] for it in documents.read_commands(text[:place]) if it.name == "create_clock" and it.words]
+        names = [name for word in before for name in word.names[:1]]
+        return [f"the clocks before this place: {', '.join(names[:8]) or 'none'}"
+                + (' (a " is a part of a name, not around it)' if any('"' in it for it in names) else "")]
     return [] if code not in ("S1", "S2", "S3") else [
         "docs/INPUT.md has what is read of SDC; tools/check_setup.py lists all lines that are not, in one run"]
 
 
+VARIABLES = {"input_net_transition", "total_output_net_capacitance", "related_pin_transition", "constrained_pin_transition"}
+MOST_ENTRIES = 64
+
+
+def index_hints(group, template):
+    """What is wrong with the axes of a table, and how many values they ask for."""
+    asked, told = 1, []
+    for number in (1, 2, 3):
+        variable = template.simple.get(f"variable_{number}")
+        if variable is None:
+            continue
+        if number == 3 or variable not in VARIABLES:
+            told.append(f"its template has the variable_{number} {variable}, which is not read")
+        words = group.complex.get(f"index_{number}") or template.complex.get(f"index_{number}") or []
+        found = split_numbers(words)
+        told += number_hints(f"index_{number}", found)
+        if not found or len(found) > MOST_ENTRIES:
+            told.append(f"index_{number} has {len(found)} entries, and 1 to {MOST_ENTRIES} are read")
+        asked *= len(found)
+    return told, asked
+
+
+def split_numbers(words):
+    return [it for word in words for it in re.split(r"[,\s]+", word) if it]
+
+
+def number_hints(name, words):
+    """Words of a list of numbers that are none, or that no document may have."""
+    for word in words:
+        if not re.fullmatch(r"[-+]?(\d+\.?\d*|\.\d+)([eE][-+]?\d+)?", word):
+            return [f"in {name} the word `{word}` is no number"]
+        if sum(it.isdigit() for it in re.split("[eE]", word)[0]) > 30 or abs(float(word)) > 1e12:
+            return [f"in {name} the number {word} is out of range"]
+    return []
+
+
 def table_hints(text, place):
     """What is wrong with a table of a library."""
-    group = next((it for it in groups_of(documents.read_groups(text)) if it.offset == place), None)
+    root = documents.read_groups(text)
+    group = next((it for it in groups_of(root) if it.offset == place), None)
     if group is None:
         return []
-    for name, words in group.complex.items():
-        for word in re.split(r"[,\s]+", " ".join(words)):
-            if word and not re.fullmatch(r"[-+]?(\d+\.?\d*|\.\d+)([eE][-+]?\d+)?", word):
-                return [f"in {name} the word `{word}` is no number"]
-    found = [it for word in group.complex.get("values", []) for it in re.split(r"[,\s]+", word) if it]
-    return [f"the table has {len(found)} values; its template {group.args[0] if group.args else ''} and indexes ask for another number, or a variable is not read"]
+    name = group.args[0] if group.args else "scalar"
+    template = next((it for it in root.named("lu_table_template") if name in it.args), documents.Group("", [], 0))
+    told, asked = index_hints(group, template)
+    values = split_numbers(group.complex.get("values", []))
+    told += number_hints("values", values)
+    if len(values) != asked and not told:
+        told.append(f"the table has {len(values)} values, and its template {name} with the indexes asks for {asked}")
+    return told or [f"the variables of its template {name} are not those of such a table, or a number is out of range in its unit"]
 
 
 def groups_of(group):

@@ -181,6 +181,8 @@ def main():
     parser.add_argument("--functions", nargs="+", metavar="CRATE")
     parser.add_argument("--above", type=float, default=20.0)
     given = parser.parse_args()
+    if given.table and not os.path.isfile(given.table):
+        parser.error(f"there is no file {given.table}")
     if given.functions:
         sys.exit(0 if all([functions(name, given.above) for name in given.functions]) else 1)
     print_table(read(given.table) if given.table else watch(given.out, given.under))

@@ -66,4 +66,4 @@ def main():
 
 
 if __name__ == "__main__":
-    main()
+    documents.run_tool("net_parasitics", main)

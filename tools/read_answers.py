@@ -22,7 +22,7 @@ import sys
 import design_documents as documents
 import explain_fault
 
-QUESTIONS = {"Q1": "there is no such pin", "Q2": "it is no endpoint", "Q3": "no clock reaches this register for a test of this kind"}
+QUESTIONS = {"Q1": "there is no such pin", "Q2": "it is no endpoint", "Q3": "the register has no test of this kind that a clock reaches"}
 
 
 # ------------------------------------------------------------------------------------------------ the script and the output
@@ -396,4 +396,4 @@ def main():
 
 
 if __name__ == "__main__":
-    main()
+    documents.run_tool("read_answers", main)

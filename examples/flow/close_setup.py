@@ -115,4 +115,4 @@ def main():
 
 
 if __name__ == "__main__":
-    sys.exit(main())
+    documents.run_tool("close_setup", main)

@@ -135,6 +135,7 @@ FINDINGS = [
     ("an output without a delay", {"sdc": WHOLE.replace("set_output", "# set_output")}, "q: early and late"),
     ("an undriven net", {"netlist": NETLIST.replace(".Z(n2)", ".Z(n22)")}, "1 nets without a driver\n  n2 (r2:D)"),
     ("an open input", {"netlist": NETLIST.replace(".D(n2), ", "")}, "1 inputs of instances that are left open\n  r2:D"),
+    ("an input that is open by words", {"netlist": NETLIST.replace(".D(n2)", ".D()")}, "1 inputs of instances that are left open\n  r2:D"),
     ("a register without a clock", {"netlist": NETLIST.replace("r2 (.D(n2), .CK(clk)", "r2 (.D(n2), .CK(nc)")}, "1 registers without a clock", "r2 (DFF)"),
     ("parasitics of another netlist", {"spef": SPEF.replace("*3 r2", "*3 r9")}, "n2: r9:D not on the net"),
     ("a mistyped section", {"spef": SPEF.replace("*D_NET", "*PORTS\nclk I\n*d_net")}, "words that begin with * and are passed over", "*d_net behind *PORTS"),
@@ -143,6 +144,7 @@ FINDINGS = [
     ("derates crossed", {"sdc": WHOLE + "set_timing_derate -early 1.1\nset_timing_derate -late 0.9\n"}, "cell delays: early 1.1, late 0.9"),
     ("a false path from a register's output", {"sdc": WHOLE + "set_false_path -from [get_pins r1/Q]\nset_false_path -to [get_pins g1/A]\n"},
      "top.sdc:4: set_false_path -from r1/Q: no path is launched there", "top.sdc:5: set_false_path -to g1/A: no endpoint"),
+    ("a pin that is not there", {"sdc": WHOLE + "set_false_path -to [get_pins r9/D] -from [get_pins d]\n"}, "-to r9/D: not there (E13)", "-from d: a pin is instance/pin (S1)"),
     ("a port that is not there", {"sdc": WHOLE + "set_load 1 zz\n"}, "top.sdc:4: set_load: zz"),
 ]
 
@@ -178,6 +180,9 @@ class SetUp(unittest.TestCase):
         status, out, _ = self.check()
         self.assertEqual((status, out), (1, "4 nets without parasitics\n  clk\n  d\n  n1\n  q\ncheck_setup: 4 findings\n"))
 
+    def test_a_tied_input_is_not_open(self):
+        self.assertNotIn("left open", self.check(netlist=NETLIST.replace(".D(n2)", ".D(1'b0)"))[1])
+
     def test_nothing(self):
         common.write_documents(self.folder)
         status, out, _ = common.tool("check_setup", "early.lib", "late.lib", "top.v", "top.sdc", "none", cwd=self.folder)
@@ -192,6 +197,13 @@ class SetUp(unittest.TestCase):
 
 
 class Helps(unittest.TestCase):
+    def test_files_that_are_not_there(self):
+        for tool, *words in [("check_setup", *"abcde"), ("read_answers", *"ab"), ("convert_journal", "a"), ("net_parasitics", *"ab"), ("endpoint_questions", *"ab")]:
+            with self.subTest(tool):
+                status, _, err = common.tool(tool, *words, cwd=tempfile.gettempdir())
+                self.assertEqual(status, 2)
+                self.assertRegex(err, f"^{tool}: [a-e]: No such file or directory\n$")
+
     def test_each_tool_has_help(self):
         for tool in sorted(common.TOOLS.glob("*.py")):
             if tool.read_text().startswith("#!"):
