@@ -1,6 +1,6 @@
 -- What is known of a script that was read.
 
-use Rattle.std.specs.Prelude.{ℕ, ◌≡◌, ◌≤◌, nat_le, Bool, true, length, ⊤}
+use Rattle.std.specs.Prelude.{◌≡◌, ◌≤◌, nat_le, Bool, true, length, ⊤}
 use Rattle.std.specs.List.{All, list_all}
 use Rattle.timing_defs.specs.declared.scripts.Command.{Command}
 use Rattle.timing_defs.specs.declared.scripts.Command.TheVariants.{Take, Await, Ask, Change}

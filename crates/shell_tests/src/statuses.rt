@@ -1,6 +1,10 @@
 //! Each status of a run, and what is written with it.
 
 use crate::running::{Texts, run};
+use shell_session::Status;
+use std::alloc::Global;
+use std::process::Abort;
+use std::thread::Threads;
 
 const LIBRARY: &str = "library (a) { time_unit : \"1ps\"; capacitive_load_unit (1, ff);
  cell (INV) { pin (A) { direction : input; capacitance : 2; }
@@ -43,60 +47,81 @@ session 1 rows 6
 final 1 setup none 0.000 hold none 0.000
 ";
 
+const ANSWER: &str =
+    "journal 1 0\nsession 1 rows 1\n1 0 slew 4.000\nfinal 0 setup none 0.000 hold none 0.000\n";
+
+const REFUSAL: &str =
+    "journal 1 0\nsession 1 rows 1\n1 0 no Q1 zz\nfinal 0 setup none 0.000 hold none 0.000\n";
+
+const SILENCE: &str = "journal 1 0\nsession 1 rows 0\nfinal 0 setup none 0.000 hold none 0.000\n";
+
+const ABSENT: &str = "run a.lib x.lib a.v empty none 1 s1";
+
+const PARASITICS: &str = "run a.lib a.lib a.v empty a.v 1 s1";
+
+const ZZ: &str = "report_slew zz early fall";
+
+/// The words of a run, its netlist and its script, at which call the shelf fails (0: at none), the room of the sink, the status, and
+/// what the run writes.
+type Row = (
+    &'static str,
+    &'static str,
+    &'static str,
+    u64,
+    usize,
+    Status,
+    &'static str,
+);
+
+const ROWS: [Row; 15] = [
+    (RUN, NETLIST, SLEW, 0, 1000, 0, ANSWER),
+    (RUN, NETLIST, ZZ, 0, 1000, 1, REFUSAL),
+    (RUN, NETLIST, "", 0, 1000, 0, SILENCE),
+    (RUN, BEHIND, SLEW, 0, 1000, 0, ANSWER),
+    (RUN, NETLIST, EDITS, 0, 1000, 1, ANSWERS),
+    (RUN, NETLIST, "tack", 0, 1000, 3, "fault script1 C1 1\n"),
+    (RUN, "", SLEW, 0, 1000, 3, "fault netlist V5 0\n"),
+    (PARASITICS, NETLIST, SLEW, 0, 1000, 3, "fault spef P1 0\n"),
+    (RUN, UNKNOWN, SLEW, 0, 1000, 3, "fault design E3 NOCELL\n"),
+    (RUN, TWICE, SLEW, 0, 1000, 3, "fault design E10 out\n"),
+    ("", NETLIST, SLEW, 0, 1000, 2, "fault words\n"),
+    ("run", NETLIST, SLEW, 0, 1000, 2, "fault words\n"),
+    (
+        ABSENT,
+        NETLIST,
+        SLEW,
+        0,
+        1000,
+        4,
+        "fault shelf x.lib absent\n",
+    ),
+    (RUN, NETLIST, SLEW, 1, 1000, 4, "fault shelf a.lib failed\n"),
+    (RUN, NETLIST, SLEW, 0, 5, 5, "journ"),
+];
+
+/// Compares a row with what its run ends with.
+fn compare<H: Abort + Threads + Sync>(rt: &H, alloc: Global, row: &Row) {
+    let (line, netlist, script, fails, room, status, text) = *row;
+    let mut texts = Texts::new(alloc);
+    let documents = [
+        ("a.lib", LIBRARY),
+        ("a.v", netlist),
+        ("empty", ""),
+        ("s1", script),
+    ];
+    texts.add(rt, alloc, &documents);
+    let (ended, written) = run(rt, alloc, line, texts, &[fails], room);
+    assert_eq!(rt; ended, status, "at {line} with {script}");
+    assert_eq!(rt;
+        written.as_slice(),
+        text.as_bytes(),
+        "at {line} with {script}"
+    );
+}
+
 #[test]
 fn a_run_ends_with_its_status_and_its_text(rt: HostRuntime) {
-    let answer =
-        "journal 1 0\nsession 1 rows 1\n1 0 slew 4.000\nfinal 0 setup none 0.000 hold none 0.000\n";
-    let refusal =
-        "journal 1 0\nsession 1 rows 1\n1 0 no Q1 zz\nfinal 0 setup none 0.000 hold none 0.000\n";
-    let silence = "journal 1 0\nsession 1 rows 0\nfinal 0 setup none 0.000 hold none 0.000\n";
-    let absent = "run a.lib x.lib a.v empty none 1 s1";
-    let parasitics = "run a.lib a.lib a.v empty a.v 1 s1";
-    let zz = "report_slew zz early fall";
-    let rows = [
-        (RUN, NETLIST, SLEW, 0, 1000, 0, answer),
-        (RUN, NETLIST, zz, 0, 1000, 1, refusal),
-        (RUN, NETLIST, "", 0, 1000, 0, silence),
-        (RUN, BEHIND, SLEW, 0, 1000, 0, answer),
-        (RUN, NETLIST, EDITS, 0, 1000, 1, ANSWERS),
-        (RUN, NETLIST, "tack", 0, 1000, 3, "fault script1 C1 1\n"),
-        (RUN, "", SLEW, 0, 1000, 3, "fault netlist V5 0\n"),
-        (parasitics, NETLIST, SLEW, 0, 1000, 3, "fault spef P1 0\n"),
-        (RUN, UNKNOWN, SLEW, 0, 1000, 3, "fault design E3 NOCELL\n"),
-        (RUN, TWICE, SLEW, 0, 1000, 3, "fault design E10 out\n"),
-        ("", NETLIST, SLEW, 0, 1000, 2, "fault words\n"),
-        ("run", NETLIST, SLEW, 0, 1000, 2, "fault words\n"),
-        (
-            absent,
-            NETLIST,
-            SLEW,
-            0,
-            1000,
-            4,
-            "fault shelf x.lib absent\n",
-        ),
-        (RUN, NETLIST, SLEW, 1, 1000, 4, "fault shelf a.lib failed\n"),
-        (RUN, NETLIST, SLEW, 0, 5, 5, "journ"),
-    ];
-    let alloc = rt.alloc();
-    for (line, netlist, script, fails, room, status, text) in rows {
-        let mut texts = Texts::new(alloc);
-        texts.add(
-            &rt,
-            alloc,
-            &[
-                ("a.lib", LIBRARY),
-                ("a.v", netlist),
-                ("empty", ""),
-                ("s1", script),
-            ],
-        );
-        let (ended, written) = run(&rt, alloc, line, texts, &[fails], room);
-        assert_eq!(rt; ended, status, "at {line} with {script}");
-        assert_eq!(rt;
-            written.as_slice(),
-            text.as_bytes(),
-            "at {line} with {script}"
-        );
+    for row in &ROWS {
+        compare(&rt, rt.alloc(), row);
     }
 }
