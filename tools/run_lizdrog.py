@@ -197,7 +197,9 @@ def run(program, words):
     return (status if written else 5), first
 
 
-def usage():
+def usage(why):
+    if why:
+        say(why)
     print(__doc__.strip(), file=sys.stderr)
 
 
@@ -215,12 +217,24 @@ def arguments(words):
     return given, words
 
 
-def is_command(words):
-    """Whether the words may be a command: what is surely none shall not start a build. The program judges the rest."""
-    if not words or words[0] not in LEAST_WORDS or len(words) <= LEAST_WORDS[words[0]]:
-        return False
+def misfit(words):
+    """Why the words are surely no command, so that they start no build; none where the program has to judge them."""
+    if not words or words[0] not in LEAST_WORDS:
+        return f"there is no command {words[0]}" if words else "a command is missing"
+    least = LEAST_WORDS[words[0]]
+    if len(words) <= least:
+        return f"{words[0]} takes {least} words, and here are {len(words) - 1}"
     is_plain = words[0] == "run" and not any(it.startswith("-") for it in words)
-    return not is_plain or re.fullmatch(r"[0-9]{1,20}", words[6]) is not None and 1 <= int(words[6]) <= 32
+    if is_plain and not (re.fullmatch(r"[0-9]{1,20}", words[6]) and 1 <= int(words[6]) <= 32):
+        return f"WORKERS, the sixth word, is a number from 1 to 32, and here it is {words[6]}"
+    return None
+
+
+def doubts(words):
+    """What is seen of words that the program took for no command."""
+    if any(it.startswith("-") for it in words):
+        return "no name of a document begins with -: standard input is /dev/stdin"
+    return "run takes one script so far" if words[0] == "run" and len(words) > LEAST_WORDS["run"] + 1 else "these words are no command"
 
 
 def serve(given, words):
@@ -237,7 +251,7 @@ def serve(given, words):
         say(f"this program was built without proof, of the sources as they stand; `rt ci` in {TOP} proves them and builds it")
     status, first = run(program, words)
     if status == 2:
-        usage()
+        usage(doubts(words))
     for line in explain_fault.explain(status, first.decode("latin-1"), words):
         print(line, file=sys.stderr)
     return status
@@ -253,9 +267,10 @@ def main():
         version()
         return 0
     asks_build = given["build"] and words == []
-    if words is None or not (asks_build or is_command(words)):
+    why = None if words is None or asks_build else misfit(words)
+    if words is None or why:
         written = write_all(b"fault words\n")
-        usage()
+        usage(why)
         return 2 if written else 5
     try:
         return serve(given, words)
