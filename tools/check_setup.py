@@ -347,12 +347,9 @@ def misfit(joined, parasitics):
     strange = parasitics.named_pins() - pins
     if strange:
         return f"{net.name}: {', '.join(sorted(strange)[:3])} not on the net"
-    if not parasitics.ress:
-        return None
-    ends = {it for row in parasitics.ress for it in row[:2]}
-    if pins - ends:
-        return f"{net.name}: no resistor at {', '.join(sorted(pins - ends)[:3])}"
-    return f"{net.name}: {len(parasitics.ress)} resistors over {len(ends)} nodes are no tree" if len(parasitics.ress) != len(ends) - 1 else None
+    if parasitics.ress and pins - parasitics.ends():
+        return f"{net.name}: no resistor ends at {', '.join(sorted(pins - parasitics.ends())[:3])}"
+    return f"{net.name}: {parasitics.misshape()}" if parasitics.misshape() else None
 
 
 def check_libraries(findings, early, late, netlist, derates, same):

@@ -512,6 +512,22 @@ class SpefNet:
     def named_pins(self):
         return {node for node in self.nodes() if not node.startswith("#")}
 
+    def ends(self):
+        """The nodes at which a resistor ends."""
+        return {node for row in self.ress for node in row[:2]}
+
+    def misshape(self):
+        """Why the resistors cannot be a tree, as far as counts tell; none where they may be one, or where there are none."""
+        count, ends = len(self.ress), self.ends()
+        bare = self.nodes() - ends
+        if not count:
+            return None
+        if bare:
+            return f"{'no resistor ends at the node' if len(bare) == 1 else 'no resistors end at the nodes'} {', '.join(sorted(bare)[:6])}"
+        if count >= len(ends):
+            return f"{count} resistors join {len(ends)} nodes, so there is a loop of resistors"
+        return f"{count} resistors cannot join {len(ends)} nodes, so some are not reached from the driver" if count < len(ends) - 1 else None
+
 
 class Spef:
     """The nets of a SPEF text by name, and how much of each passed-over section there was."""

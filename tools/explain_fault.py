@@ -108,6 +108,8 @@ def hints(role, code, place, text, line):
         return [f"  {it}" for it in table_hints(text, place)]
     if code == "L1" and place >= len(text):
         return [f"  {it}" for it in bracket_hints(text)]
+    if code == "L2" and has_ended(text[:place]):
+        return ["  the library's own group ends before this place: a closing bracket too many stands before it"]
     if code == "V1":
         return ["  what is wrong may stand before it: a ; or a ) that is missing"]
     if code in ("P1", "P4"):
@@ -122,6 +124,12 @@ def row_hints(text, place):
     if before and before[0].isdigit() and not re.fullmatch(r"[-+]?[\d.][\d.eE:+-]*", before[-1]):
         return [f"the row before ends with {before[-1]}, which is no number and was taken for a node, so that its value was looked for here"]
     return []
+
+
+def has_ended(text):
+    """Whether the outermost group of a library has begun and ended in this part of the text."""
+    marks = [mark for sort, mark, _ in documents.liberty_tokens(text) if sort == "mark" and mark in "{}"]
+    return bool(marks) and marks.count("{") <= marks.count("}")
 
 
 def bracket_hints(text):
@@ -313,13 +321,13 @@ def explain_net(code, net, words):
         parasitics = documents.Spef(text).nets.get(net)
         if found and parasitics:
             pins, named = {*found.drivers, *found.sinks}, parasitics.named_pins()
-            ends = {it for row in parasitics.ress for it in row[:2]}
+            ends = parasitics.ends()
             if named - pins:
-                told.append(f"they name {', '.join(sorted(named - pins)[:6])}, which {'is' if len(named - pins) == 1 else 'are'} not on the net")
+                told.append(f"its parasitics name {', '.join(sorted(named - pins)[:6])}, which {'is' if len(named - pins) == 1 else 'are'} not on the net")
             if parasitics.ress and pins - ends:
                 told.append(f"no resistor ends at {', '.join(sorted(pins - ends)[:6])}, which {'is' if len(pins - ends) == 1 else 'are'} on the net")
-            if code == "E14" and parasitics.ress and len(parasitics.ress) >= len(ends):
-                told.append(f"{len(parasitics.ress)} resistors join {len(ends)} nodes, so there is a loop of resistors")
+            if code == "E14" and parasitics.misshape():
+                told.append(parasitics.misshape())
     return told
 
 
@@ -354,6 +362,8 @@ def place_of(code, what, words):
         text = documents.read_text(words[5])
         net = documents.Spef(text).nets.get(what)
         return words[5], text, net.offset if net else None
+    if code == "E17" and what in ("pins", "insts", "nets"):
+        return words[3], "", None
     netlist = documents.Netlist(documents.read_text(words[3]))
     if code == "E3":
         found = next((it for it in netlist.instances.values() if it.cell == what), None)

@@ -138,6 +138,7 @@ FINDINGS = [
     ("an input that is open by words", {"netlist": NETLIST.replace(".D(n2)", ".D()")}, "1 inputs of instances that are left open\n  r2:D"),
     ("a register without a clock", {"netlist": NETLIST.replace("r2 (.D(n2), .CK(clk)", "r2 (.D(n2), .CK(nc)")}, "1 registers without a clock", "r2 (DFF)"),
     ("parasitics of another netlist", {"spef": SPEF.replace("*3 r2", "*3 r9")}, "n2: r9:D not on the net"),
+    ("parasitics that are no tree", {"spef": SPEF.replace("1 *1:1 2.5", "1 *1:7 2.5")}, "n2: no resistor ends at the node #7"),
     ("a mistyped section", {"spef": SPEF.replace("*D_NET", "*PORTS\nclk I\n*d_net")}, "words that begin with * and are passed over", "*d_net behind *PORTS"),
     ("a mistyped type of a test", {"early": LIBRARY.replace("setup_rising", "setup_risng"), "late": LIBRARY.replace("setup_rising", "setup_risng")}, "setup_risng in 1 cells, first DFF"),
     ("libraries exchanged", {"early": LIBRARY.replace('"10, 30"', '"11, 31"')}, "arcs whose early delay exceeds the late one", "BUF A rise Z rise"),
