@@ -260,12 +260,12 @@ def as_data(commands, output, edited):
 
 
 def print_csv(commands, output):
-    """One line for each row and for each line below it: command, design, question, answer, pin, edge, time."""
+    """One line for each row, or for each edge or line below it: command, design, question, answer, pin or clock, edge, time."""
     out = csv.writer(sys.stdout, lineterminator="\n")
     out.writerow(["command", "design", "question", "answer", "pin", "edge", "time"])
     for row in output.rows:
         head = [row.command, row.design, commands[row.command - 1].text(), row.sort]
-        if row.sort in ("at", "rat"):
+        if row.sort in ("at", "rat") and len(row.words) > 1:
             for i in range(1, len(row.words) - 2, 3):
                 out.writerow([*head, row.words[i], row.words[i + 1], row.words[i + 2]])
         elif row.below:
@@ -273,7 +273,8 @@ def print_csv(commands, output):
                 out.writerow([*head, line[0], line[1] if len(line) == 3 else "", line[-1]])
         else:
             is_time = row.sort in ("slew", "slack", "endpoint", "wns", "tns") and row.words[0] != "none"
-            out.writerow([*head, "" if is_time else " ".join(row.words), "", row.words[0] if is_time else ""])
+            said = "" if is_time else "none" if row.words == ["0"] else " ".join(row.words)
+            out.writerow([*head, said, "", row.words[0] if is_time else ""])
 
 
 # ------------------------------------------------------------------------------------------------ slacks of endpoints

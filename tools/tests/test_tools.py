@@ -68,6 +68,12 @@ class Answers(unittest.TestCase):
         rows = self.read("--csv").split("\n")
         self.assertEqual(rows[:2], ["command,design,question,answer,pin,edge,time", "1,0,report_endpoint r2:D setup,endpoint,,,-2.350"])
 
+    def test_csv_has_each_row(self):
+        (self.folder / "s.eco").write_text("report_at a:Z late rise\nreport_rat a:Z late rise\nreport_worst hold 3\nreport_path a:D hold\n")
+        rows = "1 0 at 0\n2 0 rat 2 clk rise 1.000 clk fall 2.000\n3 0 worst 0\n4 0 path none\n"
+        (self.folder / "out").write_text(f"journal 1 0\nsession 1 rows 4\n{rows}final 0 setup none 0.000 hold none 0.000\n")
+        self.assertEqual([it.split(",")[0] for it in self.read("--csv").split("\n")[1:-1]], ["1", "2", "2", "3", "4"])
+
     def test_failing_and_histogram(self):
         out = self.read("--failing", "--histogram", "--svg", "bars.svg")
         self.assertIn("setup, design 0: 1 of 3 endpoints that were asked fail\n        -2.350 ps  r2:D\n", out)
