@@ -149,17 +149,22 @@ def form_faults(command, clocks):
         if name not in clocks and command.name != "create_clock":
             yield f"{name}: no such clock before", "S5"
     if command.name == "create_clock":
-        yield from clock_faults(command, plain, clocks)
+        yield from clock_faults(command, clocks)
     elif command.name == "set_multicycle_path":
         wrong = "-start" if not command.has("-hold") else "-end"
         if command.has(wrong) and (command.has("-setup") or command.has("-hold") or wrong == "-start"):
             yield f"{wrong} beside {'-setup' if wrong == '-start' else '-hold'}", "S1"
 
 
-def clock_faults(command, plain, clocks):
+def clock_of(command):
+    """The name of a clock, its port's where it has none of its own, and its ports."""
+    ports, name = [it for word in plain_words(command) for it in word.names], command.after("-name")
+    return name.text if name else ports[0] if ports else None, ports
+
+
+def clock_faults(command, clocks):
     """What is wrong with a clock; a new one is added to those before."""
-    ports, name, period = [it for word in plain for it in word.names], command.after("-name"), command.after("-period")
-    label = name.text if name else ports[0] if ports else None
+    (label, ports), period = clock_of(command), command.after("-period")
     if len(ports) > 1:
         yield "a clock on several ports", "S3"
     elif label in clocks or ports and ports[0] in clocks.values():
@@ -235,9 +240,7 @@ class Constraints:
                 self.derate(command)
 
     def clock(self, command):
-        objects, name = plain_words(command), command.after("-name")
-        ports = [it for word in objects for it in names_of(word)]
-        label = name.text if name else ports[0] if ports else None
+        label, ports = clock_of(command)
         if label:
             self.clocks[label] = ports[0] if ports else None
 
@@ -378,9 +381,7 @@ def check_libraries(findings, early, late, netlist, derates, same):
 
 
 def differences(early, late):
-    parts = [("pins", {(name, way) for name, (way, _) in early.pins.items()}, {(name, way) for name, (way, _) in late.pins.items()}),
-             ("arcs", set(early.arcs), set(late.arcs)), ("tests", set(early.tests), set(late.tests))]
-    return [f"other {what}" for what, one, other in parts if one != other]
+    return [f"other {what}s" for what, one in early.parts().items() if one != late.parts()[what]]
 
 
 def is_crossed(early, late, arc, factors):

@@ -182,6 +182,10 @@ class Cell:
     def data_pins(self):
         return {test[0] for test in self.tests}
 
+    def parts(self):
+        """What has to be the same in both libraries."""
+        return {"pin": {(name, way) for name, (way, _) in self.pins.items()}, "arc": set(self.arcs), "test": set(self.tests)}
+
 
 class Library:
     """The cells of a Liberty text by name, with the units in fs and aF."""
@@ -496,6 +500,7 @@ SECTIONS = {"*NAME_MAP", "*PORTS", "*PHYSICAL_PORTS", "*POWER_NETS", "*GROUND_NE
             "*DEFINE", "*PDEFINE", "*VARIATION_PARAMETERS"}
 PASSED_OVER = {"*PORTS", "*PHYSICAL_PORTS", "*POWER_NETS", "*GROUND_NETS"}
 PARTS = {"*CONN", "*CAP", "*RES", "*END", "*INDUC"}
+SPEF_VALUE = re.compile(r"[-+]?[\d.][\d.eE:+-]*")
 CAP_UNITS, RES_UNITS = {"PF": 1000000, "FF": 1000}, {"OHM": 1000, "KOHM": 1000000}
 
 
@@ -640,7 +645,7 @@ class Spef:
             net.ress.append((self.node(self.word(1), net.name), self.node(self.word(2), net.name), self.value(self.word(3), self.res_unit)))
             self.at += 4
         elif part == "*CAP":
-            two = not re.fullmatch(r"[-+]?[\d.][\d.eE:+-]*", self.word(2))
+            two = not SPEF_VALUE.fullmatch(self.word(2))
             nodes = [self.node(self.word(it), net.name) for it in ((1, 2) if two else (1,))]
             net.caps.append((nodes, self.value(self.word(3 if two else 2), self.cap_unit)))
             self.at += 4 if two else 3

@@ -121,7 +121,7 @@ def row_hints(text, place):
     """Whether the row of a SPEF before the fault ends with a word that is no number."""
     lines = text[:place].split("\n")
     before = lines[-2].split() if len(lines) > 1 else []
-    if before and before[0].isdigit() and not re.fullmatch(r"[-+]?[\d.][\d.eE:+-]*", before[-1]):
+    if before and before[0].isdigit() and not documents.SPEF_VALUE.fullmatch(before[-1]):
         return [f"the row before ends with {before[-1]}, which is no number and was taken for a node, so that its value was looked for here"]
     return []
 
@@ -300,8 +300,8 @@ def explain_cell(cell, words):
 def differences(early, late):
     """What one of two cells has and the other lacks."""
     told = []
-    pins = [{(name, way) for name, (way, _) in it.pins.items()} for it in (early, late)]
-    for what, one, other in (("pin", *pins), ("arc", set(early.arcs), set(late.arcs)), ("test", set(early.tests), set(late.tests))):
+    for what, one in early.parts().items():
+        other = late.parts()[what]
         for here, there, only in (("early", "late", one - other), ("late", "early", other - one)):
             if only:
                 some = ", ".join(" ".join(it) for it in sorted(only)[:3]) + (" .." if len(only) > 3 else "")

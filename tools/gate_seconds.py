@@ -188,4 +188,5 @@ def main():
     print_table(read(given.table) if given.table else watch(given.out, given.under))
 
 
-main()
+if __name__ == "__main__":
+    main()
