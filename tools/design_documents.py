@@ -4,6 +4,7 @@ They are plain and forgiving: what they do not know they pass over. They are no 
 is accepted, and what it means, the program alone says.
 """
 import decimal
+import itertools
 import os
 import re
 import sys
@@ -276,6 +277,12 @@ class Instance:
         self.name, self.cell, self.offset, self.nets, self.tied = name, cell, offset, {}, set()
 
 
+def bits_of(first, last):
+    """The bits of a range, from its first to its last, at most as many as a design may have."""
+    step = 1 if last >= first else -1
+    return [f"[{it}]" for it in itertools.islice(range(first, last + step, step), 200001)]
+
+
 class Netlist:
     """A structural module: ports with directions, instances with the nets of their pins, and declared nets."""
 
@@ -322,10 +329,9 @@ class Netlist:
             if self.look() in ("input", "output") and end == ")":
                 break
             sort, word, offset = self.take()
-            if word == "[" and self.look(1) == ":" and sort == 5:
-                first, last = int(self.take()[1]), int((self.take(), self.take())[1][1])
-                self.take()
-                span = [f"[{it}]" for it in range(first, last + (1 if last >= first else -1), 1 if last >= first else -1)][:200001]
+            if word == "[" and sort == 5 and self.look(1) == ":" and self.look().isdigit() and self.look(2).isdigit():
+                span = bits_of(int(self.look()), int(self.look(2)))
+                self.place += 4
             elif sort in (1, 2) and word != "wire":
                 for bit in span:
                     self.declared.setdefault(word + bit, offset)
