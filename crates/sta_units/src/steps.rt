@@ -23,6 +23,9 @@ impl<L> Model for Steps<L> {
     ghost view = { λ steps. steps.count.n };
 }
 
+// It owns nothing, and no value of `L`.
+unsafe impl<L> Send for Steps<L> {}
+
 impl<L> Steps<L> {
     ghost use Rattle.std.specs.Prelude.{◌≡◌, ◌+◌};
 

@@ -1,7 +1,7 @@
 -- The printed codes of the faults of reading.
 use Rattle.std.specs.Prelude.{ℕ, List, codes}
 use Rattle.timing_defs.specs.declared.codes.Code.{Code}
-use Rattle.timing_defs.specs.declared.codes.Code.TheVariants.{LibertyUnbalanced, LibertyBadToken, LibertyEncoding, LibertyBadUnit, LibertyUnknownTemplate, LibertyBadTable, LibertyDoubleName, LibertyIndexNotRising, LibertyOtherDelayModel, LibertyTooMany, VerilogBadToken, VerilogLeftOut, VerilogUndeclared, VerilogDoubleName, VerilogNoModule, VerilogTooMany, SdcBadWord, SdcUnknownCommand, SdcLeftOut, SdcBadNumber, SdcUnknownClock, SdcTooManyClocks, SpefBadHeader, SpefUnknownName, SpefLeftOut, SpefBadNumber, SpefDoubleNet, ScriptBadCommand, ScriptTooLong, JournalBadLine, JournalBadNumber, JournalVersion, JournalOtherDerates, NotBuilt}
+use Rattle.timing_defs.specs.declared.codes.Code.TheVariants.{LibertyUnbalanced, LibertyBadToken, LibertyEncoding, LibertyBadUnit, LibertyUnknownTemplate, LibertyBadTable, LibertyDoubleName, LibertyIndexNotRising, LibertyOtherDelayModel, LibertyTooMany, VerilogBadToken, VerilogLeftOut, VerilogUndeclared, VerilogDoubleName, VerilogNoModule, VerilogTooMany, SdcBadWord, SdcUnknownCommand, SdcLeftOut, SdcBadNumber, SdcUnknownClock, SdcTooManyClocks, SpefBadHeader, SpefUnknownName, SpefLeftOut, SpefBadNumber, SpefDoubleNet, ScriptBadCommand, ScriptTooLong, JournalBadLine, JournalBadNumber, JournalVersion, JournalOtherDerates}
 
 -- The bytes that are printed for a code.
 abbrev pub code_text : Code → List ℕ
@@ -38,4 +38,3 @@ code_text JournalBadLine = codes "J1"
 code_text JournalBadNumber = codes "J2"
 code_text JournalVersion = codes "J3"
 code_text JournalOtherDerates = codes "J5"
-code_text NotBuilt = codes "N1"

@@ -95,6 +95,10 @@ is_effect FalseHold = true
 is_effect (CyclesSetup n) = nat_le 1 n && nat_le n 1000
 is_effect (CyclesHold n) = nat_le n 1000
 
+-- factors that change nothing, in millionths
+abbrev pub no_derates : Derates
+no_derates = record { early_cell = 1000000; late_cell = 1000000; early_net = 1000000; late_net = 1000000 }
+
 -- factors up to 10, in millionths
 abbrev pub are_derates : Derates → Bool
 are_derates f =

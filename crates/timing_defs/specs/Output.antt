@@ -37,7 +37,7 @@ use Rattle.timing_defs.specs.declared.faults.Place.TheVariants.{Pin as pin_place
 use Rattle.timing_defs.specs.declared.faults.Large.{Large}
 use Rattle.timing_defs.specs.declared.faults.Large.TheVariants.{Pins, Insts, Nets, Net as large_net}
 use Rattle.timing_defs.specs.declared.faults.Fault.{Fault}
-use Rattle.timing_defs.specs.declared.faults.Fault.TheVariants.{UnknownInstance, UnknownNet, UnknownCell, UnknownPin as unknown_pin, NameTaken, PinsDiffer, AlreadyConnected, NotConnected, InUse, ManyDrivers, Loop, ClockNotTree, ConstraintDangling, RcNotTree, RcPinsDiffer, OutOfRange, TooLarge, Memory, NotBuilt}
+use Rattle.timing_defs.specs.declared.faults.Fault.TheVariants.{UnknownInstance, UnknownNet, UnknownCell, UnknownPin as unknown_pin, NameTaken, PinsDiffer, AlreadyConnected, NotConnected, InUse, ManyDrivers, Loop, ClockNotTree, ConstraintDangling, RcNotTree, RcPinsDiffer, OutOfRange, TooLarge, Memory}
 use Rattle.timing_defs.specs.declared.faults.QueryFault.{QueryFault}
 use Rattle.timing_defs.specs.declared.faults.QueryFault.TheVariants.{UnknownPin, NotEndpoint, NotClocked, Memory as no_memory}
 
@@ -145,7 +145,6 @@ fault_text (RcPinsDiffer name) = codes "E15" ++ word name
 fault_text (OutOfRange place) = codes "E16" ++ place_text place
 fault_text (TooLarge large) = codes "E17" ++ large_text large
 fault_text Memory = []
-fault_text NotBuilt = codes "N2"
 
 abbrev pub query_fault_text : QueryFault → List ℕ
 query_fault_text (UnknownPin name) = codes "Q1" ++ word name

@@ -76,8 +76,6 @@ pub enum Code {
     JournalVersion,
     /// `J5`: a block that was written under other derates.
     JournalOtherDerates,
-    /// `N1`: a text of a form that is not built yet.
-    NotBuilt,
 }
 
 impl Code {
@@ -119,7 +117,6 @@ impl Code {
             Code::JournalBadNumber => "J2",
             Code::JournalVersion => "J3",
             Code::JournalOtherDerates => "J5",
-            Code::NotBuilt => "N1",
         }
     }
 }

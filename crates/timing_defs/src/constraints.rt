@@ -84,6 +84,23 @@ pub struct Derates {
     pub late_net: u32,
 }
 
+impl Derates {
+    ghost use Rattle.std.specs.Prelude.{◌≡◌};
+    ghost use Rattle.timing_defs.specs.Documents.{no_derates};
+
+    /// Factors that change nothing.
+    pub fn none() -> Derates
+        ensures { result ≡ no_derates }
+    {
+        Derates {
+            early_cell: 1_000_000,
+            late_cell: 1_000_000,
+            early_net: 1_000_000,
+            late_net: 1_000_000,
+        }
+    }
+}
+
 /// The constraints of a design, each list in the order of the text.
 #[derive(Drop)]
 pub struct Constraints {

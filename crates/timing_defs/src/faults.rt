@@ -61,8 +61,6 @@ pub enum Fault {
     TooLarge(Large),
     /// Want of memory.
     Memory,
-    /// `N2`: the design has a form that is not built yet.
-    NotBuilt,
 }
 
 impl From<Memory> for Fault {
