@@ -1,8 +1,8 @@
 -- The affected cone of an edit: the nodes whose rows an update has to find again, forward and
 -- backward (incremental timing as in OpenTimer). It is told by the rows of the base and of the
--- edited design; no stored result is in it.
+-- edited design; no stored result is in it. Free is how many of the backward nodes are evaluated.
 
-use Rattle.std.specs.Prelude.{ℕ, nat_eq, Bool, true, false, not, ◌&&◌, ◌||◌, List, [], ◌∷◌, ◌++◌, count_by, Option, Some, None}
+use Rattle.std.specs.Prelude.{ℕ, ◌≡◌, ◌+◌, ◌≤◌, nat_eq, Bool, true, false, IsTrue, not, ◌&&◌, ◌||◌, List, [], ◌∷◌, ◌++◌, count_by, Option, Some, None, Ok}
 use Rattle.std.specs.List.{list_any, list_all, filter_map}
 use Rattle.std.specs.Option.{option_map_or, option_to_list}
 use Rattle.std.specs.Ordering.{int_eq}
@@ -17,12 +17,14 @@ use Rattle.timing_defs.specs.declared.rows.BackRow.{BackRow}
 use Rattle.timing_defs.specs.declared.netlist.Inst.{Inst}
 use Rattle.timing_defs.specs.declared.design.Design.{Design}
 use Rattle.timing_defs.specs.declared.edits.Edit.{Edit}
+use Rattle.timing_defs.specs.declared.edits.Eco.{Eco}
 use Rattle.timing_defs.specs.declared.edits.Edit.TheVariants.{Repower, InsertGate, RemoveGate, InsertNet, RemoveNet, Connect, Disconnect, InsertBuffer, SetParasitics}
 use Rattle.timing_defs.specs.Netlist.{Node, same_tran, cell_of, net_of, is_driver, is_listed, nodes}
 use Rattle.timing_defs.specs.Clocking.{is_comb, cell_tests, is_network}
 use Rattle.timing_defs.specs.Rows.{arcs_in, library_arcs, row}
 use Rattle.timing_defs.specs.Required.{arcs_out, back_row}
-use Rattle.timing_defs.specs.Edits.{inst_named, before_last, word_net, changed}
+use Rattle.timing_defs.specs.Edits.{inst_named, before_last, word_net, changed, edited}
+use Rattle.timing_defs.specs.Checks.{Accepts, IsSound}
 use Rattle.timing_defs.specs.Paths.{named, node_named, same_named}
 
 -- what an edit touched: instances and nets by their names
@@ -164,3 +166,29 @@ is_backward base edited touch node =
 
 unfoldable pub backward_count : Design → Design → Touch → ℕ
 backward_count base edited touch = count_by (is_backward base edited touch) (nodes edited)
+
+-- the bounds on the evaluations of nodes that an update counts: with an answer for the whole edited design at least the
+-- forward ones; in any case at most the forward and the backward ones
+abbrev pub IsRise : Design → Design → Touch → Bool → ℕ → Type 0
+IsRise base edited touch whole rise =
+    (IsTrue whole → forward_count base edited touch ≤ rise)
+    × (rise ≤ forward_count base edited touch + backward_count base edited touch)
+
+-- an ECO makes a sound design of a base
+abbrev pub MakesSound : Design → Eco → Design → Type 0
+MakesSound base eco d = (edited base eco ≡ Ok d) × IsSound d
+
+-- the bounds on what the trial of an ECO counts; `told` says that memory was not wanting. Where the ECO is accepted
+-- at least the forward nodes; where it makes a sound design at most the forward and the backward ones; else nothing
+abbrev pub IsCounted : Design → Eco → Bool → ℕ → Type 0
+IsCounted base eco told rise =
+    ((d : Design) → Accepts base eco d → IsTrue told → forward_count base d (touched_list base eco.edits) ≤ rise)
+    × ((d : Design) → MakesSound base eco d →
+    rise ≤ forward_count base d (touched_list base eco.edits) + backward_count base d (touched_list base eco.edits))
+    × (((d : Design) → MakesSound base eco d → ⊥) → rise ≡ 0)
+
+-- what the trials of several ECOs on one base count together
+abbrev pub AreCounted : Design → List Eco → ℕ → Type 0
+AreCounted base [] rise = rise ≡ 0
+AreCounted base (eco ∷ ecos) rise =
+    (first : ℕ) × (more : ℕ) × IsCounted base eco true first × AreCounted base ecos more × (rise ≡ first + more)

@@ -1,5 +1,6 @@
 -- What the readers of documents keep of what they give: libraries, constraints and parasitics with tables and numbers
--- of their forms, and netlists with distinct names (Liberty reference manual, SDC, IEEE 1481, IEEE 1364).
+-- of their forms, netlists with distinct names (Liberty reference manual, SDC, IEEE 1481, IEEE 1364), and scripts of
+-- bounded counts (own).
 
 use Rattle.std.specs.Prelude.{ℕ, ◌≤◌, ◌≡◌, ℤ, pos, ◌+ℤ◌, int_le, int_lt, nat_lt, nat_le, Bool, true, false, not, ◌&&◌, List, [], ◌∷◌, map, length}
 use Rattle.std.specs.List.{list_all, list_any, filter_map}
@@ -25,10 +26,19 @@ use Rattle.timing_defs.specs.declared.netlist.Inst.{Inst}
 use Rattle.timing_defs.specs.Lookup.{is_well_formed}
 use Rattle.timing_defs.specs.Netlist.{same_dir, same_split, same_tran, is_listed, are_distinct}
 use Rattle.timing_defs.specs.Edits.{direction_in, has_colon}
+use Rattle.timing_defs.specs.Reports.{is_plain}
+use Rattle.timing_defs.specs.Trials.{trials_in}
 use Rattle.timing_defs.specs.declared.netlist.Module.{Module}
 use Rattle.timing_defs.specs.declared.edits.Edit.{Edit}
 use Rattle.timing_defs.specs.declared.edits.Edit.TheVariants.{SetParasitics}
 use Rattle.timing_defs.specs.declared.edits.Eco.{Eco}
+use Rattle.timing_defs.specs.declared.reports.Query.{Query}
+use Rattle.timing_defs.specs.declared.reports.Query.TheVariants.{Worst, Through, Paths, WhatIf', Advise}
+use Rattle.timing_defs.specs.declared.reports.Trial.{Trial}
+use Rattle.timing_defs.specs.declared.reports.Trial.TheVariants.{Try, Drop, Ask as ask_draft}
+use Rattle.timing_defs.specs.declared.scripts.Command.{Command}
+use Rattle.timing_defs.specs.declared.scripts.Command.TheVariants.{Take, Await, Ask, Change}
+use Rattle.timing_defs.specs.declared.scripts.Script.{Script}
 
 -- a whole number from 0 to 10^12, as capacitances and resistances are
 abbrev pub is_amount : ℤ → Bool
@@ -152,3 +162,33 @@ is_edit _ = true
 -- an ECO: 1 to 1,000 edits
 abbrev pub is_eco : Eco → Bool
 is_eco eco = nat_le 1 (length eco.edits) && nat_le (length eco.edits) 1000 && list_all is_edit eco.edits
+
+-- from one to so many
+abbrev pub is_count : ℕ → ℕ → Bool
+is_count most n = nat_le 1 n && nat_le n most
+
+-- a question of a script: 1 to 100 endpoints or paths, 1 to 16 pins, 1 to 100 trials or candidates; a draft is asked plain questions
+abbrev pub is_trial : Trial → Bool
+is_trial (Try eco) = is_eco eco
+is_trial Drop = true
+is_trial (ask_draft (Worst kind count)) = is_count 100 count
+is_trial (ask_draft q) = is_plain q
+
+abbrev pub is_question : Query → Bool
+is_question (Worst kind count) = is_count 100 count
+is_question (Through pin kind pins) = is_count 16 (length pins)
+is_question (Paths pin kind count) = is_count 100 count
+is_question (WhatIf' shape trials) = is_count 100 (length (trials_in trials)) && list_all is_trial (trials_in trials)
+is_question (Advise kind candidates) = is_count 100 (length candidates)
+is_question q = true
+
+-- a command: 1 to 1,000 looks
+abbrev pub is_command : Command → Bool
+is_command Take = true
+is_command (Await number looks) = is_count 1000 looks
+is_command (Ask q) = is_question q
+is_command (Change eco) = is_eco eco
+
+-- a script: at most 10,000 commands
+abbrev pub is_script : Script → Bool
+is_script script = nat_le (length script.commands) 10000 && list_all is_command script.commands

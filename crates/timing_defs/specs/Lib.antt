@@ -16,5 +16,12 @@ pub mod Checks
 pub mod Edits
 pub mod Output
 pub mod Reports
+pub mod Trials
+pub mod Through
+pub mod Ranking
+pub mod Drafts
+pub mod Advice
+pub mod Questions
+pub mod Saved
 pub mod Sessions
 pub mod Documents

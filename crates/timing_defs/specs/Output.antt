@@ -23,10 +23,14 @@ use Rattle.timing_defs.specs.declared.edits.Edit.{Edit}
 use Rattle.timing_defs.specs.declared.edits.Edit.TheVariants.{Repower, InsertGate, RemoveGate, InsertNet, RemoveNet, Connect, Disconnect, InsertBuffer, SetParasitics}
 use Rattle.timing_defs.specs.declared.edits.Entry.{Entry}
 use Rattle.timing_defs.specs.declared.reports.Query.{Query}
-use Rattle.timing_defs.specs.declared.reports.Query.TheVariants.{Slew, At, Rat, Slack, Endpoint, WorstPath, Wns, Tns, Worst}
+use Rattle.timing_defs.specs.declared.reports.Query.TheVariants.{Slew, At, Rat, Slack, Endpoint, WorstPath, Wns, Tns, Worst, Through, Paths as ranked_paths, WhatIf', Advise}
 use Rattle.timing_defs.specs.declared.reports.EndRow.{EndRow}
 use Rattle.timing_defs.specs.declared.reports.Report.{Report}
-use Rattle.timing_defs.specs.declared.reports.Report.TheVariants.{Value, Times, Shown, Ends}
+use Rattle.timing_defs.specs.declared.reports.Report.TheVariants.{Value, Times, Shown, Ends, Paths, Drafted', Advised}
+use Rattle.timing_defs.specs.declared.reports.Advice.{Advice}
+use Rattle.timing_defs.specs.declared.reports.TrialRow.{TrialRow}
+use Rattle.timing_defs.specs.declared.reports.TrialAnswer.{TrialAnswer}
+use Rattle.timing_defs.specs.declared.reports.TrialAnswer.TheVariants.{Tried, Refused as refused_trial, Dropped, NoDraft, No as no_trial, Told as told_trial}
 use Rattle.timing_defs.specs.declared.scripts.Answer.{Answer}
 use Rattle.timing_defs.specs.declared.scripts.Answer.TheVariants.{Taken, Reached, NotYet, Accepted, Refused, No, Told}
 use Rattle.timing_defs.specs.declared.scripts.Row.{Row}
@@ -40,6 +44,7 @@ use Rattle.timing_defs.specs.declared.faults.Fault.{Fault}
 use Rattle.timing_defs.specs.declared.faults.Fault.TheVariants.{UnknownInstance, UnknownNet, UnknownCell, UnknownPin as unknown_pin, NameTaken, PinsDiffer, AlreadyConnected, NotConnected, InUse, ManyDrivers, Loop, ClockNotTree, ConstraintDangling, RcNotTree, RcPinsDiffer, OutOfRange, TooLarge, Memory}
 use Rattle.timing_defs.specs.declared.faults.QueryFault.{QueryFault}
 use Rattle.timing_defs.specs.declared.faults.QueryFault.TheVariants.{UnknownPin, NotEndpoint, NotClocked, Memory as no_memory}
+use Rattle.timing_defs.specs.Trials.{rows_in}
 
 -- a blank and a word
 abbrev pub word : List ℕ → List ℕ
@@ -162,6 +167,10 @@ query_word (WorstPath pin kind) = codes "path"
 query_word (Wns kind) = codes "wns"
 query_word (Tns kind) = codes "tns"
 query_word (Worst kind count) = codes "worst"
+query_word (Through pin kind pins) = codes "path"
+query_word (ranked_paths pin kind count) = codes "paths"
+query_word (WhatIf' shape trials) = codes "what_if"
+query_word (Advise kind candidates) = codes "advice"
 
 abbrev pub edge_time_text : List Clock → EdgeTime → List ℕ
 edge_time_text clocks t = edge_text clocks t.clock t.tran ++ word (ps_text t.time.0)
@@ -179,6 +188,8 @@ path_head clocks p =
 
 abbrev pub path_of : Query → List ℕ
 path_of (WorstPath pin kind) = word (kind_text kind) ++ word pin
+path_of (Through pin kind pins) = word (kind_text kind) ++ word pin
+path_of (ranked_paths pin kind count) = word (kind_text kind) ++ word pin
 path_of (Slew pin split tran) = []
 path_of (At pin split tran) = []
 path_of (Rat pin split tran) = []
@@ -187,19 +198,58 @@ path_of (Endpoint pin kind) = []
 path_of (Wns kind) = []
 path_of (Tns kind) = []
 path_of (Worst kind count) = []
+path_of (WhatIf' shape trials) = []
+path_of (Advise kind candidates) = []
 
 abbrev pub end_text : EndRow → List ℕ
 end_text row = line (row.pin ++ word (ps_text row.slack.0))
 
+-- a path by its question: a line, and then its nodes
+abbrev pub path_text : List Clock → Query → Path → List ℕ
+path_text clocks q p = line (codes "path" ++ path_of q ++ path_head clocks p) ++ flat_map path_node_text p.nodes
+
+-- a report of a plain question, with the line feed of its first line; another report has no such text
+abbrev pub plain_text : List Clock → Query → Report → List ℕ
+plain_text clocks q (Value time) = line (query_word q ++ word (time_text time))
+plain_text clocks q (Times times) =
+    line (query_word q ++ number (length times) ++ flat_map (edge_time_text clocks) times)
+plain_text clocks q (Shown None) = line (codes "path none")
+plain_text clocks q (Shown (Some p)) = path_text clocks q p
+plain_text clocks q (Ends rows) = line (codes "worst" ++ number (length rows)) ++ flat_map end_text rows
+plain_text clocks q (Paths paths) = []
+plain_text clocks q (Drafted' shape rows) = []
+plain_text clocks q (Advised advice) = []
+
+abbrev pub plainly_told : List Clock → Option Query → Report → List ℕ
+plainly_told clocks None report = []
+plainly_told clocks (Some q) report = plain_text clocks q report
+
+-- the row of a trial, with its line feed
+abbrev pub trial_text : List Clock → Option Query → TrialAnswer → List ℕ
+trial_text clocks query Tried = line (codes "tried")
+trial_text clocks query (refused_trial fault) = line (codes "refused" ++ word (fault_text fault))
+trial_text clocks query Dropped = line (codes "dropped")
+trial_text clocks query NoDraft = line (codes "no_draft")
+trial_text clocks query (no_trial fault) = line (codes "no" ++ word (query_fault_text fault))
+trial_text clocks query (told_trial report) = plainly_told clocks query report
+
+abbrev pub trial_row_text : List Clock → TrialRow → List ℕ
+trial_row_text clocks row = trial_text clocks row.query row.answer
+
+abbrev pub advice_text : Option Advice → List ℕ
+advice_text None = line (codes "advice none")
+advice_text (Some a) = line (codes "advice" ++ word a.inst ++ word a.cell ++ word (ps_text a.wns.0))
+
 -- a report by its question, with the line feed of its first line
 abbrev pub report_text : List Clock → Query → Report → List ℕ
-report_text clocks q (Value time) = line (query_word q ++ word (time_text time))
-report_text clocks q (Times times) =
-    line (query_word q ++ number (length times) ++ flat_map (edge_time_text clocks) times)
-report_text clocks q (Shown None) = line (codes "path none")
-report_text clocks q (Shown (Some p)) =
-    line (codes "path" ++ path_of q ++ path_head clocks p) ++ flat_map path_node_text p.nodes
-report_text clocks q (Ends rows) = line (codes "worst" ++ number (length rows)) ++ flat_map end_text rows
+report_text clocks q (Paths paths) = line (codes "paths" ++ number (length paths)) ++ flat_map (path_text clocks q) paths
+report_text clocks q (Drafted' shape rows) =
+    line (codes "what_if" ++ number (length (rows_in rows))) ++ flat_map (trial_row_text clocks) (rows_in rows)
+report_text clocks q (Advised advice) = advice_text advice
+report_text clocks q (Value time) = plain_text clocks q (Value time)
+report_text clocks q (Times times) = plain_text clocks q (Times times)
+report_text clocks q (Shown path) = plain_text clocks q (Shown path)
+report_text clocks q (Ends rows) = plain_text clocks q (Ends rows)
 
 abbrev pub told_text : List Clock → Option Query → Report → List ℕ
 told_text clocks None report = []
@@ -235,3 +285,11 @@ final_text t =
 
 abbrev pub output_text : List Entry → List Transcript → List Clock → Totals → List ℕ
 output_text journal ts clocks totals = journal_text journal ++ sessions_text clocks 1 ts ++ final_text totals
+
+-- the line of a generated run: gates, edits, those that were accepted, and the totals
+abbrev pub generated_text : ℕ → ℕ → ℕ → Totals → List ℕ
+generated_text gates edits accepted t =
+    line
+    (codes "generated" ++ number gates ++ number edits ++ codes " accepted" ++ number accepted
+    ++ codes " setup" ++ word (time_text t.setup_wns) ++ word (ps_text t.setup_tns.0)
+    ++ codes " hold" ++ word (time_text t.hold_wns) ++ word (ps_text t.hold_tns.0))

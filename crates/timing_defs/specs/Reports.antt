@@ -1,4 +1,5 @@
--- What each question is answered, and when it is refused.
+-- What each plain question is answered, and when it is refused: the questions about one node, one endpoint or a
+-- whole design. The others stand in `Questions`.
 
 use Rattle.std.specs.Prelude.{ℕ, ◌≡◌, ◌^◌, ◌-◌, ℤ, pos, negsuc, ◌+ℤ◌, int_lt, nat_lt, Bool, true, false, not, if◌then◌else◌, List, [], ◌∷◌, map, filter, length, Option, Some, None, option_map, is_some, ⊤}
 use Rattle.std.specs.List.{Contains}
@@ -12,7 +13,7 @@ use Rattle.timing_defs.specs.declared.kinds.Kind.{Kind}
 use Rattle.timing_defs.specs.declared.kinds.Kind.TheVariants.{Setup, Hold}
 use Rattle.timing_defs.specs.declared.rows.Path.{Path}
 use Rattle.timing_defs.specs.declared.reports.Query.{Query}
-use Rattle.timing_defs.specs.declared.reports.Query.TheVariants.{Slew, At, Rat, Slack, Endpoint, WorstPath, Wns, Tns, Worst}
+use Rattle.timing_defs.specs.declared.reports.Query.TheVariants.{Slew, At, Rat, Slack, Endpoint, WorstPath, Wns, Tns, Worst, Through, Paths, WhatIf', Advise}
 use Rattle.timing_defs.specs.declared.reports.EndRow.{EndRow}
 use Rattle.timing_defs.specs.declared.reports.Report.{Report}
 use Rattle.timing_defs.specs.declared.reports.Report.TheVariants.{Value, Times, Shown, Ends}
@@ -91,17 +92,26 @@ at_node report tran pin = report (record { pin = pin; tran = tran })
 abbrev pub IsAt : Design → List ℕ → Tran → (Node → Report) → Report → Type 0
 IsAt d name tran report r = Some r ≡ option_map (at_node report tran) (pin_named d name)
 
--- the report that a question is answered
-abbrev pub IsReport : Design → Query → Report → Type 0
-IsReport d (Slew pin split tran) r = IsAt d pin tran (λ node. fs_value (slew d split node)) r
-IsReport d (At pin split tran) r = IsAt d pin tran (λ node. Times (times_in split (row d node))) r
-IsReport d (Rat pin split tran) r = IsAt d pin tran (λ node. Times (back_times split (back_row d node))) r
-IsReport d (Slack pin split tran) r = IsAt d pin tran (λ node. fs_value (graph_slack d split node)) r
-IsReport d (Endpoint pin kind) r = (slack : Option ℤ) × IsSlack d kind pin slack × (r ≡ fs_value slack)
-IsReport d (WorstPath pin kind) r = (path : Option Path) × IsShown d kind pin path × (r ≡ Shown path)
-IsReport d (Wns kind) r = (wns : Option ℤ) × IsWns d kind wns × (r ≡ fs_value wns)
-IsReport d (Tns kind) r = (tns : ℤ) × IsTns d kind tns × (r ≡ fs_value (Some tns))
-IsReport d (Worst kind count) r = (rows : List EndRow) × AreWorst d kind count rows × (r ≡ Ends rows)
+-- whether a question is plain
+abbrev pub is_plain : Query → Bool
+is_plain (Through pin kind pins) = false
+is_plain (Paths pin kind count) = false
+is_plain (WhatIf' shape trials) = false
+is_plain (Advise kind candidates) = false
+is_plain q = true
+
+-- the report that a plain question is answered; another one has none here
+abbrev pub IsPlainReport : Design → Query → Report → Type 0
+IsPlainReport d (Slew pin split tran) r = IsAt d pin tran (λ node. fs_value (slew d split node)) r
+IsPlainReport d (At pin split tran) r = IsAt d pin tran (λ node. Times (times_in split (row d node))) r
+IsPlainReport d (Rat pin split tran) r = IsAt d pin tran (λ node. Times (back_times split (back_row d node))) r
+IsPlainReport d (Slack pin split tran) r = IsAt d pin tran (λ node. fs_value (graph_slack d split node)) r
+IsPlainReport d (Endpoint pin kind) r = (slack : Option ℤ) × IsSlack d kind pin slack × (r ≡ fs_value slack)
+IsPlainReport d (WorstPath pin kind) r = (path : Option Path) × IsShown d kind pin path × (r ≡ Shown path)
+IsPlainReport d (Wns kind) r = (wns : Option ℤ) × IsWns d kind wns × (r ≡ fs_value wns)
+IsPlainReport d (Tns kind) r = (tns : ℤ) × IsTns d kind tns × (r ≡ fs_value (Some tns))
+IsPlainReport d (Worst kind count) r = (rows : List EndRow) × AreWorst d kind count rows × (r ≡ Ends rows)
+IsPlainReport d q r = ⊥
 
 -- a question is refused where its pin is not there, else where it is no endpoint, else where no test
 -- of the kind at that register pin has a network clock pin
@@ -116,19 +126,20 @@ end_fault d kind pin name =
 abbrev pub endpoint_fault : Design → Kind → List ℕ → Option QueryFault
 endpoint_fault d kind name = option_map_or (λ pin. end_fault d kind pin name) (pin_named d name) (Some (UnknownPin name))
 
-abbrev pub query_fault : Design → Query → Option QueryFault
-query_fault d (Slew pin split tran) = unknown_pin d pin
-query_fault d (At pin split tran) = unknown_pin d pin
-query_fault d (Rat pin split tran) = unknown_pin d pin
-query_fault d (Slack pin split tran) = unknown_pin d pin
-query_fault d (Endpoint pin kind) = endpoint_fault d kind pin
-query_fault d (WorstPath pin kind) = endpoint_fault d kind pin
-query_fault d (Wns kind) = None
-query_fault d (Tns kind) = None
-query_fault d (Worst kind count) = None
+abbrev pub plain_fault : Design → Query → Option QueryFault
+plain_fault d (Slew pin split tran) = unknown_pin d pin
+plain_fault d (At pin split tran) = unknown_pin d pin
+plain_fault d (Rat pin split tran) = unknown_pin d pin
+plain_fault d (Slack pin split tran) = unknown_pin d pin
+plain_fault d (Endpoint pin kind) = endpoint_fault d kind pin
+plain_fault d (WorstPath pin kind) = endpoint_fault d kind pin
+plain_fault d (Wns kind) = None
+plain_fault d (Tns kind) = None
+plain_fault d (Worst kind count) = None
+plain_fault d q = None
 
-abbrev pub Told : Design → Query → Report → Type 0
-Told d q r = (query_fault d q ≡ None) × IsReport d q r
+abbrev pub PlainTold : Design → Query → Report → Type 0
+PlainTold d q r = (plain_fault d q ≡ None) × IsPlainReport d q r
 
 -- the totals of a design
 abbrev pub AreTotals : Design → ℕ → Totals → Type 0

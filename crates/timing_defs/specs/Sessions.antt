@@ -1,11 +1,13 @@
 -- Designs at a number, legal transcripts of scripts, and the whole output of a run. `first` is the
--- first number of a run, and the journal is the list of entries, each a session with its ECO.
+-- first number of a run, and the journal is the list of entries, each a session with its ECO. Free are the
+-- interleaving of sessions and, in a refusal, which loop or origin of an overflow is named.
 
-use Rattle.std.specs.Prelude.{ℕ, ◌≡◌, ◌+◌, ◌-◌, ◌<◌, ◌≤◌, zero, suc, nat_eq, Bool, true, false, IsTrue, List, [], ◌∷◌, map, filter, length, slice_get, Option, Some, None, ⊤, IsSomeAnd}
+use Rattle.std.specs.Prelude.{ℕ, ◌≡◌, ◌⊎◌, ◌+◌, ◌-◌, ◌<◌, ◌≤◌, zero, suc, nat_eq, Bool, true, false, IsTrue, if◌then◌else◌, List, [], ◌∷◌, ◌++◌, map, filter, length, slice_get, Option, Some, None, ⊤, IsSomeAnd}
 use Rattle.std.specs.List.{Contains, cons_option}
 use Rattle.timing_defs.specs.declared.design.Design.{Design}
 use Rattle.timing_defs.specs.declared.edits.Eco.{Eco}
 use Rattle.timing_defs.specs.declared.edits.Entry.{Entry}
+use Rattle.timing_defs.specs.declared.faults.Fault.{Fault}
 use Rattle.timing_defs.specs.declared.reports.Query.{Query}
 use Rattle.timing_defs.specs.declared.scripts.Command.{Command}
 use Rattle.timing_defs.specs.declared.scripts.Command.TheVariants.{Take, Await, Ask, Change}
@@ -16,14 +18,27 @@ use Rattle.timing_defs.specs.declared.scripts.Row.{Row}
 use Rattle.timing_defs.specs.declared.scripts.Transcript.{Transcript}
 use Rattle.timing_defs.specs.declared.scripts.Totals.{Totals}
 use Rattle.timing_defs.specs.Checks.{Accepts, Refuses}
-use Rattle.timing_defs.specs.Reports.{Told, query_fault, AreTotals}
+use Rattle.timing_defs.specs.Reports.{AreTotals}
+use Rattle.timing_defs.specs.Questions.{Told, query_fault}
 use Rattle.timing_defs.specs.Output.{output_text}
+use Rattle.timing_defs.specs.Saved.{saved_output_text}
 
 -- the design after the first so many entries of the journal, each accepted in turn
 abbrev pub DesignAfter : Design → List Entry → ℕ → Design → Type 0
 DesignAfter initial journal zero d = d ≡ initial
 DesignAfter initial journal (suc n) d =
     (before : Design) × DesignAfter initial journal n before × IsSomeAnd (slice_get journal n) (λ entry. Accepts before entry.eco d)
+
+-- the initial design of a run that goes on from saved entries: the linked design after all of them, each accepted
+-- in turn; with none the linked design itself
+abbrev pub IsInitial : Design → List Entry → Design → Type 0
+IsInitial linked saved d = DesignAfter linked saved (length saved) d
+
+-- a saved entry, counted from 1, is refused at its turn: all before it are accepted, and it is not
+abbrev pub IsRefusedEntry : Design → List Entry → ℕ → Fault → Type 0
+IsRefusedEntry linked saved zero x = ⊥
+IsRefusedEntry linked saved (suc n) x =
+    (d : Design) × DesignAfter linked saved n d × IsSomeAnd (slice_get saved n) (λ entry. Refuses d entry.eco x)
 
 -- the sort of a row, apart from what it tells
 pub data Sort : Type 0 where
@@ -129,6 +144,38 @@ accepted_ecos (command ∷ commands) [] = []
 accepted_ecos (command ∷ commands) (row ∷ rows) =
     cons_option (accepted_eco command row.answer) (accepted_ecos commands rows)
 
+-- the entries that a session adds to the journal: the ECOs of its accepted rows, in order
+abbrev pub entry_by : ℕ → Eco → Entry
+entry_by session eco = record { session = session; eco = eco }
+
+abbrev pub added_entries : ℕ → List Command → List Row → List Entry
+added_entries session commands rows = map (entry_by session) (accepted_ecos commands rows)
+
+-- the numbers that a row shows of its session's looks at the newest version: its own where it was taken, reached or
+-- refused, or is a report and the first row; the one before an accepted row's; those of a row that is not yet
+abbrev pub shown_looks : Bool → ℕ → Sort → List ℕ
+shown_looks begun number taken = number ∷ []
+shown_looks begun number reached = number ∷ []
+shown_looks begun number (not_yet looks) = looks
+shown_looks begun number accepted = (number - 1) ∷ []
+shown_looks begun number refused = number ∷ []
+shown_looks begun number asked = (if begun then [] else number ∷ [])
+
+-- those of all rows, in order; `begun` tells whether a row stands before
+abbrev pub row_looks : Bool → List Row → List ℕ
+row_looks begun [] = []
+row_looks begun (row ∷ rows) = shown_looks begun row.number (sort_of row.answer) ++ row_looks true rows
+
+-- numbers stand in a list, at distinct places and in order; free is what stands between them
+abbrev pub StandIn : List ℕ → List ℕ → Type 0
+StandIn [] ys = ⊤
+StandIn (x ∷ xs) [] = ⊥
+StandIn (x ∷ xs) (y ∷ ys) = ((x ≡ y) × StandIn xs ys) ⊎ StandIn (x ∷ xs) ys
+
+-- a list of looks grew by some in which these numbers stand
+abbrev pub GrewBy : List ℕ → List ℕ → List ℕ → Type 0
+GrewBy old new numbers = (grown : List ℕ) × (new ≡ old ++ grown) × StandIn numbers grown
+
 abbrev pub AreLegal : Design → List Entry → ℕ → ℕ → List Script → List Transcript → Type 0
 AreLegal initial journal first session [] [] = ⊤
 AreLegal initial journal first session [] (t ∷ ts) = ⊥
@@ -154,3 +201,11 @@ IsOutput initial first journal ts bytes =
     × DesignAfter initial journal (length journal) d
     × AreTotals d (first + length journal) totals
     × (bytes ≡ output_text journal ts d.constraints.clocks totals)
+
+-- the same of a run that goes on from saved entries, of which there are `first`
+abbrev pub IsSavedOutput : Design → ℕ → List Entry → List Transcript → List ℕ → Type 0
+IsSavedOutput initial first journal ts bytes =
+    (d : Design) × (totals : Totals)
+    × DesignAfter initial journal (length journal) d
+    × AreTotals d (first + length journal) totals
+    × (bytes ≡ saved_output_text first d.constraints.derates journal ts d.constraints.clocks totals)
