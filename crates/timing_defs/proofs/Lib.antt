@@ -2,3 +2,5 @@ pub mod ListLemmas
 pub mod SameNames
 pub mod RowLaws
 pub mod SameBytes
+pub mod LongerJournals
+pub mod Members
