@@ -20,6 +20,7 @@ use Rattle.timing_defs.specs.declared.constraints.Derates.{Derates}
 use Rattle.timing_defs.specs.declared.netlist.Inst.{Inst}
 use Rattle.timing_defs.specs.declared.design.Design.{Design}
 use Rattle.timing_defs.specs.declared.edge_times.EdgeTime.{EdgeTime}
+use Rattle.timing_defs.specs.declared.edge_times.LaunchEdge.{LaunchEdge}
 use Rattle.timing_defs.specs.declared.rows.NodeRow.{NodeRow}
 use Rattle.timing_defs.specs.Lookup.{look}
 use Rattle.timing_defs.specs.Netlist.{Pin, Node, same_tran, same_split, cell_of, inst_pins, both_nodes, net_of, is_driver, nodes}
@@ -148,6 +149,10 @@ start_at d split node edge =
     (if is_clock_port d node.pin
     then (if is_clock_at d.constraints.clocks edge.0 node.pin.own && same_tran edge.1 node.tran then Some (pos 0) else None)
     else (if same_tran edge.1 Rise then input_delay d.constraints.inputs split node edge.0 else None)))
+
+-- a launch edge, as the definitions have it
+abbrev pub edge_of : LaunchEdge → ℕ × Tran
+edge_of edge = (edge.clock, edge.tran)
 
 abbrev pub times_in : Split → NodeRow → List EdgeTime
 times_in Early row = row.early

@@ -1,7 +1,13 @@
 //! Constraints: clocks, delays and slews at ports, loads, exceptions and derates.
 
+ghost use Rattle.std.specs.Prelude.{◌≡◌, false, slice_get};
+ghost use Rattle.std.specs.Option.{option_copied, option_map_or};
+ghost use Rattle.std.specs.Str.{bytes_eq};
+ghost use Rattle.timing_defs.specs.Tests.{uncertainty};
+ghost use Rattle.timing_defs.specs.Documents.{no_derates};
+
 use crate::items::Items;
-use crate::kinds::{Split, Tran};
+use crate::kinds::{Kind, Split, Tran};
 use crate::names::Name;
 use sta_units::{Af, Fs};
 
@@ -16,6 +22,28 @@ pub struct Clock {
     pub fall: Fs,
     pub unc_setup: Fs,
     pub unc_hold: Fs,
+}
+
+impl Clock {
+    /// Its uncertainty for a kind of tests.
+    pub fn uncertainty(&self, kind: Kind) -> Fs
+        ensures { result.0 ≡ uncertainty kind self.now }
+    {
+        match kind {
+            Kind::Setup => self.unc_setup,
+            Kind::Hold => self.unc_hold,
+        }
+    }
+
+    /// Whether its port has that name.
+    pub fn has_port(&self, port: &Name) -> bool
+        ensures { result ≡ option_map_or (bytes_eq port.now) self.now.port false }
+    {
+        match &self.port {
+            Some(name) => port == name,
+            None => false,
+        }
+    }
 }
 
 /// An input or output delay in fs at a port, for a split and a transition. `clock` is the place of
@@ -85,9 +113,6 @@ pub struct Derates {
 }
 
 impl Derates {
-    ghost use Rattle.std.specs.Prelude.{◌≡◌};
-    ghost use Rattle.timing_defs.specs.Documents.{no_derates};
-
     /// Factors that change nothing.
     pub fn none() -> Derates
         ensures { result ≡ no_derates }
@@ -111,4 +136,13 @@ pub struct Constraints {
     pub loads: Items<PortLoad>,
     pub exceptions: Items<Exception>,
     pub derates: Derates,
+}
+
+impl Constraints {
+    /// The clock at a place of the list of clocks, from 0; none where the list ends before it.
+    pub fn clock(&self, place: u32) -> Option<&Clock>
+        ensures { option_copied result ≡ slice_get self.now.clocks place }
+    {
+        self.clocks.get(place as usize)
+    }
 }

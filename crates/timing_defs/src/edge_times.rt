@@ -1,13 +1,21 @@
 //! Times per launch edge.
 
 ghost use Rattle.std.specs.Prelude.{◌≡◌, [], ◌∷◌, ◌++◌, ◌<◌, ◌↔◌, length, slice_get, IsTrue, IfOk, OnOk, OnErr, OnSome};
-ghost use Rattle.std.specs.Option.{option_copied};
+ghost use Rattle.std.specs.Option.{option_copied, option_map};
+ghost use Rattle.timing_defs.specs.Rows.{time_on, edge_of};
 
 use crate::kinds::Tran;
 use smallvec::SmallVec;
 use sta_units::{Fs, Memory};
 use std::alloc::{AllocError, Global};
 use std::marker::Model;
+
+/// A launch edge: a clock's place in the list of clocks, from 0, and the transition of the clock.
+#[derive(Clone, Copy, Drop)]
+pub struct LaunchEdge {
+    pub clock: u32,
+    pub tran: Tran,
+}
 
 /// A time at one launch edge: the clock's place in the list of clocks, from 0, the transition of
 /// the clock, and the time in fs, counted from the launch edge.
@@ -80,6 +88,18 @@ impl EdgeTimes {
         ensures within { OnSome result (at < length self.now) }
     {
         self.times.as_slice().get(at)
+    }
+
+    /// The time on a launch edge; none where it has none.
+    pub fn on(&self, edge: LaunchEdge) -> Option<Fs>
+        ensures { option_map (λ time. time.0) result ≡ time_on self.now (edge_of edge) }
+    {
+        for time in self.as_slice() {
+            if time.clock == edge.clock && time.tran.is(edge.tran) {
+                return Some(time.time);
+            }
+        }
+        None
     }
 
     /// Adds a time at the end. Where memory is wanting the list is as before.

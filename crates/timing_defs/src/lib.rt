@@ -28,7 +28,7 @@ pub use constraints::{
     Clock, Constraints, Derates, Effect, Exception, Object, PortDelay, PortLoad, PortSlew,
 };
 pub use design::Design;
-pub use edge_times::{EdgeTime, EdgeTimes};
+pub use edge_times::{EdgeTime, EdgeTimes, LaunchEdge};
 pub use edits::{Eco, Edit, Entry};
 pub use faults::{Fault, Large, Place, QueryFault};
 pub use items::Items;

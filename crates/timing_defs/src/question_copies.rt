@@ -76,12 +76,7 @@ fn query_again(alloc: Global, query: &Query) -> Result<Query, Memory>
 }
 
 /// Copies the question about paths through pins.
-fn through_again(
-    alloc: Global,
-    pin: &Name,
-    kind: Kind,
-    pins: &Items<Name>,
-) -> Result<Query, Memory>
+fn through_again(alloc: Global, pin: &Name, kind: Kind, pins: &Items<Name>) -> Result<Query, Memory>
     ensures copied { IfOk result (λ copy. copy ≡ Through pin.now kind pins.now) }
 {
     Ok(Query::Through {

@@ -16,19 +16,61 @@ use sta_units::Fs;
 #[derive(Drop)]
 #[cycle(question)]
 pub enum Query {
-    Slew { pin: Name, split: Split, tran: Tran },
-    At { pin: Name, split: Split, tran: Tran },
-    Rat { pin: Name, split: Split, tran: Tran },
-    Slack { pin: Name, split: Split, tran: Tran },
-    Endpoint { pin: Name, kind: Kind },
-    WorstPath { pin: Name, kind: Kind },
-    Wns { kind: Kind },
-    Tns { kind: Kind },
-    Worst { kind: Kind, count: u32 },
-    Through { pin: Name, kind: Kind, pins: Items<Name> },
-    Paths { pin: Name, kind: Kind, count: u32 },
-    WhatIf { items: Items<Trial> },
-    Advise { kind: Kind, candidates: Items<Candidate> },
+    Slew {
+        pin: Name,
+        split: Split,
+        tran: Tran,
+    },
+    At {
+        pin: Name,
+        split: Split,
+        tran: Tran,
+    },
+    Rat {
+        pin: Name,
+        split: Split,
+        tran: Tran,
+    },
+    Slack {
+        pin: Name,
+        split: Split,
+        tran: Tran,
+    },
+    Endpoint {
+        pin: Name,
+        kind: Kind,
+    },
+    WorstPath {
+        pin: Name,
+        kind: Kind,
+    },
+    Wns {
+        kind: Kind,
+    },
+    Tns {
+        kind: Kind,
+    },
+    Worst {
+        kind: Kind,
+        count: u32,
+    },
+    Through {
+        pin: Name,
+        kind: Kind,
+        pins: Items<Name>,
+    },
+    Paths {
+        pin: Name,
+        kind: Kind,
+        count: u32,
+    },
+    WhatIf {
+        items: Items<Trial>,
+    },
+    Advise {
+        kind: Kind,
+        candidates: Items<Candidate>,
+    },
 }
 
 /// A step on a draft: edits are tried, the last accepted ones are dropped, or the draft is asked.

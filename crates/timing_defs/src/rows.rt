@@ -1,10 +1,12 @@
 //! Rows of an analysis: what a pin has, what a node has, and paths.
 
-ghost use Rattle.std.specs.Prelude.{◌≡◌, ◌<◌, Some, length, slice_get};
+ghost use Rattle.std.specs.Prelude.{◌≡◌, ◌<◌, Some, length, slice_get, option_map};
+ghost use Rattle.timing_defs.specs.Rows.{slew_in, times_in};
+ghost use Rattle.timing_defs.specs.Required.{back_times};
 
 use crate::edge_times::EdgeTimes;
 use crate::items::Items;
-use crate::kinds::Tran;
+use crate::kinds::{Split, Tran};
 use crate::names::Name;
 use sta_units::{Af, Fs};
 
@@ -42,11 +44,45 @@ pub struct NodeRow {
     pub late: EdgeTimes,
 }
 
+impl NodeRow {
+    /// The slew in a split.
+    pub fn slew(&self, split: Split) -> Option<Fs>
+        ensures { option_map (λ slew. slew.0) result ≡ slew_in split self.now }
+    {
+        match split {
+            Split::Early => self.early_slew,
+            Split::Late => self.late_slew,
+        }
+    }
+
+    /// The arrivals in a split.
+    pub fn times(&self, split: Split) -> &EdgeTimes
+        ensures { result.now ≡ times_in split self.now }
+    {
+        match split {
+            Split::Early => &self.early,
+            Split::Late => &self.late,
+        }
+    }
+}
+
 /// The required times of a node per launch edge, of both splits.
 #[derive(Drop)]
 pub struct BackRow {
     pub early: EdgeTimes,
     pub late: EdgeTimes,
+}
+
+impl BackRow {
+    /// The required times in a split.
+    pub fn times(&self, split: Split) -> &EdgeTimes
+        ensures { result.now ≡ back_times split self.now }
+    {
+        match split {
+            Split::Early => &self.early,
+            Split::Late => &self.late,
+        }
+    }
 }
 
 /// A node of a path with its arrival in fs.
