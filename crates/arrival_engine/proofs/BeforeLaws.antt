@@ -286,7 +286,6 @@ module _ (g : Graphed) (num : IsNumbered g.stored) (linked : IsLinked g.stored.d
         fault_told (fault.RcNotTree x) r = absurd r
         fault_told (fault.RcPinsDiffer x) r = absurd r
         fault_told (fault.TooLarge x) r = absurd r
-        fault_told fault.NotBuilt r = absurd r
 
 -- as the evaluation has them: the graph is that of a store
 module _ (g : Graphed) (s : Stored) (same : g.stored ≡ s) (num : IsNumbered s) (linked : IsLinked s.design) (is : IsGraph g)

@@ -81,7 +81,6 @@ large_is_range d (fault.ConstraintDangling x) r = absurd r
 large_is_range d (fault.RcNotTree x) r = absurd r
 large_is_range d (fault.RcPinsDiffer x) r = absurd r
 large_is_range d (fault.TooLarge x) r = absurd r
-large_is_range d fault.NotBuilt r = absurd r
 
 pub node_is_range : (s : Stored) (k : ℕ) (f : Fault) → IsNodeFault s k f → IsRangeFault s.design f
 node_is_range s k (fault.OutOfRange place) r = r.1
@@ -102,7 +101,6 @@ node_is_range s k (fault.ConstraintDangling x) r = absurd r
 node_is_range s k (fault.RcNotTree x) r = absurd r
 node_is_range s k (fault.RcPinsDiffer x) r = absurd r
 node_is_range s k (fault.TooLarge x) r = absurd r
-node_is_range s k fault.NotBuilt r = absurd r
 
 module _ (g : Graphed) (num : IsNumbered g.stored) (linked : IsLinked g.stored.design) (is : IsGraph g) where
   -- a node whose level is not above is ready

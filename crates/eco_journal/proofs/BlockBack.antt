@@ -9,7 +9,7 @@ use Rattle.timing_defs.specs.declared.constraints.Derates.{Derates}
 use Rattle.timing_defs.specs.declared.edits.Entry.{Entry}
 use Rattle.eco_journal.specs.Lines.{Part, cut_lines, placed, words_of}
 use Rattle.eco_journal.specs.Journal.{Text, entries, entries_left, derates_of, same_derates, block, factors, block_form, block_head, unscaled, saved_of}
-use Rattle.eco_journal.specs.Texts.{derates_text, block_text}
+use Rattle.timing_defs.specs.Saved.{derates_text, block_text}
 use Rattle.eco_journal.specs.Blocks.{block_text_of, with_entries, block_of_words, block_of_lines, block_of, AreFactors, AreLawful, blocks_text, all_entries}
 use Rattle.eco_journal.specs.Written.{AreEntries}
 use Rattle.eco_journal.proofs.JournalLemmas.{block_step, factors_step}

@@ -7,7 +7,7 @@ use Rattle.timing_defs.specs.declared.edits.Entry.{Entry}
 use Rattle.eco_journal.specs.declared.stops.Stop.{Stop}
 use Rattle.eco_journal.specs.Lines.{Part, words_of, lines_of}
 use Rattle.eco_journal.specs.Words.{text, number_of}
-use Rattle.eco_journal.specs.Texts.{block_text}
+use Rattle.timing_defs.specs.Saved.{block_text}
 use Rattle.eco_journal.specs.Written.{AreEntries}
 use Rattle.eco_journal.specs.Journal.{Text, is_form, derates_of, entries, entries_left}
 

@@ -5,6 +5,5 @@ pub mod Items
 pub mod EditLines
 pub mod Journal
 pub mod Saved
-pub mod Texts
 pub mod Written
 pub mod Blocks

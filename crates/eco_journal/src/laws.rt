@@ -10,7 +10,7 @@ ghost use Rattle.eco_journal.specs.Written.{IsEdit, IsEco, AreEntries, edits_tex
 ghost use Rattle.eco_journal.specs.Lines.{Part};
 ghost use Rattle.eco_journal.specs.EditLines.{edit_of};
 ghost use Rattle.eco_journal.specs.Journal.{eco_of, entries_of, unscaled, saved_of};
-ghost use Rattle.eco_journal.specs.Texts.{block_text};
+ghost use Rattle.timing_defs.specs.Saved.{block_text};
 ghost use Rattle.eco_journal.specs.Blocks.{block_of, blocks_text, all_entries, AreFactors, AreLawful};
 
 /// The bytes of a journal are read back as its entries, if these can be written: sessions from 1 to

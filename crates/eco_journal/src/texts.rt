@@ -4,7 +4,7 @@ ghost use Rattle.std.specs.Prelude.{◌≡◌, ◌+◌, ◌^◌, ◌≤◌, ◌+
 ghost use Rattle.std.specs.List.{flat_map};
 ghost use Rattle.std.specs.String.{string_bytes};
 ghost use Rattle.timing_defs.specs.Output.{line, word, number, whole_text, rc_node_text, cap_text, res_text, rc_text, edit_text, entry_text, entries_text};
-ghost use Rattle.eco_journal.specs.Texts.{derates_text, block_text};
+ghost use Rattle.timing_defs.specs.Saved.{derates_text, block_text};
 
 use sta_units::Memory;
 use std::alloc::Global;

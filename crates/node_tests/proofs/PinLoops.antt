@@ -10,7 +10,7 @@ use Rattle.timing_defs.specs.declared.kinds.Tran.TheVariants.{Rise, Fall}
 use Rattle.timing_defs.specs.declared.kinds.Split.TheVariants.{Late}
 use Rattle.timing_defs.specs.declared.library.CellPin.{CellPin}
 use Rattle.timing_defs.specs.declared.faults.Fault.{Fault}
-use Rattle.timing_defs.specs.declared.faults.Fault.TheVariants.{UnknownInstance, UnknownNet, UnknownCell, UnknownPin, NameTaken, PinsDiffer, AlreadyConnected, NotConnected, InUse, ManyDrivers, Loop, ClockNotTree, ConstraintDangling, RcNotTree, RcPinsDiffer, OutOfRange, TooLarge, Memory as no_room, NotBuilt}
+use Rattle.timing_defs.specs.declared.faults.Fault.TheVariants.{UnknownInstance, UnknownNet, UnknownCell, UnknownPin, NameTaken, PinsDiffer, AlreadyConnected, NotConnected, InUse, ManyDrivers, Loop, ClockNotTree, ConstraintDangling, RcNotTree, RcPinsDiffer, OutOfRange, TooLarge, Memory as no_room}
 use Rattle.timing_defs.specs.declared.library.Cell.{Cell}
 use Rattle.timing_defs.specs.Netlist.{cell_of, cell_pins}
 use Rattle.timing_defs.specs.Tests.{Test}
@@ -42,7 +42,6 @@ placed_more a b name (ConstraintDangling n) more h = absurd h
 placed_more a b name (RcNotTree n) more h = absurd h
 placed_more a b name (RcPinsDiffer n) more h = absurd h
 placed_more a b name (TooLarge n) more h = absurd h
-placed_more a b name NotBuilt more h = absurd h
 
 pub or_first : (a b : Bool) → a ≡ true → (a || b) ≡ true
 or_first a b h = rw h refl

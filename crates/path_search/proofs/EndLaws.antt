@@ -18,7 +18,7 @@ use Rattle.timing_defs.specs.declared.kinds.Kind.{Kind}
 use Rattle.timing_defs.specs.declared.kinds.Kind.TheVariants.{Setup, Hold}
 use Rattle.timing_defs.specs.declared.faults.Place.TheVariants.{Pin as at_pin, Net as at_net}
 use Rattle.timing_defs.specs.declared.faults.Fault.{Fault}
-use Rattle.timing_defs.specs.declared.faults.Fault.TheVariants.{UnknownInstance, UnknownNet, UnknownCell, UnknownPin, NameTaken, PinsDiffer, AlreadyConnected, NotConnected, InUse, ManyDrivers, Loop, ClockNotTree, ConstraintDangling, RcNotTree, RcPinsDiffer, OutOfRange, TooLarge, Memory as no_room, NotBuilt}
+use Rattle.timing_defs.specs.declared.faults.Fault.TheVariants.{UnknownInstance, UnknownNet, UnknownCell, UnknownPin, NameTaken, PinsDiffer, AlreadyConnected, NotConnected, InUse, ManyDrivers, Loop, ClockNotTree, ConstraintDangling, RcNotTree, RcPinsDiffer, OutOfRange, TooLarge, Memory as no_room}
 use Rattle.timing_defs.specs.declared.rows.Capture.{Capture}
 use Rattle.timing_defs.specs.declared.design.Design.{Design}
 use Rattle.timing_defs.specs.Netlist.{Node, nodes, pins, name_of, both_nodes}
@@ -126,7 +126,6 @@ module _ (s : Stored) (num : IsNumbered s) (linked : IsLinked s.design) (none : 
   fault_is kind number (RcNotTree x) h = absurd h
   fault_is kind number (RcPinsDiffer x) h = absurd h
   fault_is kind number (TooLarge x) h = absurd h
-  fault_is kind number NotBuilt h = absurd h
 
 module _ (s : Stored) (num : IsNumbered s) (linked : IsLinked s.design) where
   -- the clock pins' nodes of tests are nodes

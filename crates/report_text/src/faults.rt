@@ -82,7 +82,6 @@ pub(crate) fn push_fault(out: &mut Vec<u8>, fault: &Fault) -> Result<(), Memory>
         Fault::OutOfRange(place) => push_out_of_range(out, place),
         Fault::TooLarge(large) => push_too_large(out, large),
         Fault::Memory => Ok(()),
-        Fault::NotBuilt => push(out, b"N2"),
     }
 }
 

@@ -10,6 +10,7 @@
 //! linear in these bytes. Want of memory is the only error.
 #![tactic(auto)]
 
+mod drafts;
 mod faults;
 mod outputs;
 mod pieces;

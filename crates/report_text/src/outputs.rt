@@ -3,10 +3,10 @@
 ghost use Rattle.std.specs.Prelude.{◌≡◌, ◌+◌, ◌++◌, ◌^◌, ◌≤◌, Ok, OnOk, IfOk, codes, length};
 ghost use Rattle.sta_units.specs.Picoseconds.{ps_text};
 ghost use Rattle.timing_defs.specs.Output.{line, word, number, time_text, entry_text, entries_text, journal_text, session_text, sessions_text, final_text, output_text};
-ghost use Rattle.eco_journal.specs.Texts.{block_text};
+ghost use Rattle.timing_defs.specs.Saved.{block_text};
 ghost use Rattle.eco_journal.specs.Journal.{entries_of};
 ghost use Rattle.eco_journal.specs.Written.{AreEntries};
-ghost use Rattle.report_text.specs.Saved.{saved_output_text};
+ghost use Rattle.timing_defs.specs.Saved.{saved_output_text};
 
 use crate::pieces::{push, push_count, push_end, push_ps, push_time};
 use crate::rows::push_rows;

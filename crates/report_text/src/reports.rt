@@ -4,14 +4,17 @@ ghost use Rattle.std.specs.Prelude.{◌≡◌, ◌++◌, OnOk, codes, length};
 ghost use Rattle.std.specs.List.{flat_map};
 ghost use Rattle.sta_units.specs.Picoseconds.{ps_text};
 ghost use Rattle.timing_defs.specs.declared.reports.Report.TheVariants.{Shown};
-ghost use Rattle.timing_defs.specs.Output.{line, word, number, time_text, clock_text, edge_text, query_word, edge_time_text, path_node_text, path_head, path_of, end_text, report_text};
+ghost use Rattle.timing_defs.specs.Output.{line, word, number, time_text, kind_text, clock_text, edge_text, query_word, edge_time_text, path_node_text, path_head, path_of, path_text, end_text, advice_text, plain_text, report_text};
 
+use crate::drafts::push_drafted;
 use crate::pieces::{
     push, push_count, push_end, push_kind, push_number, push_ps, push_time, push_tran, push_word,
 };
 use sta_units::{Fs, Memory};
 use std::alloc::Global;
-use timing_defs::{Clock, EdgeTime, EndRow, Path, PathNode, Query, Report, Tran};
+use timing_defs::{
+    Advice, Clock, EdgeTime, EndRow, Kind, Name, Path, PathNode, Query, Report, Tran,
+};
 
 /// A blank and the name of the clock at a place, from 0; no name where there is no such clock.
 fn push_clock(out: &mut Vec<u8>, clocks: &[Clock], place: u32) -> Result<(), Memory>
@@ -113,15 +116,25 @@ fn push_path_head(
     push_count(alloc, out, b" nodes", path.nodes.len() as u64)
 }
 
+fn push_end_of(out: &mut Vec<u8>, kind: Kind, pin: &Name) -> Result<(), Memory>
+    ensures { OnOk result (out.new.items ≡ out.old.items ++ (word (kind_text kind) ++ word pin.now)) }
+{
+    push_kind(out, kind)?;
+    push_word(out, pin.as_bytes())
+}
+
 /// What the first line of a path says of the question: its kind and its endpoint.
 fn push_path_of(out: &mut Vec<u8>, query: &Query) -> Result<(), Memory>
     ensures { OnOk result (out.new.items ≡ out.old.items ++ path_of query.now) }
 {
     match query {
-        Query::WorstPath { pin, kind } => {
-            push_kind(out, *kind)?;
-            push_word(out, pin.as_bytes())
-        }
+        Query::WorstPath { pin, kind } => push_end_of(out, *kind, pin),
+        Query::Through { pin, kind, pins: _ } => push_end_of(out, *kind, pin),
+        Query::Paths {
+            pin,
+            kind,
+            count: _,
+        } => push_end_of(out, *kind, pin),
         Query::Slew { .. }
         | Query::At { .. }
         | Query::Rat { .. }
@@ -129,7 +142,9 @@ fn push_path_of(out: &mut Vec<u8>, query: &Query) -> Result<(), Memory>
         | Query::Endpoint { .. }
         | Query::Wns { .. }
         | Query::Tns { .. }
-        | Query::Worst { .. } => Ok(()),
+        | Query::Worst { .. }
+        | Query::WhatIf { .. }
+        | Query::Advise { .. } => Ok(()),
     }
 }
 
@@ -140,7 +155,7 @@ fn push_path(
     query: &Query,
     path: &Path,
 ) -> Result<(), Memory>
-    ensures { OnOk result (out.new.items ≡ out.old.items ++ (line (codes "path" ++ path_of query.now ++ path_head clocks.now path.now) ++ flat_map path_node_text path.now.nodes)) }
+    ensures { OnOk result (out.new.items ≡ out.old.items ++ path_text clocks.now query.now path.now) }
 {
     push(out, b"path")?;
     push_path_of(out, query)?;
@@ -157,7 +172,7 @@ fn push_shown(
     query: &Query,
     path: &Option<Path>,
 ) -> Result<(), Memory>
-    ensures { OnOk result (out.new.items ≡ out.old.items ++ report_text clocks.now query.now (Shown path.now)) }
+    ensures { OnOk result (out.new.items ≡ out.old.items ++ plain_text clocks.now query.now (Shown path.now)) }
 {
     match path {
         None => push(out, b"path none\n"),
@@ -207,6 +222,10 @@ fn push_query_word(out: &mut Vec<u8>, query: &Query) -> Result<(), Memory>
         Query::Wns { .. } => push(out, b"wns"),
         Query::Tns { .. } => push(out, b"tns"),
         Query::Worst { .. } => push(out, b"worst"),
+        Query::Through { .. } => push(out, b"path"),
+        Query::Paths { .. } => push(out, b"paths"),
+        Query::WhatIf { .. } => push(out, b"what_if"),
+        Query::Advise { .. } => push(out, b"advice"),
     }
 }
 
@@ -240,6 +259,76 @@ fn push_times(
     push_end(out)
 }
 
+#[tactic(auto, using(std::proofs::lemmas::List::drop_more))]
+fn push_each_path(
+    alloc: Global,
+    out: &mut Vec<u8>,
+    clocks: &[Clock],
+    query: &Query,
+    paths: &[Path],
+) -> Result<(), Memory>
+    ensures { OnOk result (out.new.items ≡ out.old.items ++ flat_map (path_text clocks.now query.now) paths.now) }
+{
+    for path in paths {
+        push_path(alloc, out, clocks, query, path)?;
+    }
+    Ok(())
+}
+
+/// The worst paths of an endpoint: how many, and each.
+fn push_paths(
+    alloc: Global,
+    out: &mut Vec<u8>,
+    clocks: &[Clock],
+    query: &Query,
+    paths: &[Path],
+) -> Result<(), Memory>
+    ensures { OnOk result (out.new.items ≡ out.old.items ++ (line (codes "paths" ++ number (length paths.now)) ++ flat_map (path_text clocks.now query.now) paths.now)) }
+{
+    push_count(alloc, out, b"paths", paths.len() as u64)?;
+    push_end(out)?;
+    push_each_path(alloc, out, clocks, query, paths)
+}
+
+fn push_advice(alloc: Global, out: &mut Vec<u8>, advice: &Advice) -> Result<(), Memory>
+    ensures { OnOk result (out.new.items ≡ out.old.items ++ line (codes "advice" ++ word advice.now.inst ++ word advice.now.cell ++ word (ps_text advice.now.wns.0))) }
+{
+    push(out, b"advice")?;
+    push_word(out, advice.inst.as_bytes())?;
+    push_word(out, advice.cell.as_bytes())?;
+    push_ps(alloc, out, advice.wns)?;
+    push_end(out)
+}
+
+/// The advised resize with its worst slack, or that there is none.
+fn push_advised(alloc: Global, out: &mut Vec<u8>, advice: &Option<Advice>) -> Result<(), Memory>
+    ensures { OnOk result (out.new.items ≡ out.old.items ++ advice_text advice.now) }
+{
+    match advice {
+        None => push(out, b"advice none\n"),
+        Some(advice) => push_advice(alloc, out, advice),
+    }
+}
+
+/// A report of a plain question; nothing of another report.
+pub(crate) fn push_plain(
+    alloc: Global,
+    out: &mut Vec<u8>,
+    clocks: &[Clock],
+    query: &Query,
+    report: &Report,
+) -> Result<(), Memory>
+    ensures { OnOk result (out.new.items ≡ out.old.items ++ plain_text clocks.now query.now report.now) }
+{
+    match report {
+        Report::Value(time) => push_value(alloc, out, query, *time),
+        Report::Times(times) => push_times(alloc, out, clocks, query, times.as_slice()),
+        Report::Shown(path) => push_shown(alloc, out, clocks, query, path),
+        Report::Ends(rows) => push_ends(alloc, out, rows.as_slice()),
+        Report::Paths(_) | Report::Drafted(_) | Report::Advised(_) => Ok(()),
+    }
+}
+
 /// A report by its question.
 pub(crate) fn push_report(
     alloc: Global,
@@ -255,5 +344,8 @@ pub(crate) fn push_report(
         Report::Times(times) => push_times(alloc, out, clocks, query, times.as_slice()),
         Report::Shown(path) => push_shown(alloc, out, clocks, query, path),
         Report::Ends(rows) => push_ends(alloc, out, rows.as_slice()),
+        Report::Paths(paths) => push_paths(alloc, out, clocks, query, paths.as_slice()),
+        Report::Drafted(rows) => push_drafted(alloc, out, clocks, rows.as_slice()),
+        Report::Advised(advice) => push_advised(alloc, out, advice),
     }
 }

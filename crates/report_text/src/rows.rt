@@ -11,7 +11,7 @@ use sta_units::Memory;
 use std::alloc::Global;
 use timing_defs::{Answer, Clock, Fault, Items, Query, QueryFault, Report, Row};
 
-fn push_refused(out: &mut Vec<u8>, fault: &Fault) -> Result<(), Memory>
+pub(crate) fn push_refused(out: &mut Vec<u8>, fault: &Fault) -> Result<(), Memory>
     ensures { OnOk result (out.new.items ≡ out.old.items ++ line (codes "refused" ++ word (fault_text fault.now))) }
 {
     push(out, b"refused ")?;
@@ -19,7 +19,7 @@ fn push_refused(out: &mut Vec<u8>, fault: &Fault) -> Result<(), Memory>
     push_end(out)
 }
 
-fn push_no(out: &mut Vec<u8>, fault: &QueryFault) -> Result<(), Memory>
+pub(crate) fn push_no(out: &mut Vec<u8>, fault: &QueryFault) -> Result<(), Memory>
     ensures { OnOk result (out.new.items ≡ out.old.items ++ line (codes "no" ++ word (query_fault_text fault.now))) }
 {
     push(out, b"no ")?;

@@ -97,7 +97,6 @@ back_is_range s k (fault.ConstraintDangling x) r = absurd r
 back_is_range s k (fault.RcNotTree x) r = absurd r
 back_is_range s k (fault.RcPinsDiffer x) r = absurd r
 back_is_range s k (fault.TooLarge x) r = absurd r
-back_is_range s k fault.NotBuilt r = absurd r
 
 module _ (g : Graphed) (num : IsNumbered g.stored) (linked : IsLinked g.stored.design) (is : IsGraph g) where
   -- a node above which all levels are done is ready

@@ -278,7 +278,6 @@ module _ (s : Stored) (num : IsNumbered s) (linked : IsLinked s.design) (k : ℕ
   refused wide (fault.RcNotTree x) cause r = absurd r
   refused wide (fault.RcPinsDiffer x) cause r = absurd r
   refused wide (fault.TooLarge x) cause r = absurd r
-  refused wide fault.NotBuilt cause r = absurd r
 
   some_node : (f : Node → Bool) (o : Option Node) → option_map_or f o false ≡ true → (n : Node) × ((o ≡ Some n) × (f n ≡ true))
   some_node f None e = absurd (false≢true e)

@@ -2,7 +2,7 @@
 -- code (own).
 use Rattle.std.specs.Prelude.{◌≡◌, ℕ, List, [], ◌∷◌, Bool, ◌==◌, ◌&&◌, ◌||◌, nat_lt, Option, Some, None, if◌then◌else◌}
 use Rattle.timing_defs.specs.declared.codes.Code.{Code}
-use Rattle.timing_defs.specs.declared.codes.Code.TheVariants.{LibertyUnbalanced, LibertyBadToken, LibertyEncoding, LibertyBadUnit, LibertyUnknownTemplate, LibertyBadTable, LibertyDoubleName, LibertyIndexNotRising, LibertyOtherDelayModel, LibertyTooMany, VerilogBadToken, VerilogLeftOut, VerilogUndeclared, VerilogDoubleName, VerilogNoModule, VerilogTooMany, SdcBadWord, SdcUnknownCommand, SdcLeftOut, SdcBadNumber, SdcUnknownClock, SdcTooManyClocks, SpefBadHeader, SpefUnknownName, SpefLeftOut, SpefBadNumber, SpefDoubleNet, ScriptBadCommand, ScriptTooLong, JournalBadLine, JournalBadNumber, JournalVersion, JournalOtherDerates, NotBuilt}
+use Rattle.timing_defs.specs.declared.codes.Code.TheVariants.{LibertyUnbalanced, LibertyBadToken, LibertyEncoding, LibertyBadUnit, LibertyUnknownTemplate, LibertyBadTable, LibertyDoubleName, LibertyIndexNotRising, LibertyOtherDelayModel, LibertyTooMany, VerilogBadToken, VerilogLeftOut, VerilogUndeclared, VerilogDoubleName, VerilogNoModule, VerilogTooMany, SdcBadWord, SdcUnknownCommand, SdcLeftOut, SdcBadNumber, SdcUnknownClock, SdcTooManyClocks, SpefBadHeader, SpefUnknownName, SpefLeftOut, SpefBadNumber, SpefDoubleNet, ScriptBadCommand, ScriptTooLong, JournalBadLine, JournalBadNumber, JournalVersion, JournalOtherDerates}
 use Rattle.timing_defs.specs.declared.codes.ReadFault.{ReadFault}
 use Rattle.timing_defs.specs.declared.codes.ReadFault.TheVariants.{At, Memory}
 use Rattle.sta_text.specs.declared.faults.Wrong.{Wrong}
@@ -42,7 +42,6 @@ rank JournalBadLine = 1
 rank JournalBadNumber = 2
 rank JournalVersion = 3
 rank JournalOtherDerates = 5
-rank NotBuilt = 1
 
 -- at a lower place, or at the same place with a lower code
 abbrev pub is_before : Wrong → Wrong → Bool

@@ -22,8 +22,7 @@ fn rank(code: Code) -> u8
         | Code::SdcBadWord
         | Code::SpefBadHeader
         | Code::ScriptBadCommand
-        | Code::JournalBadLine
-        | Code::NotBuilt => 1,
+        | Code::JournalBadLine => 1,
         Code::LibertyBadToken
         | Code::VerilogLeftOut
         | Code::SdcUnknownCommand

@@ -1,0 +1,87 @@
+//! The rows of trials on a draft.
+
+ghost use Rattle.std.specs.Prelude.{◌≡◌, ◌++◌, OnOk, codes, length};
+ghost use Rattle.std.specs.List.{flat_map};
+ghost use Rattle.timing_defs.specs.Output.{line, number, plainly_told, trial_text, trial_row_text};
+
+use crate::pieces::{push, push_count, push_end};
+use crate::reports::push_plain;
+use crate::rows::{push_no, push_refused};
+use sta_units::Memory;
+use std::alloc::Global;
+use timing_defs::{Clock, Query, Report, TrialAnswer, TrialRow};
+
+/// A report of a plain question; nothing where there is no question.
+fn push_plainly_told(
+    alloc: Global,
+    out: &mut Vec<u8>,
+    clocks: &[Clock],
+    query: &Option<Query>,
+    report: &Report,
+) -> Result<(), Memory>
+    ensures { OnOk result (out.new.items ≡ out.old.items ++ plainly_told clocks.now query.now report.now) }
+{
+    match query {
+        None => Ok(()),
+        Some(query) => push_plain(alloc, out, clocks, query, report),
+    }
+}
+
+fn push_trial(
+    alloc: Global,
+    out: &mut Vec<u8>,
+    clocks: &[Clock],
+    query: &Option<Query>,
+    answer: &TrialAnswer,
+) -> Result<(), Memory>
+    ensures { OnOk result (out.new.items ≡ out.old.items ++ trial_text clocks.now query.now answer.now) }
+{
+    match answer {
+        TrialAnswer::Tried => push(out, b"tried\n"),
+        TrialAnswer::Refused(fault) => push_refused(out, fault),
+        TrialAnswer::Dropped => push(out, b"dropped\n"),
+        TrialAnswer::NoDraft => push(out, b"no_draft\n"),
+        TrialAnswer::No(fault) => push_no(out, fault),
+        TrialAnswer::Told(report) => push_plainly_told(alloc, out, clocks, query, report),
+    }
+}
+
+fn push_trial_row(
+    alloc: Global,
+    out: &mut Vec<u8>,
+    clocks: &[Clock],
+    row: &TrialRow,
+) -> Result<(), Memory>
+    ensures { OnOk result (out.new.items ≡ out.old.items ++ trial_row_text clocks.now row.now) }
+{
+    push_trial(alloc, out, clocks, &row.query, &row.answer)
+}
+
+#[tactic(auto, using(std::proofs::lemmas::List::drop_more))]
+fn push_trial_rows(
+    alloc: Global,
+    out: &mut Vec<u8>,
+    clocks: &[Clock],
+    rows: &[TrialRow],
+) -> Result<(), Memory>
+    ensures { OnOk result (out.new.items ≡ out.old.items ++ flat_map (trial_row_text clocks.now) rows.now) }
+{
+    for row in rows {
+        push_trial_row(alloc, out, clocks, row)?;
+    }
+    Ok(())
+}
+
+/// The trials on a draft: how many, and the answer of each.
+pub(crate) fn push_drafted(
+    alloc: Global,
+    out: &mut Vec<u8>,
+    clocks: &[Clock],
+    rows: &[TrialRow],
+) -> Result<(), Memory>
+    ensures { OnOk result (out.new.items ≡ out.old.items ++ (line (codes "what_if" ++ number (length rows.now)) ++ flat_map (trial_row_text clocks.now) rows.now)) }
+{
+    push_count(alloc, out, b"what_if", rows.len() as u64)?;
+    push_end(out)?;
+    push_trial_rows(alloc, out, clocks, rows)
+}
