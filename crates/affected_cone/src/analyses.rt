@@ -2,7 +2,8 @@
 
 ghost use Rattle.std.specs.Prelude.{◌≡◌, ◌≤◌, ◌⊎◌, Some, IfOk, IfErr};
 ghost use Rattle.timing_defs.specs.Checks.{IsSound};
-ghost use Rattle.timing_defs.specs.Reports.{AreTotals, Told, query_fault};
+ghost use Rattle.timing_defs.specs.Reports.{AreTotals, is_plain};
+ghost use Rattle.timing_defs.specs.Questions.{Told, query_fault};
 ghost use Rattle.pin_graph.specs.RowTables.{IsRangeFault};
 ghost use Rattle.affected_cone.specs.Analysed.{IsAnalysis};
 
@@ -129,12 +130,13 @@ impl Analysis {
         &self.graph
     }
 
-    /// The answer to a question, for the store of the analysis. A report on a node, an endpoint's slack
+    /// The answer to a plain question, for the store of the analysis. A report on a node, an endpoint's slack
     /// and the totals are looked up or summed; a path is searched for. `UnknownPin`, else `NotEndpoint`,
     /// else `NotClocked` exactly where the question's pin is not there, is no endpoint, or is a
     /// register's pin that is not clocked for the kind.
     pub fn ask(&self, alloc: Global, store: &Store, q: &Query) -> Result<Report, QueryFault>
-        requires { store.now ≡ self.now.stored }
+        requires store { store.now ≡ self.now.stored }
+        requires plain { is_plain q.now ≡ true }
         ensures told { IfOk result (Told self.now.stored.design q.now) }
         ensures refused { IfErr result (λ fault. (fault ≡ QueryFault.Memory) ⊎ (query_fault self.now.stored.design q.now ≡ Some fault)) }
     {

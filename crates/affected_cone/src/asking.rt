@@ -2,7 +2,8 @@
 
 ghost use Rattle.std.specs.Prelude.{◌≡◌, pos, map, Some, IfOk, IfErr};
 ghost use Rattle.timing_defs.specs.Required.{back_times};
-ghost use Rattle.timing_defs.specs.Reports.{Told, fs_value, query_fault};
+ghost use Rattle.timing_defs.specs.Reports.{fs_value, is_plain};
+ghost use Rattle.timing_defs.specs.Questions.{Told, query_fault};
 ghost use Rattle.affected_cone.specs.Analysed.{slack_in};
 ghost use Rattle.affected_cone.specs.Asked.{IsRefusal};
 ghost use Rattle.affected_cone.specs.Floors.{floored};
@@ -208,9 +209,10 @@ fn total_slack(known: &Known<'_>, kind: Kind) -> Report
     value_report(total_of(known.ends, kind))
 }
 
-/// The answer to a question.
+/// The answer to a plain question.
 pub(crate) fn answer(alloc: Global, known: &Known<'_>, q: &Query) -> Result<Report, QueryFault>
-    requires { IsKnown known.now }
+    requires known { IsKnown known.now }
+    requires plain { is_plain q.now ≡ true }
     ensures told { IfOk result (Told known.now.store.now.design q.now) }
     ensures refused { IfErr result (IsRefusal (query_fault known.now.store.now.design q.now)) }
 {
@@ -224,5 +226,7 @@ pub(crate) fn answer(alloc: Global, known: &Known<'_>, q: &Query) -> Result<Repo
         Query::Wns { kind } => Ok(least_slack(known, *kind)),
         Query::Tns { kind } => Ok(total_slack(known, *kind)),
         Query::Worst { kind, count } => worst(alloc, known, *kind, *count),
+        Query::Through { .. } | Query::Paths { .. } | Query::WhatIf { .. } | Query::Advise { .. } =>
+            { unreachable!() }
     }
 }

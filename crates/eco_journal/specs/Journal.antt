@@ -8,6 +8,7 @@ use Rattle.timing_defs.specs.declared.codes.Code.TheVariants.{JournalBadLine, Jo
 use Rattle.timing_defs.specs.declared.codes.ReadFault.{ReadFault}
 use Rattle.timing_defs.specs.declared.codes.ReadFault.TheVariants.{At, Memory as no_memory}
 use Rattle.timing_defs.specs.declared.constraints.Derates.{Derates}
+use Rattle.timing_defs.specs.Documents.{no_derates}
 use Rattle.timing_defs.specs.declared.edits.Edit.{Edit}
 use Rattle.timing_defs.specs.declared.edits.Eco.{Eco}
 use Rattle.timing_defs.specs.declared.edits.Entry.{Entry}
@@ -80,7 +81,7 @@ head_of head = record { session = head.session; edits = head.edits }
 
 -- the factors by which no delay is scaled, in millionths
 abbrev pub unscaled : Derates
-unscaled = record { early_cell = 1000000; late_cell = 1000000; early_net = 1000000; late_net = 1000000 }
+unscaled = no_derates
 
 abbrev pub same_derates : Derates → Derates → Bool
 same_derates a b =

@@ -11,7 +11,7 @@ ghost use Rattle.timing_defs.specs.declared.codes.ReadFault.TheVariants.{At};
 ghost use Rattle.timing_defs.specs.declared.codes.Code.TheVariants.{JournalOtherDerates};
 ghost use Rattle.timing_defs.specs.declared.constraints.Derates.{Derates};
 ghost use Rattle.eco_journal.specs.Stops.{Gives};
-ghost use Rattle.eco_journal.specs.Journal.{Text, at_line, entries, is_block, factors_next, unscaled, same_derates, derates_of, block_form, block_head, first_block, later_block, factors, factors_read, block, block_left, entries_left, saved_of, Fails, Tells};
+ghost use Rattle.eco_journal.specs.Journal.{Text, at_line, entries, is_block, factors_next, same_derates, derates_of, block_form, block_head, first_block, later_block, factors, factors_read, block, block_left, entries_left, saved_of, Fails, Tells};
 ghost use Rattle.eco_journal.specs.Saved.{behind_head};
 
 use crate::entries::{are_graphic, entries, is_form, number_at};
@@ -22,9 +22,6 @@ use crate::stops::Stop;
 use std::alloc::Global;
 use timing_defs::{Code, Derates, Entry, Items, ReadFault};
 
-/// The factor that scales no delay, in millionths.
-const ONE: u32 = 1_000_000;
-
 /// The greatest factor, in millionths.
 const FACTOR_LIMIT: u64 = 10_000_000;
 
@@ -33,17 +30,6 @@ const FACTOR_LIMIT: u64 = 10_000_000;
 enum BlockHead {
     Plain(u128),
     Scaled { flaw: Option<usize>, count: u128 },
-}
-
-fn unscaled() -> Derates
-    ensures { result ≡ unscaled }
-{
-    Derates {
-        early_cell: ONE,
-        late_cell: ONE,
-        early_net: ONE,
-        late_net: ONE,
-    }
 }
 
 fn same_derates(a: &Derates, b: &Derates) -> bool
@@ -107,7 +93,7 @@ fn first_block(
     if words.len() != 3 || before != 0 {
         return Err(bad_line(at));
     }
-    if !same_derates(&unscaled(), derates) {
+    if !same_derates(&Derates::none(), derates) {
         return Err(other_derates(at));
     }
     let count = count_at(words, 2)?;

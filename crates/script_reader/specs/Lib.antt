@@ -1,4 +1,4 @@
 pub mod Commands
 pub mod Scripts
 pub mod Progress
-pub mod Ecos
+pub mod Answerable

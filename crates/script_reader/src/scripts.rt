@@ -7,7 +7,7 @@ ghost use Rattle.sta_text.specs.declared.faults.Wrong.{Wrong};
 ghost use Rattle.sta_text.specs.Faults.{lesser, least_from};
 ghost use Rattle.eco_journal.specs.Journal.{Tells};
 ghost use Rattle.script_reader.specs.Scripts.{Event, long, single, change, group_begin, group_end, Place, outside, inside, bad, behind, too_long, line_said, told, script_of};
-ghost use Rattle.script_reader.specs.Ecos.{has_ecos};
+ghost use Rattle.script_reader.specs.Answerable.{are_answerable};
 ghost use Rattle.script_reader.specs.Progress.{said_events, behind_progress, whole};
 
 use crate::lines::{Said, read_line};
@@ -256,7 +256,7 @@ fn whole_script(alloc: Global, bytes: &[u8]) -> Result<Script, ReadFault>
 /// memory.
 pub fn read_script(alloc: Global, bytes: &[u8]) -> Result<Script, ReadFault>
     ensures value { Tells result (script_of bytes.now) }
-    ensures kept { IfOk result (λ script. has_ecos script ≡ true) }
+    ensures kept { IfOk result (λ script. are_answerable script ≡ true) }
 {
     whole_script(alloc, bytes)
 }

@@ -14,6 +14,7 @@ use Rattle.timing_defs.specs.declared.constraints.Effect.{Effect}
 use Rattle.timing_defs.specs.declared.constraints.Effect.TheVariants.{FalseSetup, FalseHold, CyclesSetup, CyclesHold}
 use Rattle.timing_defs.specs.declared.constraints.Exception.{Exception}
 use Rattle.timing_defs.specs.declared.constraints.Derates.{Derates}
+use Rattle.timing_defs.specs.Documents.{no_derates}
 use Rattle.timing_defs.specs.declared.constraints.Constraints.{Constraints}
 use Rattle.sta_text.specs.Names.{stands}
 use Rattle.sdc_reader.specs.declared.commands.Command.{Command}
@@ -290,13 +291,6 @@ after s (Fault w) = s
 unfoldable pub last : Interpreter → List Event → Interpreter
 last s [] = s
 last s (e ∷ es) = last (after s e) es
-
--- a factor of one
-abbrev pub no_derate : ℕ
-no_derate = 1000000
-
-abbrev pub no_derates : Derates
-no_derates = record { early_cell = no_derate; late_cell = no_derate; early_net = no_derate; late_net = no_derate }
 
 -- before the first command nothing is set
 abbrev pub start : Units → Interpreter

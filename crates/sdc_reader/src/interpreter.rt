@@ -3,7 +3,7 @@
 ghost use Rattle.std.specs.Prelude.{◌≡◌, ◌≤◌, ◌++◌, ◌∷◌, [], length, IfOk, OnOk, Some, None};
 ghost use Rattle.sdc_reader.specs.declared.commands.Command.TheVariants as commands;
 ghost use Rattle.sdc_reader.specs.declared.events.Event.TheVariants as events;
-ghost use Rattle.sdc_reader.specs.Meaning.{clock_limit, no_derates, start, with_clock, new_clock, delay_amount, plain_amount, set_ports, set_loads, with_object, ended, after, constraints};
+ghost use Rattle.sdc_reader.specs.Meaning.{clock_limit, start, with_clock, new_clock, delay_amount, plain_amount, set_ports, set_loads, with_object, ended, after, constraints};
 
 use crate::clocks::{delay_amount, new_clock, plain_amount, uncertain_clocks};
 use crate::commands::{Command, Getter, Quantity, Role};
@@ -17,9 +17,6 @@ use std::alloc::Global;
 use timing_defs::{
     Clock, Constraints, Derates, Exception, Items, Name, PortDelay, PortLoad, PortSlew, Units,
 };
-
-/// A factor of one, in millionths.
-const NO_DERATE: u32 = 1_000_000;
 
 /// What the commands so far have set, and the command that is being read.
 #[derive(Drop)]
@@ -42,17 +39,6 @@ struct PortSettings {
     outputs: Items<PortDelay>,
     slews: Items<PortSlew>,
     loads: Items<PortLoad>,
-}
-
-fn no_derates() -> Derates
-    ensures { result ≡ no_derates }
-{
-    Derates {
-        early_cell: NO_DERATE,
-        late_cell: NO_DERATE,
-        early_net: NO_DERATE,
-        late_net: NO_DERATE,
-    }
 }
 
 /// Sets a value at the ports of a command.
@@ -99,7 +85,7 @@ impl Interpreter {
             slews: PortTable::new(alloc),
             loads: PortTable::new(alloc),
             exceptions: Items::new(alloc),
-            derates: no_derates(),
+            derates: Derates::none(),
         }
     }
 

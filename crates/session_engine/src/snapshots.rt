@@ -3,7 +3,8 @@
 ghost use Rattle.std.specs.Prelude.{◌≡◌, ◌⊎◌, Some, IfOk, IfErr};
 ghost use Rattle.std.specs.Arc.{arc_value};
 ghost use Rattle.timing_defs.specs.declared.faults.QueryFault.TheVariants.{Memory as no_answer};
-ghost use Rattle.timing_defs.specs.Reports.{Told, query_fault};
+ghost use Rattle.timing_defs.specs.Reports.{is_plain};
+ghost use Rattle.timing_defs.specs.Questions.{Told, query_fault};
 
 use crate::versions::Version;
 use std::alloc::Global;
@@ -54,9 +55,10 @@ impl Snapshot {
         self.version().number()
     }
 
-    /// The answer to a question of the version's design. A question is refused where its pin is not there
+    /// The answer to a plain question of the version's design. A question is refused where its pin is not there
     /// (`Q1`), is no endpoint (`Q2`), or has no test of the kind with a network clock pin (`Q3`).
     pub fn query(&self, alloc: Global, question: &Query) -> Result<Report, QueryFault>
+        requires { is_plain question.now ≡ true }
         ensures told { IfOk result (Told self.now.stored.design question.now) }
         ensures refused { IfErr result (λ x. (x ≡ no_answer) ⊎ (query_fault self.now.stored.design question.now ≡ Some x)) }
     {

@@ -26,7 +26,7 @@ use Rattle.eco_journal.proofs.Lawful.{edit_there}
 use Rattle.script_reader.specs.Commands.{words_in, awaited, asked, query_of, command_of}
 use Rattle.eco_journal.specs.Journal.{Tells}
 use Rattle.script_reader.specs.Scripts.{Event, long, single, change, group_begin, group_end, unknown, is_ascii, is_passed, is_alone, edit_said, command_said, words_said, line_said, too_long, events, Place, outside, inside, commands, behind, if_empty, excess, faults, told, script_of}
-use Rattle.script_reader.specs.Ecos.{has_ecos}
+use Rattle.script_reader.specs.Answerable.{are_answerable}
 use Rattle.shell_core.specs.Scripts.{has_looks, CanStand, IsScript}
 
 -- the commands that lines say wait with a look at least
@@ -205,15 +205,15 @@ commands_kept count (inside begin edits) (unknown n ∷ es) room fine h = absurd
 
 -- a script where there is one
 abbrev IfScript : Result Script ReadFault → Type 0
-IfScript (Ok script) = has_ecos script ≡ true → IsScript script
+IfScript (Ok script) = are_answerable script ≡ true → IsScript script
 IfScript (Err fault) = Unit {0}
 
-told_kept : (script : Script) (least : Option Wrong) (cs : List Command) → (least ≡ None → AreKept 0 cs) → told least cs ≡ Ok script → has_ecos script ≡ true → IsScript script
-told_kept script None cs kept read ecos = subst IfScript read (λ good. record { looks = (kept refl).looks; written = (kept refl).written; ecos = good; few = (let h = (kept refl).few in omega (arith, h)) }) ecos
+told_kept : (script : Script) (least : Option Wrong) (cs : List Command) → (least ≡ None → AreKept 0 cs) → told least cs ≡ Ok script → are_answerable script ≡ true → IsScript script
+told_kept script None cs kept read ecos = subst IfScript read (λ good. record { looks = (kept refl).looks; written = (kept refl).written; answerable = good; few = (let h = (kept refl).few in omega (arith, h)) }) ecos
 told_kept script (Some wrong) cs kept read ecos = absurd (cc)
 
 -- what a script that is read holds
-pub script_read : (text : List ℕ) (script : Script) → script_of text ≡ Ok script → has_ecos script ≡ true → IsScript script
+pub script_read : (text : List ℕ) (script : Script) → script_of text ≡ Ok script → are_answerable script ≡ true → IsScript script
 script_read text script read ecos =
     let es = events 1 (lines_of text) in
     told_kept script (least_from None (faults 0 outside es)) (commands outside es)
@@ -235,7 +235,7 @@ script_refused text code place read =
     sym (told_is (least_from None (faults 0 outside (events 1 (lines_of text)))) (commands outside (events 1 (lines_of text)))) ∙ ap fault_in read
 
 -- what a reader tells of a script
-pub script_told : (r : Result Script ReadFault) (text : List ℕ) → Tells r (script_of text) → IfOk r (λ s. has_ecos s ≡ true)
+pub script_told : (r : Result Script ReadFault) (text : List ℕ) → Tells r (script_of text) → IfOk r (λ s. are_answerable s ≡ true)
     → MatchResult r (λ s. (script_of text ≡ Ok s) × IsScript s) (λ e. Fails e (faults 0 outside (events 1 (lines_of text))))
 script_told (Ok script) text read ecos = (read, script_read text script read ecos)
 script_told (Err (At code place)) text read ecos = script_refused text code place read

@@ -6,7 +6,7 @@ use Rattle.timing_defs.specs.declared.scripts.Command.{Command}
 use Rattle.timing_defs.specs.declared.scripts.Command.TheVariants.{Take, Await, Ask, Change}
 use Rattle.timing_defs.specs.declared.scripts.Script.{Script}
 use Rattle.eco_journal.specs.Written.{IsEco}
-use Rattle.script_reader.specs.Ecos.{has_ecos}
+use Rattle.script_reader.specs.Answerable.{are_answerable}
 
 -- a command that waits has a look at least
 abbrev pub has_looks : Command → Bool
@@ -24,5 +24,5 @@ CanStand (Change eco) = IsEco eco
 pub record IsScript (script : Script) : Type 0 where
   pub looks : list_all has_looks script.commands ≡ true
   pub written : All CanStand script.commands
-  pub ecos : has_ecos script ≡ true
+  pub answerable : are_answerable script ≡ true
   pub few : length script.commands ≤ 10000

@@ -14,7 +14,8 @@ use Rattle.timing_defs.specs.declared.scripts.Transcript.{Transcript}
 use Rattle.timing_defs.specs.Checks.{Refuses}
 use Rattle.timing_defs.specs.declared.scripts.Totals.{Totals}
 use Rattle.timing_defs.specs.Output.{output_text}
-use Rattle.timing_defs.specs.Reports.{Told, query_fault, AreTotals}
+use Rattle.timing_defs.specs.Reports.{AreTotals}
+use Rattle.timing_defs.specs.Questions.{Told, query_fault}
 use Rattle.timing_defs.specs.Sessions.{OrderedFrom, AreTrue, mark_of, query_of, ecos_of, accepted_ecos}
 use Rattle.session_engine.specs.Versions.{Versioned, IsVersion, IsNext}
 

@@ -7,14 +7,15 @@ ghost use Rattle.timing_defs.specs.declared.design.Design.{Design};
 ghost use Rattle.timing_defs.specs.declared.scripts.Command.{Command};
 ghost use Rattle.timing_defs.specs.Sessions.{query_of};
 ghost use Rattle.timing_defs.specs.Documents.{is_eco};
-ghost use Rattle.script_reader.specs.Ecos.{has_eco};
+ghost use Rattle.timing_defs.specs.Reports.{is_plain};
+ghost use Rattle.script_reader.specs.Answerable.{is_answerable};
 ghost use Rattle.shell_core.specs.Scripts.{has_looks};
 ghost use Rattle.shell_session.specs.Session.{Waits, Tells, Changes, Answers, IsRow, IsRun};
 
 use crate::discards::{discard_query, discard_rows};
 use session_engine::{Snapshot, Version, prepare};
 use sta_outside::Gate;
-use sta_units::{Memory, Steps};
+use sta_units::{Again, Memory, Steps};
 use std::alloc::Global;
 use std::sync::Arc;
 use std::thread::Threads;
@@ -56,8 +57,9 @@ fn wait(alloc: Global, held: u64, number: u64, looks: u32) -> Result<Answer, Mem
     Ok(Answer::NotYet(seen))
 }
 
-/// What a snapshot answers a question.
+/// What a snapshot answers a plain question.
 fn told(alloc: Global, snapshot: &Snapshot, query: &Query) -> Result<Answer, Memory>
+    requires { is_plain query.now ≡ true }
     ensures { IfOk result (Tells snapshot.now.stored.design query.now) }
 {
     match snapshot.query(alloc, query) {
@@ -67,8 +69,9 @@ fn told(alloc: Global, snapshot: &Snapshot, query: &Query) -> Result<Answer, Mem
     }
 }
 
-/// The answer of a version to a question.
+/// The answer of a version to a plain question.
 fn ask(alloc: Global, held: &Arc<Version>, query: &Query) -> Result<Answer, Memory>
+    requires { is_plain query.now ≡ true }
     ensures { IfOk result (Tells (arc_value held.now).stored.design query.now) }
 {
     let snapshot = Snapshot::of(held.clone()?);
@@ -132,7 +135,7 @@ fn answer<H: Threads + Sync, G: Gate>(
 ) -> Result<(Arc<Version>, Answer), Memory>
     requires some { 1 ≤ workers }
     requires most { workers ≤ 32 }
-    requires eco { has_eco command.now ≡ true }
+    requires answerable { is_answerable command.now ≡ true }
     ensures { IfOk result (λ got. Answers (arc_value held) command.now (arc_value got.0) got.1) }
 {
     match command {
@@ -150,12 +153,12 @@ fn answer<H: Threads + Sync, G: Gate>(
 }
 
 /// The question of a command that asks.
-fn query_of(command: &Command) -> Result<Option<Query>, Memory>
+fn query_of(alloc: Global, command: &Command) -> Result<Option<Query>, Memory>
     ensures { IfOk result (λ query. query ≡ query_of command.now) }
 {
     match command {
         Command::Ask(query) => {
-            let query = query.clone()?;
+            let query = query.again(alloc)?;
             Ok(Some(query))
         }
         Command::Take | Command::Await { .. } | Command::Change(_) => Ok(None),
@@ -174,11 +177,11 @@ fn answered<H: Threads + Sync, G: Gate>(
 ) -> Result<(Arc<Version>, Row), Memory>
     requires some { 1 ≤ workers }
     requires most { workers ≤ 32 }
-    requires eco { has_eco command.now ≡ true }
+    requires answerable { is_answerable command.now ≡ true }
     ensures { IfOk result (λ got. IsRow place command.now (arc_value held) (arc_value got.0) got.1) }
 {
     held.laws();
-    match query_of(command) {
+    match query_of(alloc, command) {
         Ok(query) => match answer(rt, alloc, held, command, workers, gate) {
             Ok((held, answer)) => {
                 held.laws();
@@ -217,7 +220,7 @@ fn step<H: Threads + Sync, G: Gate>(
     requires some { 1 ≤ workers }
     requires most { workers ≤ 32 }
     requires looks { has_looks command.now ≡ true }
-    requires eco { has_eco command.now ≡ true }
+    requires answerable { is_answerable command.now ≡ true }
     ensures { IfOk result (λ next. (origin : Design) (first : ℕ) (commands : List Command) → place ≡ length commands + 1 → IsRun origin first commands (arc_value held) rows.old → IsRun origin first (commands ++ command.now ∷ []) (arc_value next) rows.new) }
 {
     match answered(rt, alloc, held, place, command, workers, gate) {
@@ -246,7 +249,7 @@ fn steps<H: Threads + Sync, G: Gate>(
     requires some { 1 ≤ workers }
     requires most { workers ≤ 32 }
     requires looks { list_all has_looks commands.now ≡ true }
-    requires ecos { list_all has_eco commands.now ≡ true }
+    requires answerable { list_all is_answerable commands.now ≡ true }
     requires few { length commands.now ≤ 10000 }
     requires begins { (arc_value first).journal ≡ [] }
     requires empty { rows.old ≡ [] }
@@ -279,7 +282,7 @@ pub(crate) fn run<H: Threads + Sync, G: Gate>(
     requires some { 1 ≤ workers }
     requires most { workers ≤ 32 }
     requires looks { list_all has_looks commands.now ≡ true }
-    requires ecos { list_all has_eco commands.now ≡ true }
+    requires answerable { list_all is_answerable commands.now ≡ true }
     requires few { length commands.now ≤ 10000 }
     requires begins { (arc_value first).journal ≡ [] }
     ensures { IfOk result (λ session. IsRun (arc_value first).origin (arc_value first).first commands.now (arc_value session.held) session.rows) }
