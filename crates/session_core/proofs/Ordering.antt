@@ -1,5 +1,5 @@
 -- Rows that are ordered for a script, after one row more and over a longer journal.
-use Rattle.std.proofs.Common.{◌≡◌, ◌≢◌, ℕ, ◌+◌, ◌-◌, ◌≤◌, nat_eq, Bool, true, false, List, [], ◌∷◌, ◌++◌, length, map, Option, Some, None, refl, sym, ap, subst, ◌∙◌, arith, length-append, append-nil}
+use Rattle.std.proofs.Common.{◌≡◌, ◌≢◌, ℕ, ◌+◌, ◌-◌, ◌≤◌, nat_eq, Bool, true, false, List, [], ◌∷◌, ◌++◌, length, map, Option, Some, None, refl, sym, ap, subst, ◌∙◌, arith, append-nil}
 use Rattle.std.specs.List.{slice_get, cons_option, filter}
 use Rattle.std.specs.Option.{option_to_list}
 use Rattle.std.proofs.lemmas.Bool.{eq-eqb, ne_eqb}
@@ -8,11 +8,9 @@ use Rattle.std.proofs.lemmas.List.Elements.{filter-append}
 use Rattle.std.proofs.lemmas.Option.{none-some, same_Some}
 use Rattle.timing_defs.specs.declared.edits.Entry.{Entry}
 use Rattle.timing_defs.specs.declared.scripts.Command.{Command}
-use Rattle.timing_defs.specs.declared.scripts.Command.TheVariants.{Change}
-use Rattle.timing_defs.specs.Sessions.{Sort, accepted, Mark, Suits, OrderedFrom, ecos_of}
+use Rattle.timing_defs.specs.Sessions.{Mark, Suits, OrderedFrom, ecos_of}
 use Rattle.session_core.specs.declared.rows.CoreRow.{CoreRow}
 use Rattle.session_core.specs.Law.{accepted_by, accepted_of}
-use Rattle.session_core.proofs.Places.{get_append}
 
 -- the number of the last row, or the number before all rows
 abbrev pub last_number : ℕ → List Mark → ℕ
@@ -31,24 +29,6 @@ last_number-push before (r ∷ rs) row = last_number-push r.number rs row
 pub has_row-push : (begun : Bool) (rows : List Mark) (row : Mark) → has_row begun (rows ++ row ∷ []) ≡ true
 has_row-push begun [] row = refl
 has_row-push begun (r ∷ rs) row = has_row-push true rs row
-
-suits_more : (journal more : List Entry) (first session : ℕ) (begun : Bool) (before : ℕ) (command : Command) (number : ℕ) (sort : Sort)
-    → Suits journal first session begun before command number sort → Suits (journal ++ more) first session begun before command number sort
-suits_more journal more first session begun before (Change eco) number accepted h =
-    (h.0, get_append journal more (number - first - 1) (λ entry. (entry.session ≡ session) × (entry.eco ≡ eco)) h.1)
-suits_more journal more first session begun before command number sort h = h
-
-pub ordered_more : (journal more : List Entry) (first session : ℕ) (begun : Bool) (place before : ℕ) (commands : List Command) (rows : List Mark)
-    → OrderedFrom journal first session begun place before commands rows → OrderedFrom (journal ++ more) first session begun place before commands rows
-ordered_more journal more first session begun place before commands [] h = tt
-ordered_more journal more first session begun place before [] (row ∷ rows) h = absurd h
-ordered_more journal more first session begun place before (command ∷ commands) (row ∷ rows) h = (
-  h.0,
-  h.1,
-  omega (arith, h.2, length-append journal more),
-  suits_more journal more first session begun before command row.number row.sort h.3,
-  ordered_more journal more first session true (place + 1) row.number commands rows h.4,
-)
 
 pub ordered_push : (journal : List Entry) (first session : ℕ) (begun : Bool) (place before : ℕ) (commands : List Command) (rows : List Mark) (command : Command) (row : Mark)
     → OrderedFrom journal first session begun place before commands rows → slice_get commands (length rows) ≡ Some command

@@ -1,5 +1,5 @@
 -- Elements of lists by their places, and what holds of each session after one has moved.
-use Rattle.std.proofs.Common.{◌≡◌, ◌≢◌, ℕ, zero, suc, Bool, true, List, [], ◌∷◌, ◌++◌, length, Some, slice_set, IsSomeAnd, refl, sym, ap, subst, ◌∙◌}
+use Rattle.std.proofs.Common.{◌≡◌, ◌≢◌, ℕ, zero, suc, Bool, true, List, [], ◌∷◌, ◌++◌, length, Some, slice_set, refl, sym, ap, subst, ◌∙◌}
 use mathlib.Core.Logic.{dite}
 use native.Mathlib.Decide.{ℕ_discrete}
 use Rattle.std.specs.List.{slice_get, list_all}
@@ -20,11 +20,6 @@ module _ {X : Type 0} where
   get_set_other (z ∷ zs) zero (suc j) y ne = refl
   get_set_other (z ∷ zs) (suc i) zero y ne = refl
   get_set_other (z ∷ zs) (suc i) (suc j) y ne = get_set_other zs i j y (λ e. ne (ap suc e))
-
-  pub get_append : (xs ys : List X) (i : ℕ) (P : X → Type 0) → IsSomeAnd (slice_get xs i) P → IsSomeAnd (slice_get (xs ++ ys) i) P
-  get_append [] ys i P h = absurd h
-  get_append (x ∷ xs) ys zero P h = h
-  get_append (x ∷ xs) ys (suc i) P h = get_append xs ys i P h
 
   pub get_end : (xs : List X) (x : X) → slice_get (xs ++ x ∷ []) (length xs) ≡ Some x
   get_end [] x = refl

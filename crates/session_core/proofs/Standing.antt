@@ -19,7 +19,8 @@ use Rattle.session_core.specs.declared.rows.RowSort.TheVariants.{Taken, Reached,
 use Rattle.session_core.specs.Machine.{next_command, with_look, draft_on, with_row, after_take, published_eco, after_publish, last_of, await_answer, after_answer, may_end, is_runnable, unstarted}
 use Rattle.session_core.specs.Law.{sort_of_row, mark_of_row, accepted_by, accepted_of, IsLawful}
 use Rattle.session_core.proofs.Places.{all_at, get_end}
-use Rattle.session_core.proofs.Ordering.{last_number, has_row, last_number-push, has_row-push, ordered_more, ordered_push, accepted_of-push, ecos_of-own, ecos_of-other, accepted_none}
+use Rattle.timing_defs.proofs.LongerJournals.{ordered_longer}
+use Rattle.session_core.proofs.Ordering.{last_number, has_row, last_number-push, has_row-push, ordered_push, accepted_of-push, ecos_of-own, ecos_of-other, accepted_none}
 use Rattle.session_core.proofs.Looks.{Seen, seen_push, seen_more, seen_within, seen_held, seen_some, last_short, length-last_of}
 
 abbrev pub marks : CoreSession → List Mark
@@ -187,7 +188,7 @@ module _ (entries : List Entry) (first session : ℕ) (script : Script) (t : Cor
       ⊎_elim
       (λ (same : (draft.base == n) ≡ true). rw same
       (stands_row longer (Change eco) (n + 1) Accepted s e
-      (ordered_more entries (entry ∷ []) first session false 1 first script.commands (marks t) s.lawful.0)
+      (ordered_longer entries (entry ∷ []) first session false 1 first script.commands (marks t) s.lawful.0)
       (ecos_of-own session entries entry refl ∙ ap (λ ecos. ecos ++ eco ∷ []) s.lawful.1)
       (omega (arith, newest, before)) (omega (arith, newest, long)) (omega (arith, newest, before), added)))
       (λ (other : (draft.base == n) ≡ false). rw other
@@ -197,7 +198,7 @@ module _ (entries : List Entry) (first session : ℕ) (script : Script) (t : Cor
   -- an entry of another session changes nothing of it
   pub stands_beside : (entry : Entry) → entry.session ≢ session → Stands entries first session script t → Stands (entries ++ entry ∷ []) first session script t
   stands_beside entry other s = record {
-    lawful = (ordered_more entries (entry ∷ []) first session false 1 first script.commands (marks t) s.lawful.0, ecos_of-other session entries entry other ∙ s.lawful.1);
+    lawful = (ordered_longer entries (entry ∷ []) first session false 1 first script.commands (marks t) s.lawful.0, ecos_of-other session entries entry other ∙ s.lawful.1);
     next = s.next;
     seen = seen_more (first + length entries) (first + length (entries ++ entry ∷ [])) (has_row false (marks t)) (last_number first (marks t)) t.held t.looks
         (omega (arith, length_push entries entry)) s.seen;

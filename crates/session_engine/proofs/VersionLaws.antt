@@ -1,13 +1,11 @@
 -- What is accepted is not refused, and versions that an accepted ECO makes.
 
-use Rattle.std.proofs.Common.{◌≡◌, ℕ, ◌+◌, ◌^◌, ◌<◌, ◌≤◌, List, [], ◌∷◌, ◌++◌, length, true, Result, Ok, Err, refl, sym, ap, subst, arith, ◌∙◌, inl, inr}
+use Rattle.std.proofs.Common.{◌≡◌, ℕ, ◌+◌, ◌^◌, ◌<◌, ◌≤◌, List, [], ◌∷◌, ◌++◌, length, true, refl, sym, ap, subst, arith, ◌∙◌}
 use Rattle.timing_defs.specs.declared.design.Design.{Design}
 use Rattle.timing_defs.specs.declared.edits.Eco.{Eco}
 use Rattle.timing_defs.specs.declared.edits.Entry.{Entry}
-use Rattle.timing_defs.specs.declared.faults.Fault.{Fault}
 use Rattle.timing_defs.specs.Documents.{is_eco}
-use Rattle.timing_defs.specs.Edits.{edited}
-use Rattle.timing_defs.specs.Checks.{Accepts, Refuses, Faulty, IsSound}
+use Rattle.timing_defs.specs.Checks.{Accepts, IsSound}
 use Rattle.timing_defs.specs.Sessions.{DesignAfter}
 use Rattle.netlist_store.specs.Numbering.{Stored}
 use Rattle.netlist_store.specs.Linked.{IsSized}
@@ -17,21 +15,6 @@ use Rattle.session_engine.specs.Soundness.{IsFaultless, IsSoundEdit}
 use Rattle.session_engine.specs.Versions.{Versioned, IsVersion, version_of, entry_of, IsNext}
 use Rattle.session_engine.proofs.SoundLaws.{sound_faultless, sound_sized}
 use Rattle.session_engine.proofs.JournalLaws.{length_end, all_end, after_entry}
-
-ok_is : (r : Result Design Fault) (a b : Design) → r ≡ Ok a → r ≡ Ok b → a ≡ b
-ok_is r a b p q = cc
-
-ok_err : (r : Result Design Fault) (a : Design) (x : Fault) → r ≡ Ok a → r ≡ Err x → ⊥
-ok_err r a x p q = cc
-
--- an ECO is accepted with one design
-pub accepted_once : (d : Design) (eco : Eco) (a b : Design) → Accepts d eco a → Accepts d eco b → a ≡ b
-accepted_once d eco a b p q = ok_is (edited d eco) a b p.0 q.0
-
--- and what is accepted is not refused
-pub not_both : (d : Design) (eco : Eco) (a : Design) → Accepts d eco a → (x : Fault) → Refuses d eco x → ⊥
-not_both d eco a p x (inl e) = ok_err (edited d eco) a x p.0 e
-not_both d eco a p x (inr r) = p.1 x (subst (λ b. Faulty b x) (ok_is (edited d eco) r.0 a r.1 p.0) r.2)
 
 -- the design of a version is sound, and nothing stands in it
 module _ (v : Versioned) (is : IsVersion v) where

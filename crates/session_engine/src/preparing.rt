@@ -90,7 +90,7 @@ fn prepared<H: Threads + Sync, G: Gate, L>(
 
 /// An ECO is accepted with one design, and what is accepted is not refused, told to the proofs of callers;
 /// the call does nothing.
-#[tactic(auto, using(crate::proofs::VersionLaws::accepted_once, crate::proofs::VersionLaws::not_both))]
+#[tactic(auto, using(timing_defs::proofs::LongerJournals::accepted_once, timing_defs::proofs::LongerJournals::not_both))]
 pub fn exclusion(eco: &Eco)
     ensures once { (d : Design) → (a : Design) → (b : Design) → Accepts d eco.now a → Accepts d eco.now b → a ≡ b }
     ensures apart { (d : Design) → (a : Design) → Accepts d eco.now a → (x : Fault) → Refuses d eco.now x → ⊥ }

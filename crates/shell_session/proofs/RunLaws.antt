@@ -18,7 +18,7 @@ use Rattle.timing_defs.specs.Sessions.{DesignAfter, sort_of, mark_of, query_of, 
 use Rattle.session_engine.specs.Versions.{Versioned, IsVersion, IsNext}
 use Rattle.shell_core.specs.Scripts.{has_looks}
 use Rattle.shell_session.specs.Session.{Waits, Tells, Changes, Answers, row_at, IsRow, last_number, IsRun}
-use Rattle.shell_session.proofs.JournalLaws.{entry_last, ordered_kept, true_kept, ecos_more}
+use Rattle.timing_defs.proofs.LongerJournals.{entry_behind, ordered_longer, true_longer, ecos_longer}
 use Rattle.shell_session.proofs.RowLaws.{ordered_more, true_more, one_each, last_is, accepted_more}
 
 -- looks that all see the version that is held
@@ -82,7 +82,7 @@ module _ (origin : Design) (first : ℕ) (commands : List Command) (v : Versione
         subst (λ k. IsSomeAnd (slice_get w.journal k) (λ e. (e.session ≡ 1) × (e.eco ≡ eco)))
         (let n = next_number in let l = next_length in omega (arith, n, l))
         (subst (λ j. IsSomeAnd (slice_get j (length v.journal)) (λ e. (e.session ≡ 1) × (e.eco ≡ eco))) (sym next.journal)
-        (entry_last v.journal (entry eco) (λ e. (e.session ≡ 1) × (e.eco ≡ eco)) (refl, refl)))
+        (entry_behind v.journal [] (entry eco) (λ e. (e.session ≡ 1) × (e.eco ≡ eco)) (refl, refl)))
 
     next_design : DesignAfter origin w.journal (w.number - first) w.stored.design
     next_design =
@@ -100,15 +100,15 @@ module _ (origin : Design) (first : ℕ) (commands : List Command) (v : Versione
           origin_kept = next.origin ∙ run.origin_kept;
           ordered =
               ordered_more w.journal first 1 (Change eco) row false 1 first commands rows
-              (subst (λ j. OrderedFrom j first 1 false 1 first commands (map mark_of rows)) (sym next.journal) (ordered_kept v.journal (entry eco) first 1 false 1 first commands (map mark_of rows) run.ordered))
+              (subst (λ j. OrderedFrom j first 1 false 1 first commands (map mark_of rows)) (sym next.journal) (ordered_longer v.journal (entry eco ∷ []) first 1 false 1 first commands (map mark_of rows) run.ordered))
               even (omega (arith, at)) (omega (arith, low)) (let n = next_number in omega (arith, n)) (λ b. (low, is_entry));
           told =
               true_more w.journal first 1 (Change eco) row origin commands rows
-              (subst (λ j. AreTrue origin j first commands rows) (sym next.journal) (true_kept v.journal (entry eco) origin first commands rows run.told))
+              (subst (λ j. AreTrue origin j first commands rows) (sym next.journal) (true_longer v.journal (entry eco ∷ []) origin first commands rows run.told))
               (refl, (w.stored.design, next_design, tt));
           changes =
               ap (ecos_of 1) next.journal
-              ∙ ecos_more 1 v.journal (entry eco) refl
+              ∙ ecos_longer v.journal (entry eco ∷ []) 1
               ∙ ap (λ ecos. ecos ++ eco ∷ []) run.changes
               ∙ sym (accepted_more (Change eco) row commands rows even);
           own = subst (All (λ (e : Entry). e.session ≡ 1)) (sym next.journal) (All-append (λ (e : Entry). e.session ≡ 1) v.journal (entry eco ∷ []) run.own (All-cons (λ (e : Entry). e.session ≡ 1) (entry eco) [] refl (All-nil (λ (e : Entry). e.session ≡ 1))));

@@ -1,7 +1,7 @@
 -- The best of some resizes (own: sizing by trying each move): the one with which the worst slack is greatest.
 -- Nothing is free.
 
-use Rattle.std.specs.Prelude.{ℕ, ◌≡◌, ◌⊎◌, ℤ, int_lt, Bool, if◌then◌else◌, List, [], ◌∷◌, Option, Some, None, option_map, ⊤}
+use Rattle.std.specs.Prelude.{◌≡◌, ◌⊎◌, ℤ, int_lt, if◌then◌else◌, List, [], ◌∷◌, Option, Some, None, ⊤}
 use Rattle.timing_defs.specs.declared.kinds.Kind.{Kind}
 use Rattle.timing_defs.specs.declared.design.Design.{Design}
 use Rattle.timing_defs.specs.declared.edits.Edit.TheVariants.{Repower}

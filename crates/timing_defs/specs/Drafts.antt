@@ -2,7 +2,7 @@
 -- accepted edits made of the snapshot, in order; the snapshot itself stays before them. Free is alone which loop or
 -- origin of an overflow a refusal names.
 
-use Rattle.std.specs.Prelude.{ℕ, ◌≡◌, List, [], ◌∷◌, ◌++◌, Option, Some, None, ⊤}
+use Rattle.std.specs.Prelude.{◌≡◌, List, [], ◌∷◌, ◌++◌, Option, Some, None, ⊤}
 use Rattle.timing_defs.specs.declared.design.Design.{Design}
 use Rattle.timing_defs.specs.declared.reports.Query.{Query}
 use Rattle.timing_defs.specs.declared.reports.Trial.{Trial}
