@@ -96,7 +96,6 @@ fn codes_are_printed(rt: HostRuntime) {
         (Code::ScriptTooLong, "C2"),
         (Code::JournalVersion, "J3"),
         (Code::JournalOtherDerates, "J5"),
-        (Code::NotBuilt, "N1"),
     ] {
         assert_eq!(rt; code.label(), text);
     }

@@ -6,8 +6,9 @@ use sta_units::Fs;
 use std::alloc::Global;
 use std::process::Abort;
 use timing_defs::{
-    Answer, Clock, Derates, EdgeTime, EndRow, Fault, Items, Kind, Large, Name, Path, PathNode,
-    Place, Query, QueryFault, Report, Row, Split, Totals, Tran, Transcript,
+    Advice, Answer, Clock, Derates, EdgeTime, EndRow, Fault, Items, Kind, Large, Name, Path,
+    PathNode, Place, Query, QueryFault, Report, Row, Split, Totals, Tran, Transcript, TrialAnswer,
+    TrialRow,
 };
 
 /// Refusals with one name.
@@ -35,7 +36,7 @@ const ROWS: &str = "1 0 refused E11 g1:A g1:Z g2:A g2:Z
 5 0 refused E17 insts
 6 0 refused E17 nets
 7 0 refused E17 net n2
-8 0 refused N2
+8 0 refused E11 g1:Z
 9 0 no Q1 nopin
 10 0 no Q2 g1:A
 11 0 no Q3 r2:D
@@ -71,6 +72,28 @@ g1:Z rise 48.000
 g2:A rise 48.000
 g2:Z rise 60.000
 r2:D rise 60.000
+";
+
+/// The worst paths of an endpoint, and none.
+const RANKED: &str = "1 0 paths 2
+path setup o slack 937.500 credit 0.000 from clk rise to clk rise nodes 2
+clk rise 0.000
+o rise 62.500
+path setup o slack 940.000 credit 0.000 from clk rise to clk rise nodes 1
+o rise 60.000
+2 0 paths 0
+";
+
+/// The rows of trials on a draft, and of advice.
+const DRAFTED: &str = "1 0 what_if 6
+tried
+endpoint 936.500
+dropped
+no Q2 g1:A
+refused E3 NOCELL
+no_draft
+2 0 advice g2 BUF_X4 895.000
+3 0 advice none
 ";
 
 /// The output of a run that asks four questions.
@@ -317,7 +340,9 @@ fn push_refusals(rt: &impl Abort, alloc: Global, session: &mut Session) {
     session.said(rt, 6, 0, Answer::Refused(Fault::TooLarge(Large::Nets)));
     let large = Large::Net(named(rt, alloc, "n2"));
     session.said(rt, 7, 0, Answer::Refused(Fault::TooLarge(large)));
-    session.said(rt, 8, 0, Answer::Refused(Fault::NotBuilt));
+    let mut own = Items::new(alloc);
+    own.push(named(rt, alloc, "g1:Z")).expect(rt, "memory");
+    session.said(rt, 8, 0, Answer::Refused(Fault::Loop(own)));
 }
 
 /// The answers without a report.
@@ -436,6 +461,86 @@ fn a_path_has_a_line_for_each_node(rt: HostRuntime) {
     session.told(&rt, 1, 0, query, Report::Shown(Some(credited(&rt, alloc))));
     let bytes = rows_bytes(&rt, alloc, &session.rows);
     assert_eq!(rt; bytes.as_slice(), PATH.as_bytes());
+}
+
+fn ranked(rt: &impl Abort, alloc: Global) -> Query {
+    Query::Paths {
+        pin: named(rt, alloc, "o"),
+        kind: Kind::Setup,
+        count: 3,
+    }
+}
+
+fn two_paths(rt: &impl Abort, alloc: Global) -> Items<Path> {
+    let mut paths = Items::new(alloc);
+    let worst = path(rt, alloc, 937_500, 0, &[("clk", 0), ("o", 62_500)]);
+    paths.push(worst).expect(rt, "memory");
+    let next = path(rt, alloc, 940_000, 0, &[("o", 60_000)]);
+    paths.push(next).expect(rt, "memory");
+    paths
+}
+
+/// Ranked paths are written one after another, each as the worst path is.
+#[test]
+fn ranked_paths_have_a_block_each(rt: HostRuntime) {
+    let alloc = rt.alloc();
+    let mut session = Session::new(alloc);
+    let paths = two_paths(&rt, alloc);
+    session.told(&rt, 1, 0, ranked(&rt, alloc), Report::Paths(paths));
+    let none = Report::Paths(Items::new(alloc));
+    session.told(&rt, 2, 0, ranked(&rt, alloc), none);
+    let bytes = rows_bytes(&rt, alloc, &session.rows);
+    assert_eq!(rt; bytes.as_slice(), RANKED.as_bytes());
+}
+
+fn add_trial(
+    rt: &impl Abort,
+    rows: &mut Items<TrialRow>,
+    query: Option<Query>,
+    answer: TrialAnswer,
+) {
+    rows.push(TrialRow { query, answer }).expect(rt, "memory");
+}
+
+/// Trials that are accepted, asked, dropped and refused.
+fn trials(rt: &impl Abort, alloc: Global) -> Items<TrialRow> {
+    let mut rows = Items::new(alloc);
+    add_trial(rt, &mut rows, None, TrialAnswer::Tried);
+    let slack = TrialAnswer::Told(Report::Value(Some(Fs(936_500))));
+    add_trial(rt, &mut rows, Some(endpoint(rt, alloc, "r2:D")), slack);
+    add_trial(rt, &mut rows, None, TrialAnswer::Dropped);
+    let inner = TrialAnswer::No(QueryFault::NotEndpoint(named(rt, alloc, "g1:A")));
+    add_trial(rt, &mut rows, Some(endpoint(rt, alloc, "g1:A")), inner);
+    let cell = Fault::UnknownCell(named(rt, alloc, "NOCELL"));
+    add_trial(rt, &mut rows, None, TrialAnswer::Refused(cell));
+    add_trial(rt, &mut rows, None, TrialAnswer::NoDraft);
+    rows
+}
+
+fn advise(alloc: Global) -> Query {
+    Query::Advise {
+        kind: Kind::Setup,
+        candidates: Items::new(alloc),
+    }
+}
+
+#[test]
+fn trials_and_advice_have_their_words(rt: HostRuntime) {
+    let alloc = rt.alloc();
+    let mut session = Session::new(alloc);
+    let query = Query::WhatIf {
+        items: Items::new(alloc),
+    };
+    session.told(&rt, 1, 0, query, Report::Drafted(trials(&rt, alloc)));
+    let advice = Advice {
+        inst: named(&rt, alloc, "g2"),
+        cell: named(&rt, alloc, "BUF_X4"),
+        wns: Fs(895_000),
+    };
+    session.told(&rt, 2, 0, advise(alloc), Report::Advised(Some(advice)));
+    session.told(&rt, 3, 0, advise(alloc), Report::Advised(None));
+    let bytes = rows_bytes(&rt, alloc, &session.rows);
+    assert_eq!(rt; bytes.as_slice(), DRAFTED.as_bytes());
 }
 
 fn contest(rt: &impl Abort, alloc: Global) -> Session {
