@@ -4,3 +4,4 @@ pub mod RowLaws
 pub mod SameBytes
 pub mod LongerJournals
 pub mod Members
+pub mod TrialLaws
