@@ -28,10 +28,11 @@ AreValues d kind [] (value ∷ values) = ⊥
 AreValues d kind (c ∷ cs) [] = ⊥
 AreValues d kind (c ∷ cs) (value ∷ values) = IsValue d kind c value × AreValues d kind cs values
 
--- the first of greatest value
+-- a candidate with its value
 abbrev pub advice_of : Candidate → ℤ → Advice
 advice_of c value = record { inst = c.inst; cell = c.cell; wns = record { 0 = value } }
 
+-- the first of greatest value
 abbrev pub better : Option Advice → Candidate → Option ℤ → Option Advice
 better best c None = best
 better None c (Some value) = Some (advice_of c value)

@@ -1,6 +1,6 @@
 -- The affected cone of an edit: the nodes whose rows an update has to find again, forward and
 -- backward (incremental timing as in OpenTimer). It is told by the rows of the base and of the
--- edited design; no stored result is in it. Free is how many of the backward nodes are evaluated.
+-- edited design; no stored result is in it. Free is the count of evaluations between the bounds below.
 
 use Rattle.std.specs.Prelude.{ℕ, ◌≡◌, ◌+◌, ◌≤◌, nat_eq, Bool, true, false, IsTrue, not, ◌&&◌, ◌||◌, List, [], ◌∷◌, ◌++◌, count_by, Option, Some, None, Ok}
 use Rattle.std.specs.List.{list_any, list_all, filter_map}
@@ -167,7 +167,7 @@ is_backward base edited touch node =
 unfoldable pub backward_count : Design → Design → Touch → ℕ
 backward_count base edited touch = count_by (is_backward base edited touch) (nodes edited)
 
--- the bounds on the evaluations of nodes that an update counts: with an answer for the whole edited design at least the
+-- the bounds on the evaluations of nodes that an update counts. `whole` says that it gives an analysis: then at least the
 -- forward ones; in any case at most the forward and the backward ones
 abbrev pub IsRise : Design → Design → Touch → Bool → ℕ → Type 0
 IsRise base edited touch whole rise =

@@ -1,6 +1,6 @@
 -- What the readers of documents keep of what they give: libraries, constraints and parasitics with tables and numbers
--- of their forms, netlists with distinct names (Liberty reference manual, SDC, IEEE 1481, IEEE 1364), and scripts of
--- bounded counts (own).
+-- of their forms, and netlists with distinct names (Liberty reference manual, SDC, IEEE 1481, IEEE 1364). Of scripts the
+-- counts that engines ask for (own); a script that is read keeps more.
 
 use Rattle.std.specs.Prelude.{ℕ, ◌≤◌, ◌≡◌, ℤ, pos, ◌+ℤ◌, int_le, int_lt, nat_lt, nat_le, Bool, true, false, not, ◌&&◌, List, [], ◌∷◌, map, length}
 use Rattle.std.specs.List.{list_all, list_any, filter_map}
@@ -167,20 +167,21 @@ is_eco eco = nat_le 1 (length eco.edits) && nat_le (length eco.edits) 1000 && li
 abbrev pub is_count : ℕ → ℕ → Bool
 is_count most n = nat_le 1 n && nat_le n most
 
--- a question of a script: 1 to 100 endpoints or paths, 1 to 16 pins, 1 to 100 trials or candidates; a draft is asked plain questions
+-- a trial: a draft is asked plain questions
 abbrev pub is_trial : Trial → Bool
 is_trial (Try eco) = is_eco eco
 is_trial Drop = true
 is_trial (ask_draft (Worst kind count)) = is_count 100 count
 is_trial (ask_draft q) = is_plain q
 
+-- a question of a script: 1 to 100 endpoints or paths, 1 to 16 pins, 1 to 100 trials or candidates
 abbrev pub is_question : Query → Bool
 is_question (Worst kind count) = is_count 100 count
 is_question (Through pin kind pins) = is_count 16 (length pins)
 is_question (Paths pin kind count) = is_count 100 count
 is_question (WhatIf' shape trials) = is_count 100 (length (trials_in trials)) && list_all is_trial (trials_in trials)
 is_question (Advise kind candidates) = is_count 100 (length candidates)
-is_question q = true
+is_question q = is_plain q
 
 -- a command: 1 to 1,000 looks
 abbrev pub is_command : Command → Bool

@@ -224,7 +224,7 @@ abbrev pub plainly_told : List Clock → Option Query → Report → List ℕ
 plainly_told clocks None report = []
 plainly_told clocks (Some q) report = plain_text clocks q report
 
--- the row of a trial, with its line feed
+-- the row of a trial, with the line feed of its first line
 abbrev pub trial_text : List Clock → Option Query → TrialAnswer → List ℕ
 trial_text clocks query Tried = line (codes "tried")
 trial_text clocks query (refused_trial fault) = line (codes "refused" ++ word (fault_text fault))

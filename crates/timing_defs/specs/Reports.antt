@@ -98,7 +98,15 @@ is_plain (Through pin kind pins) = false
 is_plain (Paths pin kind count) = false
 is_plain (WhatIf' shape trials) = false
 is_plain (Advise kind candidates) = false
-is_plain q = true
+is_plain (Slew pin split tran) = true
+is_plain (At pin split tran) = true
+is_plain (Rat pin split tran) = true
+is_plain (Slack pin split tran) = true
+is_plain (Endpoint pin kind) = true
+is_plain (WorstPath pin kind) = true
+is_plain (Wns kind) = true
+is_plain (Tns kind) = true
+is_plain (Worst kind count) = true
 
 -- the report that a plain question is answered; another one has none here
 abbrev pub IsPlainReport : Design → Query → Report → Type 0

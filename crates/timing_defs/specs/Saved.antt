@@ -1,4 +1,5 @@
--- The bytes of a run that goes on from a saved journal: its own entries are one block behind the saved ones (own).
+-- The bytes of a run that goes on from a saved journal: its journal is one block, of its own entries alone, numbered behind
+-- the saved ones (own).
 
 use Rattle.std.specs.Prelude.{ℕ, ◌+◌, List, ◌++◌, length, codes}
 use Rattle.timing_defs.specs.declared.constraints.Clock.{Clock}

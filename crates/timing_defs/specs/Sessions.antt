@@ -17,7 +17,7 @@ use Rattle.timing_defs.specs.declared.scripts.Answer.TheVariants.{Taken, Reached
 use Rattle.timing_defs.specs.declared.scripts.Row.{Row}
 use Rattle.timing_defs.specs.declared.scripts.Transcript.{Transcript}
 use Rattle.timing_defs.specs.declared.scripts.Totals.{Totals}
-use Rattle.timing_defs.specs.Checks.{Accepts, Refuses}
+use Rattle.timing_defs.specs.Checks.{Faulty, Accepts, Refuses}
 use Rattle.timing_defs.specs.Reports.{AreTotals}
 use Rattle.timing_defs.specs.Questions.{Told, query_fault}
 use Rattle.timing_defs.specs.Output.{output_text}
@@ -34,11 +34,13 @@ DesignAfter initial journal (suc n) d =
 abbrev pub IsInitial : Design → List Entry → Design → Type 0
 IsInitial linked saved d = DesignAfter linked saved (length saved) d
 
--- a saved entry, counted from 1, is refused at its turn: all before it are accepted, and it is not
+-- a saved entry, counted from 1, is refused at its turn: nothing is faulty in the linked design, all entries before it
+-- are accepted, and it is not
 abbrev pub IsRefusedEntry : Design → List Entry → ℕ → Fault → Type 0
 IsRefusedEntry linked saved zero x = ⊥
 IsRefusedEntry linked saved (suc n) x =
-    (d : Design) × DesignAfter linked saved n d × IsSomeAnd (slice_get saved n) (λ entry. Refuses d entry.eco x)
+    ((y : Fault) → Faulty linked y → ⊥)
+    × ((d : Design) × DesignAfter linked saved n d × IsSomeAnd (slice_get saved n) (λ entry. Refuses d entry.eco x))
 
 -- the sort of a row, apart from what it tells
 pub data Sort : Type 0 where

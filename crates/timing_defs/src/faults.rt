@@ -21,8 +21,7 @@ pub enum Large {
     Net(Name),
 }
 
-/// Why a design or an edit is refused. The printed codes are `E1` to `E17` in this order, and `N2`
-/// for what is not built yet.
+/// Why a design or an edit is refused. The printed codes are `E1` to `E17`, in this order.
 #[derive(Drop)]
 pub enum Fault {
     /// `E1`: no instance has that name.

@@ -86,7 +86,7 @@ fn through_again(alloc: Global, pin: &Name, kind: Kind, pins: &Items<Name>) -> R
     })
 }
 
-/// Copies the steps on a draft.
+/// Copies the trials on a draft.
 #[cycle(question)]
 fn trials_again(alloc: Global, items: &Items<Trial>) -> Result<Items<Trial>, Memory>
     ensures copied { IfOk result (λ copy. copy ≡ items.now) }
@@ -98,7 +98,7 @@ fn trials_again(alloc: Global, items: &Items<Trial>) -> Result<Items<Trial>, Mem
     Ok(copies)
 }
 
-/// Copies a step on a draft.
+/// Copies a trial on a draft.
 #[cycle(question)]
 fn trial_again(alloc: Global, trial: &Trial) -> Result<Trial, Memory>
     ensures copied { IfOk result (λ copy. copy ≡ trial.now) }

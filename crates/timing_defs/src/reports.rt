@@ -73,7 +73,7 @@ pub enum Query {
     },
 }
 
-/// A step on a draft: edits are tried, the last accepted ones are dropped, or the draft is asked.
+/// A trial on a draft: edits are tried, the last accepted ones are dropped, or the draft is asked.
 #[derive(Drop)]
 #[cycle(question)]
 pub enum Trial {
@@ -119,7 +119,7 @@ pub enum Report {
     Advised(Option<Advice>),
 }
 
-/// The row of a step on a draft: the question where it asks, and the answer.
+/// The row of a trial: the question where it asks, and the answer.
 #[derive(Drop)]
 #[cycle(answer)]
 pub struct TrialRow {
@@ -127,8 +127,8 @@ pub struct TrialRow {
     pub answer: TrialAnswer,
 }
 
-/// The answer to a step: the edits were tried or refused, the last ones were dropped or there were
-/// none, or a question has no answer or one.
+/// The answer to a trial: the edits were accepted (`Tried`) or refused, the last ones were dropped or
+/// there were none, or a question has no answer or one.
 #[derive(Drop)]
 #[cycle(answer)]
 pub enum TrialAnswer {
