@@ -1,6 +1,6 @@
 //! The answers to questions.
 
-ghost use Rattle.std.specs.Prelude.{◌≡◌, pos, map, Some, IfOk, IfErr};
+ghost use Rattle.std.specs.Prelude.{◌≡◌, true, pos, map, Some, IfOk, IfErr};
 ghost use Rattle.timing_defs.specs.Required.{back_times};
 ghost use Rattle.timing_defs.specs.Reports.{fs_value, is_plain};
 ghost use Rattle.timing_defs.specs.Questions.{Told, query_fault};
