@@ -9,12 +9,11 @@ ghost use Rattle.netlist_store.specs.Numbering.{number_of};
 ghost use Rattle.netlist_store.specs.Building.{of_inst_pins, of_pins, row_of, with_pin, with_row, first_numbers, AreNetPins, AreRcRows};
 
 use crate::cells::Cells;
-use crate::held::Held;
 use crate::inst_rows::InstRow;
 use crate::numberings::{Numbering, numbered};
 use crate::rolls::{Roll, first_roll, roll_of};
 use crate::tables::{Frame, Names, Orders, PinRow, Rows};
-use cow_table::CowTable;
+use cow_table::{CowTable, Held};
 use sta_units::{Again, Memory};
 use std::alloc::Global;
 use timing_defs::{Cell, Constraints, Inst, Items, Library, Name, NetRc, Port};

@@ -13,13 +13,12 @@ ghost use Rattle.netlist_store.specs.Stores.{at};
 ghost use Rattle.netlist_store.specs.Drafts.{Follows, IsFilled, row_named, inst_row, row_among, is_lost};
 
 use crate::gate_edits::put_inst;
-use crate::held::Held;
 use crate::inst_rows::InstRow;
 use crate::numberings::Numbering;
 use crate::pin_edits::put_other_pins;
 use crate::stores::Store;
 use crate::tables::{Frame, Names, Orders, PinRow, Rows};
-use cow_table::CowTable;
+use cow_table::{CowTable, Held};
 use sta_units::{Again, Memory};
 use std::alloc::Global;
 use timing_defs::{CellPin, Inst, Items, Name};

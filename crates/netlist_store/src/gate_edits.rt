@@ -9,13 +9,12 @@ ghost use Rattle.netlist_store.specs.Numbering.{name_at, number_of, with_name, A
 ghost use Rattle.netlist_store.specs.Stores.{at};
 ghost use Rattle.netlist_store.specs.Drafts.{Follows, IsFilled, KeepsNames, row_named, inst_row, row_among};
 
-use crate::held::Held;
 use crate::inst_rows::InstRow;
 use crate::pin_edits::put_inst_pins;
 use crate::row_edits::set_row;
 use crate::stores::Store;
 use crate::tables::{Frame, Names, Orders, PinRow, give_up_unnamed, give_up_unordered};
-use cow_table::CowTable;
+use cow_table::{CowTable, Held};
 use sta_units::{Again, Memory};
 use std::alloc::Global;
 use timing_defs::{CellPin, Inst, Items, Name};

@@ -11,13 +11,12 @@ ghost use Rattle.netlist_store.specs.Numbering.{number_of, is_number, inst_numbe
 ghost use Rattle.netlist_store.specs.Stores.{at};
 ghost use Rattle.netlist_store.specs.Drafts.{IsPart, is_lost};
 
-use crate::held::Held;
 use crate::inst_rows::InstRow;
 use crate::pin_edits::without_lost_pins;
 use crate::row_edits::set_row;
 use crate::stores::Store;
 use crate::tables::{Names, Orders, give_up_unnamed, give_up_unordered};
-use cow_table::CowTable;
+use cow_table::{CowTable, Held};
 use sta_units::{Again, Memory};
 use std::alloc::Global;
 use timing_defs::{CellPin, Items, Name, Split};

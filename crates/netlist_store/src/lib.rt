@@ -71,7 +71,6 @@ mod edit_checks;
 mod edit_steps;
 mod gate_edits;
 mod gate_removals;
-mod held;
 mod inst_rows;
 mod join_edits;
 mod links;

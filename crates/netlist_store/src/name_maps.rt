@@ -6,8 +6,7 @@ ghost use Rattle.std.specs.Str.{bytes_eq};
 ghost use Rattle.timing_defs.specs.Names.{is_name};
 ghost use Rattle.netlist_store.specs.Shards.{shard_of, shard_from, number_under, HasNames};
 
-use crate::held::Held;
-use cow_table::CowTable;
+use cow_table::{CowTable, Held};
 use indexmap::IndexMap;
 use sta_units::{Again, Memory};
 use std::alloc::Global;

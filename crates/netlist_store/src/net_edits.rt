@@ -8,11 +8,10 @@ ghost use Rattle.timing_defs.specs.Edits.{net_in_use};
 ghost use Rattle.netlist_store.specs.Numbering.{name_at, number_of, is_number, with_name, AreKept};
 ghost use Rattle.netlist_store.specs.Drafts.{Follows, with_nets};
 
-use crate::held::Held;
 use crate::row_edits::put_row;
 use crate::stores::Store;
 use crate::tables::{Names, Orders, give_up_unnamed, give_up_unordered};
-use cow_table::CowTable;
+use cow_table::{CowTable, Held};
 use sta_units::Memory;
 use std::alloc::Global;
 use timing_defs::{Items, Name};

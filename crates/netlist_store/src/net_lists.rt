@@ -3,8 +3,7 @@
 ghost use Rattle.std.specs.Prelude.{◌≡◌, ◌++◌, ◌∷◌, [], ℕ, List, nat_eq, not, filter, slice_get, Some, IfOk, OnOk};
 ghost use Rattle.netlist_store.specs.Drafts.{joined_list, left_list};
 
-use crate::held::Held;
-use cow_table::CowTable;
+use cow_table::{CowTable, Held};
 use sta_units::{Again, Memory};
 use std::alloc::Global;
 use timing_defs::Items;

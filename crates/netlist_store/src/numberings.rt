@@ -10,9 +10,8 @@ ghost use Rattle.netlist_store.specs.Shards.{number_under};
 ghost use Rattle.netlist_store.specs.Slots.{slot_name, slot_name_at, is_waiting};
 ghost use Rattle.netlist_store.specs.declared.numberings.Slot.TheVariants.{Named, Waiting};
 
-use crate::held::Held;
 use crate::name_maps::NameMap;
-use cow_table::CowTable;
+use cow_table::{CowTable, Held};
 use sta_units::{Again, Memory};
 use std::alloc::Global;
 use std::marker::Model;

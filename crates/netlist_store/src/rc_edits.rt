@@ -8,11 +8,10 @@ ghost use Rattle.timing_defs.specs.Documents.{is_net_rc};
 ghost use Rattle.netlist_store.specs.Drafts.{with_rcs};
 ghost use Rattle.netlist_store.specs.Stores.{at};
 
-use crate::held::Held;
 use crate::row_edits::set_row;
 use crate::stores::Store;
 use crate::tables::{Orders, give_up_unordered, row_at};
-use cow_table::CowTable;
+use cow_table::{CowTable, Held};
 use sta_units::Memory;
 use std::alloc::Global;
 use timing_defs::{Name, NetRc};

@@ -12,9 +12,9 @@ ghost use Rattle.netlist_store.specs.Linked.{IsLinked, IsSized};
 ghost use Rattle.netlist_store.specs.Stores.{TellsInst, TellsPin};
 
 use crate::building::{frame_of, names_of, orders_of, rows_of};
-use crate::held::Held;
 use crate::inst_rows::InstRow;
 use crate::tables::{Frame, Names, Orders, PinRow, Rows, row_at};
+use cow_table::Held;
 use sta_units::Memory;
 use std::alloc::Global;
 use std::marker::Model;

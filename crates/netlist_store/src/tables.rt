@@ -6,11 +6,10 @@ ghost use Rattle.netlist_store.specs.Numbering.{AreNumbers};
 ghost use Rattle.netlist_store.specs.Stores.{at};
 
 use crate::cells::Cells;
-use crate::held::Held;
 use crate::inst_rows::InstRow;
 use crate::numberings::Numbering;
 use crate::rolls::Roll;
-use cow_table::CowTable;
+use cow_table::{CowTable, Held};
 use sta_units::{Again, Memory};
 use std::alloc::Global;
 use timing_defs::{Constraints, Dir, Items, NetRc, Port};

@@ -1,4 +1,4 @@
-//! Values that stores share.
+//! Values that tables share.
 
 ghost use Rattle.std.specs.Prelude.{◌≡◌, IfOk};
 
@@ -7,9 +7,10 @@ use std::alloc::Global;
 use std::marker::Model;
 use std::sync::Arc;
 
-/// A value that several owners hold and none changes. Contracts see the value.
+/// A value that several owners hold and none changes. Contracts see the value. In a table it makes the
+/// copy of an item one count, so that the copy of a piece of 256 items takes no memory for their lists.
 #[derive(Drop)]
-pub(crate) struct Held<T> {
+pub struct Held<T> {
     held: Arc<T>,
 }
 
@@ -24,7 +25,8 @@ impl<T> Model for Held<T> {
 }
 
 impl<T> Held<T> {
-    pub(crate) fn get(&self) -> &T
+    /// The value.
+    pub fn get(&self) -> &T
         ensures { result.now ≡ self.now }
     {
         &self.held
@@ -32,7 +34,8 @@ impl<T> Held<T> {
 }
 
 impl<T: Drop> Held<T> {
-    pub(crate) fn of(alloc: Global, value: T) -> Result<Held<T>, Memory>
+    /// A value with one owner.
+    pub fn of(alloc: Global, value: T) -> Result<Held<T>, Memory>
         ensures { IfOk result (λ held. held ≡ value) }
     {
         let held = Arc::new(alloc, value).map_err(|_| Memory)?;
@@ -42,10 +45,10 @@ impl<T: Drop> Held<T> {
 
 impl<T: Drop> Held<T> {
     /// Gives the value up.
-    pub(crate) fn discard(self) {}
+    pub fn discard(self) {}
 
     /// One owner more.
-    pub(crate) fn share(&self) -> Result<Held<T>, Memory>
+    pub fn share(&self) -> Result<Held<T>, Memory>
         ensures { IfOk result (λ held. held ≡ self.now) }
     {
         let held = self.held.clone()?;
