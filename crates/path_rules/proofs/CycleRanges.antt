@@ -1,9 +1,7 @@
 -- No launch and capture have fewer or more cycles than the range of all multicycles.
 use Rattle.std.proofs.Common.{◌≡◌, ℕ, ◌≤◌, ◌<◌, nat_lt, Bool, true, false, if◌then◌else◌, List, [], ◌∷◌, Option, None, Some, refl, ap, sym, subst, ◌∙◌, inl, inr, arith}
 use Rattle.std.specs.Option.{unwrap_or}
-
-use Rattle.std.proofs.lemmas.Bool.{ltb-true, ltb-false}
-use Rattle.std.proofs.lemmas.Bool.Decides.{nat_tests}
+use Rattle.std.proofs.lemmas.Bool.{cases_lt, ltb-true, lt-ltb, false≢true}
 use Rattle.timing_defs.specs.declared.kinds.Kind.{Kind}
 use Rattle.timing_defs.specs.declared.constraints.Constraints.{Constraints}
 use Rattle.timing_defs.specs.declared.constraints.Exception.{Exception}
@@ -17,13 +15,16 @@ use Rattle.path_rules.specs.Ranges.{lesser, greater, widened, range_over, range_
 abbrev Lies : CycleRange → ℕ → Type 0
 Lies r n = (r.fewest ≤ n) × (n ≤ r.most)
 
+not_less : (m n : ℕ) → nat_lt m n ≡ false → n ≤ m
+not_less m n e = elim (cases_lt m n) [ inl low ↦ absurd (false≢true (sym e ∙ lt-ltb m n low)) | inr high ↦ high ]
+
 by_less : (b : Bool) (m n : ℕ) → nat_lt n m ≡ b → ((if b then n else m) ≤ m) × ((if b then n else m) ≤ n)
 by_less true m n e = let l = ltb-true n m e in (omega (arith, l), omega arith)
-by_less false m n e = (omega arith, omega (arith, e, nat_tests))
+by_less false m n e = (omega arith, not_less n m e)
 
 by_more : (b : Bool) (m n : ℕ) → nat_lt m n ≡ b → (m ≤ (if b then n else m)) × (n ≤ (if b then n else m))
 by_more true m n e = let l = ltb-true m n e in (omega (arith, l), omega arith)
-by_more false m n e = (omega arith, omega (arith, e, nat_tests))
+by_more false m n e = (omega arith, not_less m n e)
 
 -- what lies in a range lies in a wider one, and so does the number by which it is wider
 wider : (r : CycleRange) (o : Option ℕ) (n : ℕ) → Lies r n → Lies (widened r o) n

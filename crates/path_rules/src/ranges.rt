@@ -65,13 +65,9 @@ impl CycleRange {
     }
 }
 
-/// The fewest and the most cycles of a kind of tests, of one without multicycles and of all multicycles,
-/// whether they apply or not: no path has fewer or more, whatever launches and captures it. Takes no
-/// memory, and a step for each exception.
-#[tactic(auto, using(crate::proofs::CycleRanges::ranged))]
-pub fn cycle_range(c: &Constraints, kind: Kind) -> CycleRange
-    ensures value { result ≡ range_of c.now kind }
-    ensures range { IsRange c.now kind result }
+/// The range of one test without multicycles and of all multicycles, whether they apply or not.
+fn range_of(c: &Constraints, kind: Kind) -> CycleRange
+    ensures { result ≡ range_of c.now kind }
 {
     let exceptions = c.exceptions.as_slice();
     let mut range = CycleRange::plain(kind);
@@ -79,4 +75,14 @@ pub fn cycle_range(c: &Constraints, kind: Kind) -> CycleRange
         range = range.widened(cycles_in(kind, x.effect));
     }
     range
+}
+
+/// The fewest and the most cycles of a kind of tests, of one without multicycles and of all multicycles,
+/// whether they apply or not: no path has fewer or more, whatever launches and captures it. Takes no
+/// memory, and a step for each exception.
+pub fn cycle_range(c: &Constraints, kind: Kind) -> CycleRange
+    ensures value { result ≡ range_of c.now kind }
+    ensures range { IsRange c.now kind result }
+{
+    range_of(c, kind)
 }

@@ -1,7 +1,7 @@
 use Rattle.std.proofs.Common.{◌≤ℤ◌, pos, ap, sym, subst, ◌∙◌, arith}
 use Rattle.std.proofs.lemmas.Int.{ints}
 use Rattle.std.specs.Int.{int_min}
-use Rattle.pessimism_credit.specs.Credit.{root_path, pessimism_at, least_over}
+use Rattle.pessimism_credit.specs.Credit.{root_path, least_over}
 use Rattle.pessimism_credit.proofs.Climbs.{above}
 use Rattle.pessimism_credit.proofs.Lowest.{least_more, least_start, min_low}
 use Rattle.pessimism_credit.proofs.climbing.least_above.Goals as goal

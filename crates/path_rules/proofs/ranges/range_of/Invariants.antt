@@ -1,6 +1,6 @@
 use Rattle.std.proofs.Common.{◌≡◌, drop}
 use Rattle.path_rules.specs.Ranges.{range_over, range_of}
-use Rattle.path_rules.proofs.ranges.cycle_range.Given as goal
+use Rattle.path_rules.proofs.ranges.range_of.Given as goal
 
 -- the range so far, with what is left, is that of all
 abbrev pub invariant-loop-x : goal.invariant-loop-x
