@@ -39,10 +39,10 @@ pub fn arcs_into(
     delays: &ArcDelays,
     kind: Kind,
     node: u32,
-) -> Result<Vec<WalkArc>, Memory>
+) -> Result<Items<WalkArc>, Memory>
     requires delays { AreDelays graph.now.stored delays.now }
     requires node { node < node_bound graph.now.stored }
-    ensures { IfOk result (λ arcs. arcs.items ≡ arcs_followed graph.now kind node) }
+    ensures { IfOk result (λ arcs. arcs ≡ arcs_followed graph.now kind node) }
 {
     let sources = Sources { graph, delays };
     let into = followed(graph, node);
@@ -50,5 +50,5 @@ pub fn arcs_into(
     for arc in into {
         add_arc(&mut arcs, numbered_arc(&sources, kind, *arc))?;
     }
-    Ok(arcs.into_vec())
+    Ok(arcs)
 }

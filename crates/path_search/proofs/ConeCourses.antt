@@ -100,16 +100,16 @@ past k [] low e = omega (arith, low)
 past zero (x ∷ xs) low e = cc
 past (suc k) (x ∷ xs) low e = past k xs (omega (arith, low)) e
 
-lower : (offer first rest t : ℤ) → offer ≤ℤ first → first -ℤ rest ≡ t → (offer -ℤ rest) ≤ℤ t
+pub lower : (offer first rest t : ℤ) → offer ≤ℤ first → first -ℤ rest ≡ t → (offer -ℤ rest) ≤ℤ t
 lower offer first rest t low e = omega (arith, ints)
 
-lowest : (s w t : ℤ) → s ≤ℤ w → w ≤ℤ t → s ≤ℤ t
+pub lowest : (s w t : ℤ) → s ≤ℤ w → w ≤ℤ t → s ≤ℤ t
 lowest s w t a b = omega (arith, ints)
 
 between : (w s : ℤ) → w ≤ℤ s → s ≤ℤ w → w ≡ s
 between w s a b = omega (arith, ints)
 
-no_items : {X : Type 0} (xs : List X) → ((x : X) → Contains xs x → ⊥) → xs ≡ []
+pub no_items : {X : Type 0} (xs : List X) → ((x : X) → Contains xs x → ⊥) → xs ≡ []
 no_items [] none = refl
 no_items (x ∷ xs) none = absurd (none x (first_in x xs))
 
@@ -117,7 +117,7 @@ some_same : {X : Type 0} {x y : X} → Some x ≡ Some y → x ≡ y
 some_same e = cc
 
 -- a launch node arrives on one edge at one time
-launched_once : (d : Design) (split : Split) (e f : ℕ × Tran) (launch : Named) (t u : ℤ) → IsLaunched d split e launch t → IsLaunched d split f launch u → (e ≡ f) × (t ≡ u)
+pub launched_once : (d : Design) (split : Split) (e f : ℕ × Tran) (launch : Named) (t u : ℤ) → IsLaunched d split e launch t → IsLaunched d split f launch u → (e ≡ f) × (t ≡ u)
 launched_once d split e f launch t u a b =
     let node : a.node ≡ b.node = some_same (sym a.its ∙ b.its) in
     let edge : e ≡ f = some_same (sym a.edge_is ∙ ap (λ (n : Node). edge_of_launch d split launch n) node ∙ b.edge_is) in
@@ -148,7 +148,7 @@ shifted d kind launch edge time rest end test first c =
     subst (λ (xs : List (Test × ℤ)). Contains xs (test, first -ℤ signed kind rest)) (sym (slacks_shift d kind launch edge time rest end))
     (in_map (less kind rest) (launch_slacks d kind launch edge time end) (test, first) c)
 
-nothing_in : {X : Type 0} (xs : List X) (x : X) → Contains xs x → xs ≡ [] → ⊥
+pub nothing_in : {X : Type 0} (xs : List X) (x : X) → Contains xs x → xs ≡ [] → ⊥
 nothing_in {X} xs x c e = none_in x (subst (λ (ys : List X). Contains ys x) e c)
 
 module _ (d : Design) (kind : Kind) (pin : List ℕ) (cone : Cone) (Near : ℕ → Type 0) (name : ℕ → Named) (is : IsPinCone d kind pin cone Near name) where

@@ -63,15 +63,15 @@ pub record IsPlacedTail (kind : Kind) (cone : Cone) (Near : ℕ → Type 0) (nam
   pub known : Each (IsPlace cone Near) more
   pub adds : walk_sum ◌==◌ (delay_between cone) e place more ≡ Some (signed kind rest)
 
-signed_plus : (kind : Kind) (a b : ℤ) → signed kind (a +ℤ b) ≡ signed kind a +ℤ signed kind b
+pub signed_plus : (kind : Kind) (a b : ℤ) → signed kind (a +ℤ b) ≡ signed kind a +ℤ signed kind b
 signed_plus Setup a b = refl
 signed_plus Hold a b = omega (arith, ints)
 
-signed_none : (kind : Kind) → signed kind (pos 0) ≡ pos 0
+pub signed_none : (kind : Kind) → signed kind (pos 0) ≡ pos 0
 signed_none Setup = refl
 signed_none Hold = refl
 
-signed_twice : (kind : Kind) (a : ℤ) → signed kind (signed kind a) ≡ a
+pub signed_twice : (kind : Kind) (a : ℤ) → signed kind (signed kind a) ≡ a
 signed_twice Setup a = refl
 signed_twice Hold a = omega (arith, ints)
 
@@ -79,7 +79,7 @@ some_is : {X : Type 0} {x y : X} → Some x ≡ Some y → x ≡ y
 some_is e = cc
 
 -- the empty walk ends where it begins
-stays : (n e : ℕ) (sum : ℤ) → (if n == e then Some (pos 0) else None) ≡ Some sum → (n ≡ e) × (pos 0 ≡ sum)
+pub stays : (n e : ℕ) (sum : ℤ) → (if n == e then Some (pos 0) else None) ≡ Some sum → (n ≡ e) × (pos 0 ≡ sum)
 stays n e sum f = elim (cases_Bool (n == e)) [
   | inl t ↦ (eqb-true n e t, some_is (sym (ap (λ (b : Bool). if b then Some (pos 0) else None) t) ∙ f))
   | inr t ↦ let g : None ≡ Some sum = sym (ap (λ (b : Bool). if b then Some (pos 0) else None) t) ∙ f in absurd (cc)

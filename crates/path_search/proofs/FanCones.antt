@@ -55,7 +55,7 @@ use Rattle.path_search.proofs.ConeCourses.{IsPinEnd, IsEndAt, IsPinCone, IsWalkC
 use Rattle.path_search.proofs.Endings.{slack_over, shown_over}
 use Rattle.path_cones.proofs.ConeLaws.{among_at}
 
-turned_same : (kind : Kind) (x : ℤ) → turned kind x ≡ signed kind x
+pub turned_same : (kind : Kind) (x : ℤ) → turned kind x ≡ signed kind x
 turned_same Setup x = refl
 turned_same Hold x = omega (arith, ints)
 
@@ -104,15 +104,15 @@ known_past s nodes [] e = tt
 known_past s nodes (k ∷ ks) e = (subst (IsNodeNumber s) (sym (node_of_more nodes k)) e.0, known_past s nodes ks e.1)
 
 module _ (g : Graphed) (num : IsNumbered g.stored) (linked : IsLinked g.stored.design) (is : IsGraph g) (t : IsTimed g.stored.design) where
-  network_here : (k : ℕ) (node : Node) → node_at g.stored k ≡ Some node → network_at g k ≡ is_network g.stored.design node.pin
+  pub network_here : (k : ℕ) (node : Node) → node_at g.stored k ≡ Some node → network_at g k ≡ is_network g.stored.design node.pin
   network_here k node e =
       let low = node_below g.stored node k (has_node g.stored num linked k node e) in
       is.network.each (pin_under k) (omega arith) ∙ ap (λ o. option_map_or (is_network g.stored.design) o false) (node_pin g.stored k node e).0
 
-  inside : (k : ℕ) (node : Node) → node_at g.stored k ≡ Some node → Contains (pins g.stored.design) node.pin
+  pub inside : (k : ℕ) (node : Node) → node_at g.stored k ≡ Some node → Contains (pins g.stored.design) node.pin
   inside k node e = (has_node g.stored num linked k node e).has.within
 
-  delay_named : (split : Split) (a b : ℕ) (x y : Node) → node_at g.stored a ≡ Some x → node_at g.stored b ≡ Some y
+  pub delay_named : (split : Split) (a b : ℕ) (x y : Node) → node_at g.stored a ≡ Some x → node_at g.stored b ≡ Some y
       → named_delay g.stored.design split (named x) (named y) ≡ arc_delay g.stored.design split x y
   delay_named split a b x y e f =
       ap (option_and_then (λ n. option_and_then (arc_delay g.stored.design split n) (node_named g.stored.design (named y)))) (named_back g.stored.design t x (inside a x e))

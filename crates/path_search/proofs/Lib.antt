@@ -40,3 +40,4 @@ pub mod TestRanges
 pub mod TimeSteps
 pub mod TreeCredits
 pub mod TreeLaws
+pub mod NodeCourses
