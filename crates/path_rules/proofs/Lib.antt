@@ -1,3 +1,4 @@
 pub mod Divisors
 pub mod Marks
 pub mod Later
+pub mod CycleRanges

@@ -1,4 +1,5 @@
 pub mod Clocks
 pub mod Ends
 pub mod Exceptions
+pub mod Ranges
 pub mod Words

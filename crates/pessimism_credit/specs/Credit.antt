@@ -3,6 +3,7 @@
 
 use Rattle.std.specs.Prelude.{ℕ, zero, suc, ◌<◌, ℤ, pos, ◌-ℤ◌, ◌==◌, if◌then◌else◌, List, [], ◌∷◌, ◌++◌, Option, Some, None}
 use Rattle.std.specs.Option.{option_map_or}
+use Rattle.std.specs.Int.{int_min}
 use Rattle.sta_units.specs.Numbers.{Within}
 use Rattle.pessimism_credit.specs.declared.rows.TreeRow.{TreeRow}
 
@@ -52,3 +53,12 @@ pessimism_at (row ∷ rows) (suc n) = pessimism_at rows n
 abbrev pub credit_of : List TreeRow → ℕ → ℕ → ℤ
 credit_of rows a b =
     option_map_or (pessimism_at rows) (last_common None (root_path rows a) (root_path rows b)) (pos 0)
+
+-- the least pessimism at the places of a path; 0 where none is less
+abbrev pub least_over : List TreeRow → List ℕ → ℤ
+least_over rows [] = pos 0
+least_over rows (n ∷ ns) = int_min (pessimism_at rows n) (least_over rows ns)
+
+-- the least credit that a place can have: no credit of it with another place is less
+abbrev pub least_credit_of : List TreeRow → ℕ → ℤ
+least_credit_of rows b = least_over rows (root_path rows b)

@@ -1,8 +1,9 @@
 //! Climbing a clock tree from a place to its root.
 
 ghost use Rattle.std.specs.Prelude.{◌≡◌, ◌-ℤ◌, None, reverse, slice_get, IfOk};
+ghost use Rattle.std.specs.Int.{int_min};
 ghost use Rattle.sta_units.specs.Numbers.{Within};
-ghost use Rattle.pessimism_credit.specs.Credit.{IsTree, parent_of, pessimism_at, root_path, last_common};
+ghost use Rattle.pessimism_credit.specs.Credit.{IsTree, parent_of, pessimism_at, root_path, last_common, least_credit_of};
 
 use crate::rows::TreeRow;
 use sta_units::{Fs, Memory};
@@ -95,4 +96,26 @@ pub(crate) fn last_shared(rows: &[TreeRow], a: u32, b: u32) -> Option<u32>
         }
     }
     Some(left)
+}
+
+/// The lesser of two times, in fs.
+fn lesser(x: Fs, y: Fs) -> Fs
+    ensures { result.0 ≡ int_min x.0 y.0 }
+{
+    Fs(x.0.min(y.0))
+}
+
+/// The least pessimism at a place and at those above it, in fs; 0 where none is less.
+#[tactic(auto, using(crate::proofs::Climbs::climbs))]
+pub(crate) fn least_above(rows: &[TreeRow], n: u32) -> Fs
+    requires { IsTree rows.now }
+    ensures { result.0 ≡ least_credit_of rows.now n }
+{
+    let mut least = Fs(0);
+    let mut at = Some(n);
+    while let Some(place) = at {
+        least = lesser(least, pessimism_in(rows, place));
+        at = parent_at(rows, place);
+    }
+    least
 }

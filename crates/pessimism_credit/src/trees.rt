@@ -1,9 +1,10 @@
 //! Clock trees.
 
-ghost use Rattle.std.specs.Prelude.{◌≡◌, ◌<◌, length, IfOk};
-ghost use Rattle.pessimism_credit.specs.Credit.{IsTree, root_path, credit_of};
+ghost use Rattle.std.specs.Prelude.{◌≡◌, ℕ, ◌<◌, ◌≤◌, ◌*◌, ◌≤ℤ◌, length, unsigned_abs, IfOk};
+ghost use Rattle.sta_units.specs.Numbers.{limit};
+ghost use Rattle.pessimism_credit.specs.Credit.{IsTree, root_path, credit_of, least_credit_of};
 
-use crate::climbing::{last_shared, path_in, pessimism_in};
+use crate::climbing::{last_shared, least_above, path_in, pessimism_in};
 use crate::rows::TreeRow;
 use sta_units::{Fs, Memory};
 use std::alloc::Global;
@@ -62,5 +63,17 @@ impl ClockTree {
             Some(place) => pessimism_in(rows, place),
             None => Fs(0),
         }
+    }
+
+    /// A credit in fs that no credit of a place with another is below: the least of 0 and of late less
+    /// early arrival at the place and at those above it. Takes no memory, and a step for each of these.
+    #[tactic(auto, using(crate::proofs::Lowest::lowest))]
+    pub fn least_credit(&self, b: u32) -> Fs
+        requires { b < length self.now }
+        ensures value { result.0 ≡ least_credit_of self.now b }
+        ensures least { (a : ℕ) → result.0 ≤ℤ credit_of self.now a b }
+        ensures bound { unsigned_abs result.0 ≤ 2 * limit }
+    {
+        least_above(self.rows.as_slice(), b)
     }
 }
