@@ -12,7 +12,7 @@ use crate::nodes::{NodeAnswer, empty_row, evaluated, no_answer};
 use crate::ordering::by_level;
 use arc_delays::ArcDelay;
 use cow_table::CowTable;
-use level_workers::map_level;
+use level_workers::{map_level, worth_threads};
 use node_rows::Setting;
 use pin_graph::Graph;
 use sta_outside::Gate;
@@ -75,7 +75,8 @@ fn level_answers<H: Threads + Sync, G: Gate>(
         requires { IsPlan setting.now graph.now × AreDoneBelow graph.now rows.now level }
         ensures { IfOk result (IsLevelAnswer graph.entry.now level node.now) }
     { Ok(level_answer(alloc, setting, graph, rows, level, *node)) };
-    map_level(rt, alloc, workers, level, nodes, &evaluate, gate)
+    let threads = worth_threads(nodes.len(), workers);
+    map_level(rt, alloc, threads, level, nodes, &evaluate, gate)
 }
 
 /// An empty list for each number.

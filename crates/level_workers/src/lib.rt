@@ -5,4 +5,4 @@ mod mapping;
 mod pieces;
 mod runs;
 
-pub use mapping::map_level;
+pub use mapping::{map_level, worth_threads};

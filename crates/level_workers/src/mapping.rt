@@ -1,6 +1,6 @@
 //! The map of a level's items.
 
-ghost use Rattle.std.specs.Prelude.{◌≡◌, ◌+◌, ◌<◌, ◌≤◌, ◌^◌, Ok, IfOk};
+ghost use Rattle.std.specs.Prelude.{◌≡◌, ◌+◌, ◌<◌, ◌≤◌, ◌^◌, nat_lt, if◌then◌else◌, Ok, IfOk};
 ghost use Rattle.std.specs.Fn.{FnReturnsAt};
 ghost use denote.Param.Send.{IsSync, IsSend};
 ghost use Rattle.level_workers.specs.Mapped.{IsMap};
@@ -170,4 +170,14 @@ pub fn map_level<
     let next = counters(alloc, count)?;
     let runs = map_pieces(rt, alloc, pieces, items, cut, next.as_slice(), f, gate)?;
     in_order(alloc, items, runs, f)
+}
+
+/// How many threads the items of a level are worth: the caller's alone where there are fewer than 64, since
+/// a thread then costs more than it saves, and else all.
+pub fn worth_threads(items: usize, workers: u32) -> u32
+    ensures some { 1 ≤ workers → 1 ≤ result }
+    ensures most { 1 ≤ workers → result ≤ workers }
+    ensures exact { result ≡ (if nat_lt items 64 then 1 else workers) }
+{
+    if items < 64 { 1 } else { workers }
 }

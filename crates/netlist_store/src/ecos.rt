@@ -8,7 +8,7 @@ ghost use Rattle.netlist_store.specs.Touching.{touched_with};
 ghost use Rattle.netlist_store.specs.Numbering.{KeepsNumbers};
 ghost use Rattle.netlist_store.specs.Linked.{IsSized};
 ghost use Rattle.timing_defs.specs.Documents.{is_eco, is_edit};
-ghost use Rattle.netlist_store.specs.Applying.{IsChecked, IsEdited, IsRefused};
+ghost use Rattle.netlist_store.specs.Applying.{IsApplied, IsChecked, IsEdited, IsRefused};
 ghost use Rattle.netlist_store.specs.Drafts.{FollowsAll};
 
 use crate::edit_checks::check_edit;
@@ -143,8 +143,10 @@ impl Store {
         ensures insts { IfOk result (λ made. made.1.insts ≡ (touched_list self.now.design eco.now.edits).insts) }
         ensures nets { IfOk result (λ made. made.1.nets ≡ (touched_list self.now.design eco.now.edits).nets) }
         ensures numbers { IfOk result (λ made. KeepsNumbers self.now made.0) }
+        ensures applied { IfOk result (λ made. IsApplied self.now eco.now made.0 (record { insts = made.1.insts; nets = made.1.nets })) }
         ensures fault { IfErr result (λ fault. IsRefused self.now.design eco.now fault) }
     {
+        self.laws();
         let made = self.applied(alloc, eco)?;
         let (store, touched) = made;
         let store = store.settled()?;

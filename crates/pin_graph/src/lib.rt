@@ -10,7 +10,6 @@
 #![tactic(auto)]
 
 mod arcs;
-mod checks;
 mod drivers;
 mod fans;
 mod graphs;
@@ -27,5 +26,4 @@ mod places;
 mod trees;
 
 pub use arcs::{GraphArc, GraphKind};
-pub use checks::check_graph;
 pub use graphs::Graph;

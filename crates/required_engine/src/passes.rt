@@ -11,7 +11,7 @@ use crate::nodes::{empty_back, evaluated};
 use crate::ordering::by_level;
 use arc_delays::Delayed;
 use cow_table::CowTable;
-use level_workers::map_level;
+use level_workers::{map_level, worth_threads};
 use netlist_store::Store;
 use pin_graph::Graph;
 use sta_outside::Gate;
@@ -71,7 +71,8 @@ fn level_rows<H: Threads + Sync, A: Rows + Delayed + Sync, G: Gate>(
         requires { (graph.now.stored ≡ store.now) × AreFound store.now (A.rows arrivals.now) (A.delays arrivals.now) × AreDoneFrom graph.now rows.now (level + 1) }
         ensures { IfOk result (IsAnswerAt graph.entry.now level node.now) }
     { Ok(level_answer(alloc, store, graph, arrivals, rows, level, *node)) };
-    map_level(rt, alloc, workers, level, nodes, &answer, gate)
+    let threads = worth_threads(nodes.len(), workers);
+    map_level(rt, alloc, threads, level, nodes, &answer, gate)
 }
 
 /// Writes the rows of the nodes of a level by several threads; refuses with the first fault among the
