@@ -106,7 +106,7 @@ module _ (g : Graphed) (num : IsNumbered g.stored) (linked : IsLinked g.stored.d
   start_is = ap (option_and_then (λ (n : Node). first_some (λ edge. with_edge edge (start_at g.stored.design split n edge)) (launch_edges g.stored.design))) named_its
 
   -- nothing starts where an arc leads to
-  started_none : (from : Node) → Contains (arcs_in g.stored.design node) from → (edge : ℕ × Tran) → start_at g.stored.design split node edge ≡ None
+  pub started_none : (from : Node) → Contains (arcs_in g.stored.design node) from → (edge : ℕ × Tran) → start_at g.stored.design split node edge ≡ None
   started_none from c edge = elim (cases_Bool (is_input_port node.pin)) [
     | inl e ↦ absurd (none_in from (subst (λ (xs : List Node). Contains xs from) (port_entered g.stored.design node e) c))
     | inr e ↦
@@ -130,7 +130,7 @@ module _ (g : Graphed) (num : IsNumbered g.stored) (linked : IsLinked g.stored.d
       } in
       none_in arc (subst (λ (xs : List GraphArc). Contains xs arc) none ((is.ins number low).all arc arc_is refl))))
 
-  times_are : times_in split (row g.stored.design node) ≡ filter_map (λ edge. option_map (edge_time edge) (arrival_of g.stored.design split (row g.stored.design) node edge)) (launch_edges g.stored.design)
+  pub times_are : times_in split (row g.stored.design node) ≡ filter_map (λ edge. option_map (edge_time edge) (arrival_of g.stored.design split (row g.stored.design) node edge)) (launch_edges g.stored.design)
   times_are = ap (times_in split) (its_time.stepped node has.has.within) ∙ by split
     where
       by : (t : Split) → times_in t (step g.stored.design (row g.stored.design) node) ≡ arrivals_of g.stored.design t (row g.stored.design) node

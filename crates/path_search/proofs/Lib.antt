@@ -41,3 +41,4 @@ pub mod TimeSteps
 pub mod TreeCredits
 pub mod TreeLaws
 pub mod NodeCourses
+pub mod PrefixTimes

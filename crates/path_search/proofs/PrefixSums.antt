@@ -88,7 +88,7 @@ or_none None = refl
 or_none (Some x) = refl
 
 module _ (d : Design) (t : IsTimed d) (split : Split) (edge : ℕ × Tran) (launched : Contains (launch_edges d) edge) where
-  arrival_is : (n : Node) → Contains (pins d) n.pin → arrival d split n edge ≡ arrival_of d split (row d) n edge
+  pub arrival_is : (n : Node) → Contains (pins d) n.pin → arrival d split n edge ≡ arrival_of d split (row d) n edge
   arrival_is n c = ap (λ r. time_on (times_in split r) edge) (t.stepped n c) ∙ by split
     where
       by : (s : Split) → time_on (times_in s (step d (row d) n)) edge ≡ arrival_of d s (row d) n edge
