@@ -95,7 +95,7 @@ pub record IsCourseWalk (cone : Cone) (Near : ℕ → Type 0) (name : ℕ → Na
   pub names : map name more ≡ post
   pub known : Each (IsPlace cone Near) more
 
-past : {X : Type 0} (k : ℕ) (xs : List X) → k < length xs → slice_get xs k ≡ None → ⊥
+pub past : {X : Type 0} (k : ℕ) (xs : List X) → k < length xs → slice_get xs k ≡ None → ⊥
 past k [] low e = omega (arith, low)
 past zero (x ∷ xs) low e = cc
 past (suc k) (x ∷ xs) low e = past k xs (omega (arith, low)) e

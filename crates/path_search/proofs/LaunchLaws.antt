@@ -198,7 +198,7 @@ module _ (g : Graphed) (num : IsNumbered g.stored) (linked : IsLinked g.stored.d
       }
 
   -- a launch edge is one of the clocks', and arrivals on it are within their limits
-  launched_in : (edge : ℕ × Tran) → edge_of_launch g.stored.design split (named node) node ≡ Some edge → Contains (launch_edges g.stored.design) edge
+  pub launched_in : (edge : ℕ × Tran) → edge_of_launch g.stored.design split (named node) node ≡ Some edge → Contains (launch_edges g.stored.design) edge
   launched_in edge e = elim (cases_Bool (is_network g.stored.design node.pin)) [
     | inl net ↦ edge_launched g.stored.design node edge (sym (edge_walked g.stored.design split (named node) node net) ∙ e)
     | inr out ↦

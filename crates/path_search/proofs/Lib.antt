@@ -42,3 +42,4 @@ pub mod TreeCredits
 pub mod TreeLaws
 pub mod NodeCourses
 pub mod PrefixTimes
+pub mod LowOffers

@@ -52,7 +52,7 @@ no_credit rows (Some a) = refl
 
 module _ (g : Graphed) (num : IsNumbered g.stored) (linked : IsLinked g.stored.design) (is : IsGraph g) (rows : List TreeRow) (tree : IsClockTree g rows)
     (kind : Kind) (number : ℕ) (l : LaunchNode) (launch : IsLaunchNode g (data_split kind) number l) where
-  its_edge : edge_of_launch g.stored.design (data_split kind) (named launch.node) launch.node ≡ Some (edge_of_node l)
+  pub its_edge : edge_of_launch g.stored.design (data_split kind) (named launch.node) launch.node ≡ Some (edge_of_node l)
   its_edge =
       let back = named_back g.stored.design (timed g num linked is) launch.node (has_node g.stored num linked number launch.node launch.its).has.within in
       let n : launch.launched.node ≡ launch.node = some_is (sym launch.launched.its ∙ back) in
@@ -153,12 +153,12 @@ IsLeast best slacks (Some least) = IsLeastOf best slacks least
 self_low : (x : ℤ) → x ≤ℤ x
 self_low x = omega (arith, ints)
 
-record IsLesser (a : Option ℤ) (x y : ℤ) : Type 0 where
+pub record IsLesser (a : Option ℤ) (x y : ℤ) : Type 0 where
   pub found : (a ≡ Some y) ⊎ (x ≡ y)
   pub before : (b : ℤ) → a ≡ Some b → y ≤ℤ b
   pub low : y ≤ℤ x
 
-lesser : (a : Option ℤ) (x : ℤ) → (y : ℤ) × (outer_some Early a (Some x) ≡ Some y) × IsLesser a x y
+pub lesser : (a : Option ℤ) (x : ℤ) → (y : ℤ) × (outer_some Early a (Some x) ≡ Some y) × IsLesser a x y
 lesser None x = (x, refl, record { found = inr refl; before = λ b e. absurd (cc); low = self_low x })
 lesser (Some a) x = elim (cases_Bool (int_lt x a)) [
   | inl e ↦ (

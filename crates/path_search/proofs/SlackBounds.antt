@@ -87,7 +87,7 @@ clock_read d linked items e i low x at =
     clock_good d linked i x (slice_get_read d.constraints.clocks (length d.constraints.clocks) i x refl low (at ∙ ap (λ (xs : List Clock). get_or xs i x) e))
 
 -- a look at two clocks that are there
-on_both : (d : Design) (value : Clock → Clock → ℤ) (i j : ℕ) (l c : Clock) → slice_get d.constraints.clocks i ≡ Some l → slice_get d.constraints.clocks j ≡ Some c
+pub on_both : (d : Design) (value : Clock → Clock → ℤ) (i j : ℕ) (l c : Clock) → slice_get d.constraints.clocks i ≡ Some l → slice_get d.constraints.clocks j ≡ Some c
     → on_clocks d value i j ≡ value l c
 on_both d value i j l c e f =
     ap (λ o. option_map_or (λ (x : Clock). option_map_or (value x) (slice_get d.constraints.clocks j) (pos 0)) o (pos 0)) e

@@ -1,5 +1,6 @@
 pub mod Counts
 pub mod Launches
+pub mod Lows
 pub mod NodeSlacks
 pub mod Offers
 pub mod PinCones
