@@ -43,3 +43,4 @@ pub mod TreeLaws
 pub mod NodeCourses
 pub mod PrefixTimes
 pub mod LowOffers
+pub mod NodeLaunches

@@ -9,6 +9,7 @@ use Rattle.std.proofs.lemmas.Int.{ints, clamps}
 use Rattle.std.proofs.lemmas.Nat.{mul-le}
 use Rattle.std.proofs.lemmas.List.Elements.{All-contains}
 use Rattle.std.proofs.Math.IntN.{pos-*ℤ-pos, negsuc-*ℤ-pos}
+use native.Mathlib.Nat.{suc-mul}
 use Rattle.timing_defs.specs.declared.edge_times.EdgeTime.{EdgeTime}
 use Rattle.timing_defs.specs.declared.kinds.Kind.{Kind}
 use Rattle.timing_defs.specs.declared.kinds.Kind.TheVariants.{Setup, Hold}
@@ -51,7 +52,7 @@ counted zero q =
     ap (λ (z : ℤ). z *ℤ pos q) first ∙ negsuc-*ℤ-pos 0 q ∙ last
 counted (suc k) q =
     let first : pos (suc k) -ℤ pos 1 ≡ pos k = omega (arith, ints) in
-    let more : suc k * q ≡ q + k * q = refl in
+    let more : suc k * q ≡ k * q + q = suc-mul k q in
     let last : pos (k * q) ≡ pos (suc k * q) -ℤ pos q = omega (arith, ints, more) in
     ap (λ (z : ℤ). z *ℤ pos q) first ∙ pos-*ℤ-pos k q ∙ last
 
@@ -114,7 +115,7 @@ credit_less rows None (Some b) = least_low rows b
 credit_less rows (Some a) (Some b) = credit_least rows a b
 
 -- a slack by the parts of its test
-abbrev slack_parts : Kind → ℤ → ℤ → ℤ → ℤ → ℤ → ℤ → ℤ → ℤ
+abbrev pub slack_parts : Kind → ℤ → ℤ → ℤ → ℤ → ℤ → ℤ → ℤ → ℤ
 slack_parts Setup early late need sep unc credit length = early +ℤ sep -ℤ need -ℤ unc +ℤ credit -ℤ length
 slack_parts Hold early late need sep unc credit length = length -ℤ late -ℤ sep -ℤ need -ℤ unc +ℤ credit
 
@@ -166,7 +167,7 @@ record IsUnder (s : ℤ) (low : Option ℤ) (o : ℤ) : Type 0 where
   pub is : low ≡ Some value
   pub under : (value -ℤ s) ≤ℤ o
 
-either : (a b : Option ℤ) (o : ℤ) → outer_some Early a b ≡ Some o → (a ≡ Some o) ⊎ (b ≡ Some o)
+pub either : (a b : Option ℤ) (o : ℤ) → outer_some Early a b ≡ Some o → (a ≡ Some o) ⊎ (b ≡ Some o)
 either None b o e = inr e
 either (Some x) None o e = inl e
 either (Some x) (Some y) o e = by (int_lt y x) e

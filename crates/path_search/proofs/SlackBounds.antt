@@ -114,7 +114,7 @@ last_low f n (x ∷ xs) low each = by (f x) refl (λ k l. last_low f k xs l (λ 
     by None e again = subst (λ (k : ℕ). last_some f k xs ≤ 1000) (sym (ap (λ o. unwrap_or o n) e)) (again n low)
     by (Some m) e again = subst (λ (k : ℕ). last_some f k xs ≤ 1000) (sym (ap (λ o. unwrap_or o n) e)) (again m (each x (0, omega arith, refl) m e))
 
-effect_low : (kind : Kind) (x : Effect) (m : ℕ) → is_effect x ≡ true → cycles_in kind x ≡ Some m → m ≤ 1000
+pub effect_low : (kind : Kind) (x : Effect) (m : ℕ) → is_effect x ≡ true → cycles_in kind x ≡ Some m → m ≤ 1000
 effect_low Setup (CyclesSetup n) m h e =
     let p = and_parts (nat_le 1 n) (nat_le n 1000) h in
     let same : n ≡ m = cc in

@@ -1,0 +1,57 @@
+-- The graph in front of an end node, as a search with a bound asks for it node by node.
+
+use Rattle.std.specs.Prelude.{ℕ, ◌≡◌, ◌<◌, ◌^◌, ℤ, true, List, Option, Some, None, option_map, option_and_then}
+use Rattle.timing_defs.specs.declared.kinds.Kind.{Kind}
+use Rattle.timing_defs.specs.declared.kinds.Tran.{Tran}
+use Rattle.timing_defs.specs.Netlist.{Node}
+use Rattle.timing_defs.specs.Paths.{named}
+use Rattle.timing_defs.specs.Rows.{arrival, times_in}
+use Rattle.timing_defs.specs.Tests.{data_split}
+use Rattle.netlist_store.specs.Numbering.{is_number}
+use Rattle.pin_graph.specs.Nodes.{node_at, node_bound, pin_under}
+use Rattle.pin_graph.specs.Graphs.{Graphed, level_at, place_at}
+use Rattle.pin_graph.specs.RowTables.{row_numbered}
+use Rattle.pessimism_credit.specs.declared.rows.TreeRow.{TreeRow}
+use Rattle.path_cones.specs.Following.{arcs_followed}
+use Rattle.bounded_slack.specs.Nets.{Net}
+use Rattle.bounded_slack.specs.Rows.{least_room, signed_on}
+use Rattle.path_search.specs.declared.ends.EndTest.{EndTest}
+use Rattle.path_search.specs.declared.launches.LaunchNode.{LaunchNode}
+use Rattle.path_search.specs.Launches.{edge_of_launch, launched_at}
+use Rattle.path_search.specs.Lows.{lows_told}
+use Rattle.path_search.specs.Slacks.{AreEndTestsOf, least_slack}
+
+-- the launch node of a number, where it launches paths of a kind
+abbrev pub launch_value : Graphed → ℕ → Node → ℕ × Tran → ℤ → LaunchNode
+launch_value g n node edge time = record {
+  launch = launched_at g.stored.design (named node) edge;
+  tran = edge.1;
+  time = record { 0 = time };
+  place = place_at g n;
+}
+
+abbrev pub launch_told : Graphed → Kind → ℕ → Option LaunchNode
+launch_told g kind n =
+    option_and_then (λ node.
+    option_and_then (λ edge. option_map (launch_value g n node edge) (arrival g.stored.design (data_split kind) node edge))
+    (edge_of_launch g.stored.design (data_split kind) (named node) node))
+    (node_at g.stored n)
+
+-- what a number offers by some tests
+abbrev pub offer_told : Graphed → Kind → List TreeRow → List EndTest → ℕ → Option ℤ
+offer_told g kind rows tests n = option_and_then (λ l. least_slack g.stored.design kind rows l tests) (launch_told g kind n)
+
+-- the arrivals of a number, signed
+abbrev pub signed_arrival : Graphed → Kind → ℕ → ℕ × Tran → Option ℤ
+signed_arrival g kind n edge = signed_on kind (times_in (data_split kind) (row_numbered g.stored n)) edge
+
+abbrev pub net_told : Graphed → Kind → List TreeRow → List EndTest → ℕ → Net
+net_told g kind rows tests end = record {
+  count = node_bound g.stored;
+  end = end;
+  level = level_at g;
+  place = level_at g;
+  arcs = arcs_followed g kind;
+  offer = offer_told g kind rows tests;
+  bound = λ n. least_room (signed_arrival g kind n) None (lows_told g.stored.design kind rows tests);
+}
