@@ -44,3 +44,4 @@ pub mod NodeCourses
 pub mod PrefixTimes
 pub mod LowOffers
 pub mod NodeLaunches
+pub mod NodeSearches

@@ -1,32 +1,34 @@
 //! The worst path to an endpoint, and its slack.
 
-ghost use Rattle.std.specs.Prelude.{◌≡◌, ◌∷◌, [], Contains, Some, None, option_map, IfOk};
+ghost use Rattle.std.specs.Prelude.{◌≡◌, Contains, Some, None, option_map, IfOk};
 ghost use Rattle.timing_defs.specs.Checks.{IsSound};
 ghost use Rattle.timing_defs.specs.Range.{NoOrigin};
 ghost use Rattle.timing_defs.specs.Reports.{endpoints};
-ghost use Rattle.timing_defs.specs.Paths.{IsSlack, IsShown};
+ghost use Rattle.timing_defs.specs.Netlist.{Node};
+ghost use Rattle.timing_defs.specs.Paths.{named, IsSlack, IsShown};
+ghost use Rattle.pin_graph.specs.Nodes.{node_at};
+ghost use Rattle.path_search.specs.NodeSlacks.{lesser_slack, IsNodeSlack};
 ghost use Rattle.arc_delays.specs.Delays.{AreDelays};
 ghost use Rattle.pin_graph.specs.RowTables.{AreRows};
-ghost use Rattle.path_cones.specs.FanIns.{IsFanIn};
 ghost use Rattle.path_search.specs.Sources.{AreSources};
 ghost use Rattle.path_search.specs.Trees.{IsClockTree};
-ghost use Rattle.worst_walks.specs.Walks.{IsLeastSlack, IsWorst};
+ghost use Rattle.worst_walks.specs.Walks.{IsWorst};
 ghost use Rattle.path_search.specs.Ranks.{place_rank, places_before};
 ghost use Rattle.path_search.specs.PinCones.{AreEndNodes, IsPinCone, IsSearchFine, IsWalkPath};
 
-use crate::cones::{EndNodes, PinCone, cone_over, end_nodes, pin_cone};
+use crate::cones::{EndNodes, PinCone, end_nodes, pin_cone};
+use crate::node_fans::node_slack;
 use crate::orders::ByName;
 use crate::shown::path_of;
 use crate::sources::Sources;
 use arc_delays::Delayed;
 use netlist_store::Store;
-use path_cones::{FanIn, FanIns, fan_ins};
 use pessimism_credit::ClockTree;
 use pin_graph::Graph;
 use sta_units::{Fs, Memory};
 use std::alloc::Global;
 use timing_defs::{Kind, Name, Path, Rows};
-use worst_walks::{Walk, least_slack, worst_walk};
+use worst_walks::{Walk, worst_walk};
 
 /// The slacks of an endpoint in fs; none of a kind of which no path to it is tested.
 #[derive(Clone, Copy, Drop)]
@@ -48,26 +50,40 @@ fn search_laws(store: &Store, graph: &Graph, kind: Kind, endpoint: &Name, search
     let _ = search;
 }
 
-/// That the least slack of the walks of a cone is the pin's; the call does nothing.
+/// That the lesser of the slacks of a pin's nodes is the pin's; the call does nothing.
 fn slack_law(
     store: &Store,
     graph: &Graph,
     kind: Kind,
     endpoint: &Name,
-    search: &PinCone,
-    slack: Option<i64>,
+    ends: EndNodes,
+    rise: Option<i64>,
+    fall: Option<i64>,
 )
     requires graph { graph.now.stored ≡ store.now }
-    requires search { IsPinCone graph.now kind endpoint.now search.now }
-    requires slack { IsLeastSlack search.now.cone slack }
-    ensures { IsSlack store.now.design kind endpoint.now slack }
+    requires ends { AreEndNodes store.now endpoint.now ends }
+    requires rise { (node : Node) → node_at store.now ends.rise ≡ Some node → IsNodeSlack store.now.design kind (named node) rise }
+    requires fall { (node : Node) → node_at store.now ends.fall ≡ Some node → IsNodeSlack store.now.design kind (named node) fall }
+    ensures { IsSlack store.now.design kind endpoint.now (lesser_slack rise fall) }
 {
     store.laws();
     graph.laws();
     let _ = kind;
     let _ = endpoint;
-    let _ = search;
-    let _ = slack;
+    let _ = ends;
+    let _ = rise;
+    let _ = fall;
+}
+
+/// The lesser of two slacks, where there are two.
+fn lesser(one: Option<i64>, other: Option<i64>) -> Option<i64>
+    ensures { result ≡ lesser_slack one other }
+{
+    match (one, other) {
+        (None, second) => second,
+        (Some(x), None) => Some(x),
+        (Some(x), Some(y)) => if y < x { Some(y) } else { Some(x) },
+    }
 }
 
 /// A slack in fs.
@@ -80,23 +96,29 @@ fn in_fs(slack: Option<i64>) -> Option<Fs>
     }
 }
 
-/// The least slack of the walks of a cone.
-fn slack_in(
+/// The slack of an endpoint for a kind of tests, by the searches of its two nodes.
+fn pin_slack<A: Rows + Delayed>(
     alloc: Global,
-    store: &Store,
-    graph: &Graph,
-    kind: Kind,
+    sources: &Sources<'_, A>,
     endpoint: &Name,
-    search: &PinCone,
+    ends: EndNodes,
 ) -> Result<Option<Fs>, Memory>
-    requires graph { graph.now.stored ≡ store.now }
-    requires search { IsPinCone graph.now kind endpoint.now search.now }
-    ensures { IfOk result (λ slack. IsSlack store.now.design kind endpoint.now (option_map (λ s. s.0) slack)) }
+    requires sources { AreSources sources.now.store.now sources.now.graph.now (A.rows sources.now.arrivals.now) (A.delays sources.now.arrivals.now) sources.now.tree.now }
+    requires ends { AreEndNodes sources.now.store.now endpoint.now ends }
+    ensures { IfOk result (λ slack. IsSlack sources.now.store.now.design sources.now.kind endpoint.now (option_map (λ s. s.0) slack)) }
 {
-    search_laws(store, graph, kind, endpoint, search);
-    let slack = least_slack(alloc, &search.cone)?;
-    slack_law(store, graph, kind, endpoint, search, slack);
-    Ok(in_fs(slack))
+    let rise = node_slack(alloc, sources, ends.rise)?;
+    let fall = node_slack(alloc, sources, ends.fall)?;
+    slack_law(
+        sources.store,
+        sources.graph,
+        sources.kind,
+        endpoint,
+        ends,
+        rise,
+        fall,
+    );
+    Ok(in_fs(lesser(rise, fall)))
 }
 
 /// The worst walk of a cone, in the order of the names of pins.
@@ -200,8 +222,8 @@ fn shown_in<A: Rows + Delayed>(
 }
 
 /// The slack of an endpoint for a kind of tests, in fs: the least over all paths to it that are tested;
-/// none where there is no such path. Takes the time of the arcs of the endpoint's fan-in and of sorting
-/// its nodes, and of its launches times the tests of the endpoint. The one error is want of memory.
+/// none where there is no such path. Each of the endpoint's nodes is searched back, and only where its
+/// arrivals leave room for a lesser slack. The one error is want of memory.
 pub fn worst_slack<A: Rows + Delayed>(
     alloc: Global,
     store: &Store,
@@ -227,36 +249,12 @@ pub fn worst_slack<A: Rows + Delayed>(
         tree,
         kind,
     };
-    let search = pin_cone(alloc, &sources, endpoint)?;
-    slack_in(alloc, store, graph, kind, endpoint, &search)
+    let ends = end_nodes(store, graph, endpoint);
+    pin_slack(alloc, &sources, endpoint, ends)
 }
 
-/// The slack of an endpoint for a kind of tests, over the fan-in of its nodes.
-fn slack_over<A: Rows + Delayed>(
-    alloc: Global,
-    sources: &Sources<'_, A>,
-    endpoint: &Name,
-    ends: EndNodes,
-    fan: FanIn,
-) -> Result<Option<Fs>, Memory>
-    requires sources { AreSources sources.now.store.now sources.now.graph.now (A.rows sources.now.arrivals.now) (A.delays sources.now.arrivals.now) sources.now.tree.now }
-    requires ends { AreEndNodes sources.now.store.now endpoint.now ends }
-    requires fan { IsFanIn sources.now.graph.now sources.now.kind (ends.rise ∷ ends.fall ∷ []) fan }
-    ensures { IfOk result (λ slack. IsSlack sources.now.store.now.design sources.now.kind endpoint.now (option_map (λ s. s.0) slack)) }
-{
-    let search = cone_over(alloc, sources, endpoint, ends, fan)?;
-    slack_in(
-        alloc,
-        sources.store,
-        sources.graph,
-        sources.kind,
-        endpoint,
-        &search,
-    )
-}
-
-/// The slacks of an endpoint for tests of both kinds, each as `worst_slack` has it. The fan-in is searched
-/// once. The one error is want of memory.
+/// The slacks of an endpoint for tests of both kinds, each as `worst_slack` has it. The one error is
+/// want of memory.
 pub fn worst_slacks<A: Rows + Delayed>(
     alloc: Global,
     store: &Store,
@@ -276,13 +274,6 @@ pub fn worst_slacks<A: Rows + Delayed>(
     ensures hold { IfOk result (λ slacks. IsSlack store.now.design Kind.Hold endpoint.now (option_map (λ s. s.0) slacks.hold)) }
 {
     let ends = end_nodes(store, graph, endpoint);
-    let FanIns { setup, hold } = fan_ins(
-        alloc,
-        store,
-        graph,
-        arrivals.delays(),
-        &[ends.rise, ends.fall],
-    )?;
     let late = Sources {
         store,
         graph,
@@ -297,15 +288,15 @@ pub fn worst_slacks<A: Rows + Delayed>(
         tree,
         kind: Kind::Hold,
     };
-    let setup = slack_over(alloc, &late, endpoint, ends, setup)?;
-    let hold = slack_over(alloc, &early, endpoint, ends, hold)?;
+    let setup = pin_slack(alloc, &late, endpoint, ends)?;
+    let hold = pin_slack(alloc, &early, endpoint, ends)?;
     Ok(EndpointSlacks { setup, hold })
 }
 
 /// The worst path to an endpoint for a kind of tests: of least slack over all paths to it that are
 /// tested, and of those the first by its nodes; none where there is no such path. Times, slack and credit
-/// are in fs. Takes the time of `worst_slack`, and a list of the nodes of a path for each launch of least
-/// slack. The one error is want of memory.
+/// are in fs. Takes the time of the arcs of the endpoint's fan-in, of sorting its nodes and of its launches
+/// times the tests of the endpoint, and a list of the nodes of a path for each launch of least slack. The one error is want of memory.
 pub fn worst_path<A: Rows + Delayed>(
     alloc: Global,
     store: &Store,

@@ -21,7 +21,7 @@ use sta_units::Fs;
 use timing_defs::{Clock, Kind, Split};
 
 /// A clock by its place in the list of clocks.
-fn clock_at(store: &Store, clock: u32) -> &Clock
+pub(crate) fn clock_at(store: &Store, clock: u32) -> &Clock
     requires { clock < length store.now.design.constraints.clocks }
     ensures there { slice_get store.now.design.constraints.clocks clock ≡ Some result.now }
     ensures clock { IsClock result.now }
@@ -58,7 +58,7 @@ fn moved_between(store: &Store, kind: Kind, rule: Rule, launch: &LaunchNode, tes
 }
 
 /// The uncertainty of a clock for tests of a kind, in fs.
-fn uncertainty_of(store: &Store, kind: Kind, clock: u32) -> i64
+pub(crate) fn uncertainty_of(store: &Store, kind: Kind, clock: u32) -> i64
     requires { clock < length store.now.design.constraints.clocks }
     ensures value { result ≡ uncertainty_on store.now.design kind clock }
     ensures bound { Within result }
@@ -88,7 +88,7 @@ pub(crate) fn credit_between(tree: &ClockTree, launch: Option<u32>, capture: Opt
 }
 
 /// The slack in fs of a path of this length by a test, its moved separation, uncertainty and credit.
-fn slack_by(
+pub(crate) fn slack_by(
     kind: Kind,
     test: &NodeTest,
     apart: i64,

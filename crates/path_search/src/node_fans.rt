@@ -1,0 +1,156 @@
+//! The graph in front of an end node, as a search with a bound asks for it.
+
+ghost use Rattle.std.specs.Prelude.{◌≡◌, ◌<◌, true, IfOk};
+ghost use Rattle.timing_defs.specs.Paths.{named};
+ghost use Rattle.timing_defs.specs.Netlist.{Node};
+ghost use Rattle.timing_defs.specs.Tests.{data_split};
+ghost use Rattle.netlist_store.specs.Numbering.{is_number};
+ghost use Rattle.pin_graph.specs.Nodes.{node_at, node_bound, pin_under};
+ghost use Rattle.path_search.specs.NodeNets.{IsFanOf};
+ghost use Rattle.path_search.specs.NodeSlacks.{IsNodeSlack};
+ghost use Rattle.path_search.specs.Sources.{AreSources};
+
+use crate::ends::{EndTest, end_tests};
+use crate::launches::launch_node;
+use crate::lows::lows_of;
+use crate::sources::Sources;
+use crate::test_slacks::least_slack;
+use arc_delays::Delayed;
+use bounded_slack::{Fan, least_of_rows, least_room};
+use path_cones::arcs_into;
+use sta_units::Memory;
+use std::alloc::Global;
+use timing_defs::{EdgeTime, Items, Kind, Rows, Split};
+use worst_walks::WalkArc;
+
+/// What a search in front of an end node asks for: the graph with its rows, the tests of the end node and
+/// its lowest offers.
+#[derive(Drop)]
+pub(crate) struct NodeFan<'a, A: Rows + Delayed> {
+    sources: &'a Sources<'a, A>,
+    tests: Items<EndTest>,
+    lows: Items<EdgeTime>,
+    end: u32,
+    ghost told: { IsFanOf sources.now.store.now sources.now.graph.now (A.rows sources.now.arrivals.now) (A.delays sources.now.arrivals.now) sources.now.tree.now sources.now.kind end tests lows },
+}
+
+/// The split of the data that a kind of test compares.
+fn data_split(kind: Kind) -> Split
+    ensures { result ≡ data_split kind }
+{
+    match kind {
+        Kind::Setup => Split::Late,
+        Kind::Hold => Split::Early,
+    }
+}
+
+impl<A: Rows + Delayed> Fan for NodeFan<'_, A> {
+    ghost use Rattle.path_search.specs.NodeNets.{net_told};
+
+    ghost net = { λ f. net_told f.sources.now.graph.now f.sources.now.kind f.sources.now.tree.now f.tests f.end };
+
+    fn end(&self) -> u32 {
+        self.end
+    }
+
+    fn level(&self, node: u32) -> u32 {
+        self.sources.graph.level(node)
+    }
+
+    fn bound(&self, node: u32) -> Option<i64> {
+        let sources = self.sources;
+        let row = sources.arrivals.row(node);
+        least_room(
+            sources.kind,
+            self.lows.as_slice(),
+            row.times(data_split(sources.kind)),
+        )
+    }
+
+    fn arcs_into(&self, alloc: Global, node: u32) -> Result<Items<WalkArc>, Memory> {
+        let sources = self.sources;
+        arcs_into(
+            alloc,
+            sources.graph,
+            sources.arrivals.delays(),
+            sources.kind,
+            node,
+        )
+    }
+
+    fn offer(&self, alloc: Global, node: u32) -> Result<Option<i64>, Memory> {
+        let sources = self.sources;
+        let launch = launch_node(
+            alloc,
+            sources.store,
+            sources.graph,
+            sources.arrivals,
+            sources.kind,
+            node,
+        )?;
+        match launch {
+            Some(launch) => Ok(least_slack(
+                sources.store,
+                sources.tree,
+                sources.kind,
+                &launch,
+                self.tests.as_slice(),
+            )),
+            None => Ok(None),
+        }
+    }
+}
+
+/// What a search in front of an end node asks for.
+fn node_fan<'a, A: Rows + Delayed>(
+    alloc: Global,
+    sources: &'a Sources<'a, A>,
+    end: u32,
+) -> Result<NodeFan<'a, A>, Memory>
+    requires sources { AreSources sources.now.store.now sources.now.graph.now (A.rows sources.now.arrivals.now) (A.delays sources.now.arrivals.now) sources.now.tree.now }
+    requires end { end < node_bound sources.now.store.now }
+    requires there { is_number sources.now.store.now.pins (pin_under end) ≡ true }
+    ensures { IfOk result (λ fan. (fan.sources ≡ sources) × (fan.end ≡ end)) }
+{
+    let tests = end_tests(
+        alloc,
+        sources.store,
+        sources.graph,
+        sources.arrivals,
+        sources.kind,
+        end,
+    )?;
+    let lows = lows_of(
+        alloc,
+        sources.store,
+        sources.tree,
+        sources.kind,
+        tests.as_slice(),
+    )?;
+    Ok(NodeFan {
+        sources,
+        tests,
+        lows,
+        end,
+    })
+}
+
+/// The slack of an end node for a kind of tests, in fs: the least over all paths to it that are tested;
+/// none where there is no such path. Fails for want of memory, and where the end node's level is `2^22` or
+/// more, above that of a sound design.
+pub(crate) fn node_slack<A: Rows + Delayed>(
+    alloc: Global,
+    sources: &Sources<'_, A>,
+    end: u32,
+) -> Result<Option<i64>, Memory>
+    requires sources { AreSources sources.now.store.now sources.now.graph.now (A.rows sources.now.arrivals.now) (A.delays sources.now.arrivals.now) sources.now.tree.now }
+    requires end { end < node_bound sources.now.store.now }
+    requires there { is_number sources.now.store.now.pins (pin_under end) ≡ true }
+    ensures { IfOk result (λ slack. (node : Node) → node_at sources.now.store.now end ≡ Some node → IsNodeSlack sources.now.store.now.design sources.now.kind (named node) slack) }
+{
+    if sources.graph.level(end) >= 1 << 22 {
+        return Err(Memory);
+    }
+    let fan = node_fan(alloc, sources, end)?;
+    least_of_rows(alloc, &fan)
+}
