@@ -45,3 +45,5 @@ pub mod PrefixTimes
 pub mod LowOffers
 pub mod NodeLaunches
 pub mod NodeSearches
+pub mod NodeForms
+pub mod LowLists

@@ -6,6 +6,7 @@ use Rattle.std.specs.Option.{option_map_or, unwrap_or}
 use Rattle.std.proofs.lemmas.Bool.{leb-true, le-leb}
 use Rattle.std.proofs.lemmas.Int.{ints}
 use Rattle.std.proofs.lemmas.List.Elements.{All-contains}
+use Rattle.std.proofs.lemmas.Option.{slice_get_within}
 use Rattle.sta_units.specs.Numbers.{limit, Within}
 use Rattle.timing_defs.specs.declared.kinds.Kind.{Kind}
 use Rattle.timing_defs.specs.declared.kinds.Kind.TheVariants.{Setup, Hold}
@@ -243,6 +244,36 @@ module _ (d : Design) (linked : IsLinked d) where
           by Hold p q =
               parts_bound Hold t.test.early.0 t.test.late.0 t.test.need.0 (low_apart d Hold (i, a) (capture_on t)) (uncertainty_on d Hold t.test.capture_clock)
               (low_credit rows t.place) (pos 0) test.early test.late test.need p q (credit_low_bound t.place) zero_within
+
+-- a separation with the cycles with which a slack is least, as it is found
+module _ (d : Design) (linked : IsLinked d) (kind : Kind) (i j : ℕ) (a b : Tran) (l c : Clock) (from : slice_get d.constraints.clocks i ≡ Some l) (to : slice_get d.constraints.clocks j ≡ Some c) where
+  nobody : Launch
+  nobody = record { pin = []; cell = None; clock = 0 }
+
+  nothing : Capture
+  nothing = record { pin = []; cell = None; clock = 0 }
+
+  pub setup_within : (s : ℕ) → s ≡ low_setup d.constraints kind → s ≤ 1000
+  setup_within s e = subst (λ (n : ℕ). n ≤ 1000) (sym e) (setup_bound d linked kind nobody nothing)
+
+  pub hold_within : (h : ℕ) → h ≡ low_hold d.constraints → h ≤ 1000
+  hold_within h e = subst (λ (n : ℕ). n ≤ 1000) (sym e) (fewest_low d linked Hold nobody nothing)
+
+  pub apart_within : (sep : ℤ) → sep ≡ separation kind l a c b → unsigned_abs sep ≤ limit
+  apart_within sep e = subst (λ (z : ℤ). unsigned_abs z ≤ limit) (sym e) (separation_low kind l c a b (clock_good d linked i l from).clock_is)
+
+  pub apart_as : (sep out : ℤ) (s h : ℕ) → sep ≡ separation kind l a c b → s ≡ low_setup d.constraints kind → h ≡ low_hold d.constraints → out ≡ with_cycles kind sep s h l c
+      → out ≡ low_apart d kind (i, a) (j, b)
+  apart_as sep out s h apart setup hold found =
+      found ∙ (λ k. with_cycles kind (apart k) (setup k) (hold k) l c)
+      ∙ sym (on_both d (λ x y. with_cycles kind (separation_on d kind (i, a) (j, b)) (low_setup d.constraints kind) (low_hold d.constraints) x y) i j l c from to
+      ∙ ap (λ z. with_cycles kind z (low_setup d.constraints kind) (low_hold d.constraints) l c) (on_both d (λ x y. separation kind x a y b) i j l c from to))
+
+  pub apart_fits : (sep out : ℤ) (s h : ℕ) → sep ≡ separation kind l a c b → s ≡ low_setup d.constraints kind → h ≡ low_hold d.constraints → out ≡ with_cycles kind sep s h l c
+      → unsigned_abs out ≤ 2001 * limit
+  apart_fits sep out s h apart setup hold found =
+      subst (λ (z : ℤ). unsigned_abs z ≤ 2001 * limit) (sym (apart_as sep out s h apart setup hold found))
+      (apart_bound d linked kind nobody nothing i j a b (slice_get_within d.constraints.clocks i l from) (slice_get_within d.constraints.clocks j c to))
 
 -- the outermost of some values is one of them
 pub outer_found : {X : Type 0} (f : X → Option ℤ) (xs : List X) (best : Option ℤ) (o : ℤ) → outermost Early f best xs ≡ Some o

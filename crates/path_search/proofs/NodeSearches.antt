@@ -93,6 +93,9 @@ difference_back None b s e = absurd (cc)
 difference_back (Some x) None s e = absurd (cc)
 difference_back (Some x) (Some y) s e = record { left = x; left_is = refl; right = y; right_is = refl; both = (let f : x -ℤ y ≡ s = cc in f) }
 
+turn : (a b : ℕ) → (a == b) ≡ true → (b == a) ≡ true
+turn a b f = eq-eqb b a (sym (eqb-true a b f))
+
 -- the delay of an arc of a list is found
 in_delay : (arcs : List WalkArc) → AreApart arcs → (arc : WalkArc) → Contains arcs arc → delay_in arcs arc.from ≡ Some arc.delay
 in_delay [] apart arc c = absurd (none_in arc c)
@@ -112,9 +115,6 @@ in_delay (first ∷ arcs) apart arc c = elim (in_cases first arcs arc c) [
       where
         any_from : (xs : List WalkArc) (x : WalkArc) → Contains xs x → (first.from == x.from) ≡ true → list_any (λ y. y.from == first.from) xs ≡ true
         any_from xs x m f = any_in (λ (y : WalkArc). y.from == first.from) xs x m (turn first.from x.from f)
-
-    turn : (a b : ℕ) → (a == b) ≡ true → (b == a) ≡ true
-    turn a b f = eq-eqb b a (sym (eqb-true a b f))
 
 -- the least of some rooms is within its limit
 lesser_low : (a b : Option ℤ) → IsLow a → IsLow b → IsLow (lesser a b)
@@ -182,7 +182,7 @@ module _ (g : Graphed) (num : IsNumbered g.stored) (linked : IsLinked g.stored.d
       subst (λ (z : ℤ). Within z) m.2 (sign_within kind m.0 (subst (λ (z : ℤ). Within z) f.2 low))
 
   module _ (table : List (List ArcDelay)) (found : AreDelays g.stored table) where
-    there : (n : ℕ) → n < node_bound g.stored → arcs_there g kind n ≡ arcs_followed g kind n
+    pub there : (n : ℕ) → n < node_bound g.stored → arcs_there g kind n ≡ arcs_followed g kind n
     there n low = ap (λ (c : Bool). if c then arcs_followed g kind n else []) (lt-ltb n (node_bound g.stored) low)
 
     past_none : (n : ℕ) → nat_lt n (node_bound g.stored) ≡ false → node_at g.stored n ≡ None

@@ -70,5 +70,5 @@ pub record IsFanOf (s : Stored) (g : Graphed) (rows : List NodeRow) (delays : Li
   pub sources : AreSources s g rows delays tree
   pub below : end < node_bound s
   pub there : is_number s.pins (pin_under end) ≡ true
-  pub tests : AreEndTestsOf g kind end tests
-  pub lows : lows ≡ lows_told s.design kind tree tests
+  pub its_tests : AreEndTestsOf g kind end tests
+  pub its_lows : lows ≡ lows_told s.design kind tree tests

@@ -129,6 +129,21 @@ fn add_low(lows: &mut Items<EdgeTime>, edge: LaunchEdge, low: Option<i64>) -> Re
     }
 }
 
+/// The number of clocks.
+fn clock_count(store: &Store) -> u32
+    ensures { result ≡ length store.now.design.constraints.clocks }
+{
+    store.laws();
+    store.constraints().clocks.len() as u32
+}
+
+/// A launch edge.
+fn edge_on(clock: u32, tran: Tran) -> LaunchEdge
+    ensures { edge_of result ≡ (clock, tran) }
+{
+    LaunchEdge { clock, tran }
+}
+
 /// The lowest offers of an end node's tests on each launch edge, in fs, in the order of the clocks and rise
 /// before fall; none where it has no test. Takes as many steps as the clocks times the tests.
 pub(crate) fn lows_of(
@@ -145,16 +160,11 @@ pub(crate) fn lows_of(
 {
     store.laws();
     let rule = low_rule(store, kind);
+    let count = clock_count(store);
     let mut lows = Items::new(alloc);
-    for clock in 0..store.constraints().clocks.len() {
-        let rise = LaunchEdge {
-            clock: clock as u32,
-            tran: Tran::Rise,
-        };
-        let fall = LaunchEdge {
-            clock: clock as u32,
-            tran: Tran::Fall,
-        };
+    for clock in 0..count {
+        let rise = edge_on(clock, Tran::Rise);
+        let fall = edge_on(clock, Tran::Fall);
         add_low(&mut lows, rise, low_over(store, tree, kind, rule, tests, rise))?;
         add_low(&mut lows, fall, low_over(store, tree, kind, rule, tests, fall))?;
     }

@@ -59,6 +59,8 @@ impl<A: Rows + Delayed> Fan for NodeFan<'_, A> {
 
     fn bound(&self, node: u32) -> Option<i64> {
         let sources = self.sources;
+        sources.store.laws();
+        sources.graph.laws();
         let row = sources.arrivals.row(node);
         least_room(
             sources.kind,
@@ -69,6 +71,8 @@ impl<A: Rows + Delayed> Fan for NodeFan<'_, A> {
 
     fn arcs_into(&self, alloc: Global, node: u32) -> Result<Items<WalkArc>, Memory> {
         let sources = self.sources;
+        sources.store.laws();
+        sources.graph.laws();
         arcs_into(
             alloc,
             sources.graph,
@@ -80,6 +84,8 @@ impl<A: Rows + Delayed> Fan for NodeFan<'_, A> {
 
     fn offer(&self, alloc: Global, node: u32) -> Result<Option<i64>, Memory> {
         let sources = self.sources;
+        sources.store.laws();
+        sources.graph.laws();
         let launch = launch_node(
             alloc,
             sources.store,
@@ -112,6 +118,8 @@ fn node_fan<'a, A: Rows + Delayed>(
     requires there { is_number sources.now.store.now.pins (pin_under end) ≡ true }
     ensures { IfOk result (λ fan. (fan.sources ≡ sources) × (fan.end ≡ end)) }
 {
+    sources.store.laws();
+    sources.graph.laws();
     let tests = end_tests(
         alloc,
         sources.store,
@@ -148,6 +156,9 @@ pub(crate) fn node_slack<A: Rows + Delayed>(
     requires there { is_number sources.now.store.now.pins (pin_under end) ≡ true }
     ensures { IfOk result (λ slack. (node : Node) → node_at sources.now.store.now end ≡ Some node → IsNodeSlack sources.now.store.now.design sources.now.kind (named node) slack) }
 {
+    sources.store.laws();
+    sources.graph.laws();
+    let _ = sources.graph.count();
     if sources.graph.level(end) >= 1 << 22 {
         return Err(Memory);
     }

@@ -1,0 +1,122 @@
+-- What is told of the graph in front of an end node, as functions have it.
+
+use Rattle.std.proofs.Common.{◌≡◌, ℕ, ◌^◌, ◌<◌, true, ℤ, List, Option, None, Some, refl, sym, ap, subst, ◌∙◌}
+use Rattle.std.specs.Prelude.{All, option_and_then}
+use Rattle.sta_units.specs.Numbers.{Within}
+use Rattle.timing_defs.specs.declared.edge_times.EdgeTime.{EdgeTime}
+use Rattle.timing_defs.specs.declared.kinds.Kind.{Kind}
+use Rattle.timing_defs.specs.declared.kinds.Tran.TheVariants.{Rise, Fall}
+use Rattle.timing_defs.specs.declared.rows.NodeRow.{NodeRow}
+use Rattle.timing_defs.specs.Netlist.{Node}
+use Rattle.timing_defs.specs.Paths.{Named, named, IsSlack as IsPinSlack}
+use Rattle.timing_defs.specs.Rows.{times_in}
+use Rattle.timing_defs.specs.Tests.{data_split}
+use Rattle.netlist_store.specs.Linked.{IsLinked}
+use Rattle.netlist_store.specs.Numbering.{Stored, IsNumbered}
+use Rattle.pin_graph.specs.Nodes.{node_at, node_bound}
+use Rattle.pin_graph.specs.Graphs.{Graphed, IsGraph, level_at}
+use Rattle.pin_graph.specs.RowTables.{AreRowsFine, row_numbered}
+use Rattle.pin_graph.proofs.Members.{some_is}
+use Rattle.arc_delays.specs.declared.tables.ArcDelay.{ArcDelay}
+use Rattle.arc_delays.specs.Delays.{AreDelays}
+use Rattle.path_cones.specs.Following.{arcs_followed}
+use Rattle.pessimism_credit.specs.declared.rows.TreeRow.{TreeRow}
+use Rattle.bounded_slack.specs.Nets.{IsLeastSlack}
+use Rattle.bounded_slack.specs.Rows.{IsByRows, IsLowOffer, least_room, signed_on}
+use Rattle.path_search.specs.declared.cones.EndNodes.{EndNodes}
+use Rattle.path_search.specs.declared.ends.EndTest.{EndTest}
+use Rattle.path_search.specs.declared.launches.LaunchNode.{LaunchNode}
+use Rattle.path_search.specs.Lows.{lows_told}
+use Rattle.path_search.specs.NodeNets.{arcs_there, launch_told, net_told, offer_told, signed_arrival, IsFanOf}
+use Rattle.path_search.specs.NodeSlacks.{IsNodeSlack, lesser_slack}
+use Rattle.path_search.specs.PinCones.{AreEndNodes, IsNamedNode}
+use Rattle.path_search.specs.Runs.{IsTimed}
+use Rattle.path_search.specs.Slacks.{IsReadyTest, MayLaunch, least_slack}
+use Rattle.path_search.proofs.EndLaws.{ready_tests, rows_fine}
+use Rattle.path_search.proofs.Endings.{slack_over}
+use Rattle.path_search.proofs.NodeCourses.{pin_slack_told}
+use Rattle.path_search.proofs.NodeLaunches.{launch_is}
+use Rattle.path_search.proofs.NodeSearches.{by_rows, node_found, lows_fit, times_fine, there}
+use Rattle.path_search.proofs.OfferForms.{node_there, tests_ready}
+use Rattle.path_search.proofs.Setting.{timed}
+
+module _ (s : Stored) (g : Graphed) (rows : List NodeRow) (delays : List (List ArcDelay)) (tree : List TreeRow) (kind : Kind) (end : ℕ) (tests : List EndTest) (lows : List EdgeTime)
+    (h : IsFanOf s g rows delays tree kind end tests lows) (num : IsNumbered s) (linked : IsLinked s.design) (is : IsGraph g) where
+  same : g.stored ≡ s
+  same = h.sources.graph
+
+  g_num : IsNumbered g.stored
+  g_num = subst (λ (z : Stored). IsNumbered z) (sym same) num
+
+  g_linked : IsLinked g.stored.design
+  g_linked = subst (λ (z : Stored). IsLinked z.design) (sym same) linked
+
+  g_time : IsTimed g.stored.design
+  g_time = timed g g_num g_linked is
+
+  g_fine : AreRowsFine g.stored.design
+  g_fine = subst (λ (z : Stored). AreRowsFine z.design) (sym same) (rows_fine s.design h.sources.none)
+
+  g_delays : AreDelays g.stored delays
+  g_delays = subst (λ (z : Stored). AreDelays z delays) (sym same) h.sources.delayed
+
+  g_ready : All (IsReadyTest g.stored.design) tests
+  g_ready =
+      subst (λ (z : Stored). All (IsReadyTest z.design) tests) (sym same)
+      (tests_ready g s same num linked is tree h.sources.clocks kind end tests h.its_tests h.there)
+
+  lows_are : lows ≡ lows_told g.stored.design kind tree tests
+  lows_are = h.its_lows ∙ (λ i. lows_told (sym same i).design kind tree tests)
+
+  pub lows_range : All IsLowOffer lows
+  lows_range =
+      subst (λ (xs : List EdgeTime). All IsLowOffer xs) (sym lows_are) (lows_fit g g_num g_linked is g_time g_fine kind delays g_delays tree h.sources.clocks tests g_ready)
+
+  pub times_range : (n : ℕ) (row : NodeRow) → row ≡ row_numbered s n → All (λ (x : EdgeTime). Within x.time.0) (times_in (data_split kind) row)
+  times_range n row e =
+      subst (λ (r : NodeRow). All (λ (x : EdgeTime). Within x.time.0) (times_in (data_split kind) r)) ((λ i. row_numbered (same i) n) ∙ sym e)
+      (times_fine g g_num g_linked is g_time g_fine kind n)
+
+  pub bound_as : (n : ℕ) (row : NodeRow) → row ≡ row_numbered s n
+      → least_room (signed_on kind (times_in (data_split kind) row)) None lows
+      ≡ least_room (signed_arrival g kind n) None (lows_told g.stored.design kind tree tests)
+  bound_as n row e =
+      let at : row ≡ row_numbered g.stored n = e ∙ (λ i. row_numbered (sym same i) n) in
+      λ i. least_room (signed_on kind (times_in (data_split kind) (at i))) None (lows_are i)
+
+  pub arcs_as : (n : ℕ) → n < node_bound g.stored → arcs_followed g kind n ≡ arcs_there g kind n
+  arcs_as n low = sym (there g g_num g_linked is g_time g_fine kind delays g_delays n low)
+
+  pub offer_some : (n : ℕ) (l : LaunchNode) → MayLaunch g (data_split kind) n (Some l) → (o : Option ℤ) → o ≡ least_slack s.design kind tree l tests
+      → o ≡ offer_told g kind tree tests n
+  offer_some n l may o e =
+      let told = launch_is g g_num g_linked is g_time kind n g_fine (Some l) may in
+      e ∙ (λ i. least_slack (sym same i).design kind tree l tests)
+      ∙ ap (λ (x : Option LaunchNode). option_and_then (λ k. least_slack g.stored.design kind tree k tests) x) told
+
+  pub offer_none : (n : ℕ) → MayLaunch g (data_split kind) n None → None ≡ offer_told g kind tree tests n
+  offer_none n may =
+      ap (λ (x : Option LaunchNode). option_and_then (λ k. least_slack g.stored.design kind tree k tests) x) (launch_is g g_num g_linked is g_time kind n g_fine None may)
+
+  pub rows_as : node_bound g.stored < 2 ^ 32 → level_at g end < 2 ^ 22 → IsByRows (net_told g kind tree tests end)
+  rows_as fits high =
+      by_rows g g_num g_linked is g_time g_fine kind delays g_delays tree h.sources.clocks tests g_ready end
+      (subst (λ (z : Stored). end < node_bound z) (sym same) h.below) fits high
+
+  pub found_as : (o : Option ℤ) → IsLeastSlack (net_told g kind tree tests end) o → (node : Node) → node_at s end ≡ Some node → IsNodeSlack s.design kind (named node) o
+  found_as o least node its =
+      subst (λ (z : Stored). IsNodeSlack z.design kind (named node) o) same
+      (node_found g g_num g_linked is g_time g_fine kind delays g_delays tree h.sources.clocks tests g_ready end node ((λ i. node_at (same i) end) ∙ its) h.its_tests o least)
+
+-- a pin's slack is the lesser of those of its nodes
+pub pin_as : (g : Graphed) (s : Stored) → g.stored ≡ s → IsNumbered s → IsLinked s.design → IsGraph g → (kind : Kind) (pin : List ℕ) (ends : EndNodes) → AreEndNodes s pin ends
+    → (rise fall : Option ℤ) → ((node : Node) → node_at s ends.rise ≡ Some node → IsNodeSlack s.design kind (named node) rise)
+    → ((node : Node) → node_at s ends.fall ≡ Some node → IsNodeSlack s.design kind (named node) fall) → IsPinSlack s.design kind pin (lesser_slack rise fall)
+pin_as g s same num linked is kind pin ends at rise fall first second =
+    let t : IsTimed s.design =
+    subst (λ (z : Stored). IsTimed z.design) same
+    (timed g (subst (λ (z : Stored). IsNumbered z) (sym same) num) (subst (λ (z : Stored). IsLinked z.design) (sym same) linked) is) in
+    slack_over s.design t kind pin (lesser_slack rise fall)
+    (pin_slack_told s.design kind pin rise fall
+    (subst (λ (n : Named). IsNodeSlack s.design kind n rise) at.rise.is (first at.rise.node at.rise.its))
+    (subst (λ (n : Named). IsNodeSlack s.design kind n fall) at.fall.is (second at.fall.node at.fall.its)))
