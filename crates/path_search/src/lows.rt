@@ -165,8 +165,16 @@ pub(crate) fn lows_of(
     for clock in 0..count {
         let rise = edge_on(clock, Tran::Rise);
         let fall = edge_on(clock, Tran::Fall);
-        add_low(&mut lows, rise, low_over(store, tree, kind, rule, tests, rise))?;
-        add_low(&mut lows, fall, low_over(store, tree, kind, rule, tests, fall))?;
+        add_low(
+            &mut lows,
+            rise,
+            low_over(store, tree, kind, rule, tests, rise),
+        )?;
+        add_low(
+            &mut lows,
+            fall,
+            low_over(store, tree, kind, rule, tests, fall),
+        )?;
     }
     Ok(lows)
 }
