@@ -45,10 +45,10 @@ place_is nodes x a once low e =
     let r = placed_at nodes x (position_or_len (λ n. nat_eq x n) nodes) there in
     there ∙ ap Some (once (position_or_len (λ n. nat_eq x n) nodes) a found low (r.1 ∙ sym e))
 
-counted : {X : Type 0} (test : X → Bool) (x : X) (xs : List X) → count_by test (x ∷ xs) ≡ cond (test x) 1 0 + count_by test xs
+pub counted : {X : Type 0} (test : X → Bool) (x : X) (xs : List X) → count_by test (x ∷ xs) ≡ cond (test x) 1 0 + count_by test xs
 counted test x xs = sum_by-cons (λ y. cond (test y) 1 0) x xs
 
-counted_in : {X : Type 0} (test : X → Bool) (xs : List X) (x : X) → Contains xs x → test x ≡ true → 1 ≤ count_by test xs
+pub counted_in : {X : Type 0} (test : X → Bool) (xs : List X) (x : X) → Contains xs x → test x ≡ true → 1 ≤ count_by test xs
 counted_in test [] x (i, low, is) e = absurd (omega (arith, low))
 counted_in test (y ∷ ys) x (zero, low, is) e =
     let a = counted test y ys in

@@ -74,20 +74,20 @@ tran_self : (a : Tran) → same_tran a a ≡ true
 tran_self Rise = refl
 tran_self Fall = refl
 
-turned_within : (v : ℤ) → Within v → Within (pos 0 -ℤ v)
+pub turned_within : (v : ℤ) → Within v → Within (pos 0 -ℤ v)
 turned_within v h = omega (arith, ints)
 
-some_within : (o : Option ℤ) (v : ℤ) → o ≡ Some v → IfSome o Within → Within v
+pub some_within : (o : Option ℤ) (v : ℤ) → o ≡ Some v → IfSome o Within → Within v
 some_within None v e h = absurd (none-some v e)
 some_within (Some w) v e h = subst Within (some_is e) h
 
-signed_bound : (kind : Kind) (v : ℤ) → Within v → Within (signed kind v)
+pub signed_bound : (kind : Kind) (v : ℤ) → Within v → Within (signed kind v)
 signed_bound Setup v h = h
 signed_bound Hold v h = turned_within v h
 
 module _ (g : Graphed) (num : IsNumbered g.stored) (linked : IsLinked g.stored.design) (is : IsGraph g) where
   -- levels rise along arcs, and are below the bound of numbers
-  rising_along : (n : ℕ) → n < node_bound g.stored → (arc : GraphArc) → Contains (fan_at g.ins n) arc → level_at g arc.from < level_at g n
+  pub rising_along : (n : ℕ) → n < node_bound g.stored → (arc : GraphArc) → Contains (fan_at g.ins n) arc → level_at g arc.from < level_at g n
   rising_along n low arc c =
       let over = greatest_over (map (λ (a : GraphArc). level_at g a.from + 1) (fan_at g.ins n)) (level_at g arc.from + 1)
       (in_map (λ (a : GraphArc). level_at g a.from + 1) (fan_at g.ins n) arc c) in
@@ -135,7 +135,7 @@ module _ (g : Graphed) (num : IsNumbered g.stored) (linked : IsLinked g.stored.d
       subst (λ (m : Node). Contains (arcs_in g.stored.design to) m) (same_at from r.item x stands.0 (has_node g.stored num linked x from f) stands.1 r.passes) r.within
 
   -- the delay of the arc between two nodes is that along an arc of the graph
-  arc_is : (split : Split) (x n : ℕ) → n < node_bound g.stored
+  pub arc_is : (split : Split) (x n : ℕ) → n < node_bound g.stored
       → arc_numbered g.stored split x n ≡ (if list_any (λ (arc : GraphArc). nat_eq arc.from x) (fan_at g.ins n) then delay_numbered g.stored split x n else None)
   arc_is split x n low = elim (cases_Bool (list_any (λ (arc : GraphArc). nat_eq arc.from x) (fan_at g.ins n))) [
     | inl some ↦

@@ -3,3 +3,4 @@ pub mod ConeParts
 pub mod Growing
 pub mod Orders
 pub mod PartLaws
+pub mod Followed

@@ -1,3 +1,4 @@
 pub mod Delays
 pub mod FanIns
+pub mod Following
 pub mod Reaching

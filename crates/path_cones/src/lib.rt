@@ -3,13 +3,16 @@
 //!
 //! The nodes are found backwards from the end nodes (`reaching`), and ordered so that arcs lead from
 //! higher places to lower ones (`leveling`). The arcs into each node are listed by these places
-//! (`listing`), each with its delay (`delays`).
+//! (`listing`), each with its delay (`delays`). The arcs into one node can be asked for alone
+//! (`following`).
 #![tactic(auto)]
 
 mod delays;
 mod fans;
+mod following;
 mod leveling;
 mod listing;
 mod reaching;
 
 pub use fans::{FanIn, FanIns, fan_in, fan_ins};
+pub use following::arcs_into;

@@ -59,7 +59,7 @@ fn walk_arc(
 }
 
 /// Adds an arc, where it is there.
-fn add_arc(arcs: &mut Items<WalkArc>, arc: Option<WalkArc>) -> Result<(), Memory>
+pub(crate) fn add_arc(arcs: &mut Items<WalkArc>, arc: Option<WalkArc>) -> Result<(), Memory>
     ensures { OnOk result (arcs.new ≡ arcs.old ++ option_to_list arc) }
 {
     match arc {
