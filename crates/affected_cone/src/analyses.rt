@@ -130,27 +130,6 @@ impl Analysis {
         &self.graph
     }
 
-    /// The answer to a plain question, for the store of the analysis. A report on a node, an endpoint's slack
-    /// and the totals are looked up or summed; a path is searched for. `UnknownPin`, else `NotEndpoint`,
-    /// else `NotClocked` exactly where the question's pin is not there, is no endpoint, or is a
-    /// register's pin that is not clocked for the kind.
-    pub fn ask(&self, alloc: Global, store: &Store, q: &Query) -> Result<Report, QueryFault>
-        requires store { store.now ≡ self.now.stored }
-        requires plain { is_plain q.now ≡ true }
-        ensures told { IfOk result (Told self.now.stored.design q.now) }
-        ensures refused { IfErr result (λ fault. (fault ≡ QueryFault.Memory) ⊎ (query_fault self.now.stored.design q.now ≡ Some fault)) }
-    {
-        let known = Known {
-            store,
-            graph: &self.graph,
-            arrivals: &self.arrivals,
-            required: &self.required,
-            tree: &self.tree,
-            ends: self.ends.as_slice(),
-        };
-        answer(alloc, &known, q)
-    }
-
     /// The worst slack (none where there is none) and the total negative slack of both kinds, in fs,
     /// with a version's number. The slacks of endpoints are gone through once for each; no path is
     /// searched for.
@@ -159,4 +138,30 @@ impl Analysis {
     {
         totals_of(number, self.ends.as_slice())
     }
+}
+
+/// The answer to a plain question, for the store of the analysis. A report on a node, an endpoint's slack
+/// and the totals are looked up or summed; a path is searched for. `UnknownPin`, else `NotEndpoint`,
+/// else `NotClocked` exactly where the question's pin is not there, is no endpoint, or is a
+/// register's pin that is not clocked for the kind.
+pub fn ask(
+    alloc: Global,
+    store: &Store,
+    analysis: &Analysis,
+    q: &Query,
+) -> Result<Report, QueryFault>
+    requires store { store.now ≡ analysis.now.stored }
+    requires plain { is_plain q.now ≡ true }
+    ensures told { IfOk result (Told analysis.now.stored.design q.now) }
+    ensures refused { IfErr result (λ fault. (fault ≡ QueryFault.Memory) ⊎ (query_fault analysis.now.stored.design q.now ≡ Some fault)) }
+{
+    let known = Known {
+        store,
+        graph: &analysis.graph,
+        arrivals: &analysis.arrivals,
+        required: &analysis.required,
+        tree: &analysis.tree,
+        ends: analysis.ends.as_slice(),
+    };
+    answer(alloc, &known, q)
 }

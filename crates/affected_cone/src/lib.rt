@@ -16,5 +16,5 @@ mod ranking;
 mod sharing;
 mod totals;
 
-pub use analyses::Analysis;
+pub use analyses::{Analysis, ask};
 pub use ends::EndSlacks;

@@ -7,6 +7,7 @@ ghost use Rattle.timing_defs.specs.Reports.{is_plain};
 ghost use Rattle.timing_defs.specs.Questions.{Told, query_fault};
 
 use crate::versions::Version;
+use affected_cone::ask;
 use std::alloc::Global;
 use std::marker::Model;
 use std::sync::Arc;
@@ -64,6 +65,6 @@ impl Snapshot {
     {
         let version = self.version();
         version.laws();
-        version.analysis().ask(alloc, version.store(), question)
+        ask(alloc, version.store(), version.analysis(), question)
     }
 }
