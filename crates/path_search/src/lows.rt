@@ -1,6 +1,6 @@
 //! The lowest offers of an end node: what no launch on an edge offers less than, with its arrival put back.
 
-ghost use Rattle.std.specs.Prelude.{◌≡◌, ◌<◌, ◌≤◌, ◌*◌, ◌++◌, All, length, unsigned_abs, IfOk, IfSome, OnOk, None};
+ghost use Rattle.std.specs.Prelude.{◌≡◌, ◌<◌, ◌≤◌, ◌*◌, ◌++◌, All, length, unsigned_abs, IfOk, IfSome, OnOk, None, Some};
 ghost use Rattle.std.specs.Option.{option_map, option_to_list};
 ghost use Rattle.sta_units.specs.Numbers.{limit};
 ghost use Rattle.timing_defs.specs.Rows.{edge_of, edge_time};
@@ -75,19 +75,26 @@ fn low_at(
     rule: Rule,
     edge: LaunchEdge,
     test: &EndTest,
-) -> i64
+) -> Option<i64>
     requires tree { IsTree tree.now }
     requires setup { rule.setup_cycles ≡ low_setup store.now.design.constraints kind }
     requires hold { rule.hold_cycles ≡ low_hold store.now.design.constraints }
     requires edge { edge.clock < length store.now.design.constraints.clocks }
     requires test { IsReadyTest store.now.design test.now }
     requires place { IfSome test.now.place (λ p. p < length tree.now) }
-    ensures { result ≡ low_told store.now.design kind tree.now (edge_of edge) test.now }
+    ensures { result ≡ Some (low_told store.now.design kind tree.now (edge_of edge) test.now) }
 {
     let apart = low_apart(store, kind, rule, edge, test);
     let uncertainty = uncertainty_of(store, kind, test.test.capture_clock);
     let credit = low_credit(tree, test.place);
-    slack_by(kind, &test.test, apart.0, uncertainty, credit.0, 0)
+    Some(slack_by(
+        kind,
+        &test.test,
+        apart.0,
+        uncertainty,
+        credit.0,
+        0,
+    ))
 }
 
 /// The least of these over tests; none where there is no test.
@@ -110,7 +117,7 @@ fn low_over(
     let mut least = None;
     for test in tests {
         let low = low_at(store, tree, kind, rule, edge, test);
-        least = outer_some(Split::Early, least, Some(low));
+        least = outer_some(Split::Early, least, low);
     }
     least
 }
