@@ -1,0 +1,4 @@
+pub mod Cuts
+pub mod Lowest
+pub mod Nets
+pub mod Rows
