@@ -1,1 +1,5 @@
-
+pub mod Bounds
+pub mod Cutting
+pub mod Keys
+pub mod LowSlacks
+pub mod Prefixes

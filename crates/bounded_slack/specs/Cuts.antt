@@ -2,26 +2,25 @@
 -- still has to take stands for it, or the least slack found is at most it (branch and bound).
 
 use Rattle.std.specs.Prelude.{◌≡◌, ℕ, ◌+◌, ◌*◌, ◌^◌, ◌<◌, ◌≤◌, ℤ, pos, ◌+ℤ◌, ◌-ℤ◌, ◌≤ℤ◌, unsigned_abs, int_lt, Bool, true, false, not, if◌then◌else◌, List, [], ◌∷◌, ◌⊎◌, Option, Some, None}
-use Rattle.std.specs.Ordering.{nat_cmp, ordering_then, is_lt}
+use Rattle.std.specs.Ordering.{nat_cmp, ordering_then}
 use Rattle.std.specs.declared.cmp.Ordering.{Ordering}
+use Rattle.std.specs.declared.cmp.Ordering.TheVariants.{Less}
 use Rattle.std.specs.BTreeMap.{get}
 use Rattle.worst_walks.specs.declared.cones.WalkArc.{WalkArc}
 use Rattle.bounded_slack.specs.declared.reached.Held.{Held}
 use Rattle.bounded_slack.specs.declared.reached.Reached.{Reached}
-use Rattle.bounded_slack.specs.Nets.{Net, count_of, end_of, level_of, place_of, arcs_into, offer_of, bound_of, delay_between, sum_to, minus_some, IsSlack, IsAtMost}
+use Rattle.bounded_slack.specs.Nets.{Net, count_of, end_of, level_of, place_of, offer_of, bound_of, delay_between, sum_to, minus_some, IsSlack, IsAtMost}
 
 -- nodes that are reached, by level and number, each with a sum
 abbrev pub Sums : Type 0
-Sums = ℕ × ℕ → Option ℤ
+Sums = ℕ → ℕ → Option ℤ
 
+-- by level, then by number
 abbrev pub key_cmp : ℕ × ℕ → ℕ × ℕ → Ordering
-key_cmp a b = ordering_then (nat_cmp a.0 b.0) (nat_cmp a.1 b.1)
+key_cmp = λ a b. ordering_then (nat_cmp a.0 b.0) (nat_cmp a.1 b.1)
 
 abbrev pub sum_at : Reached → Sums
-sum_at reached k = get key_cmp reached.sums k
-
-abbrev pub key_of : Held → ℕ × ℕ
-key_of held = (held.level, held.node)
+sum_at reached = λ level node. get key_cmp reached.sums (level, node)
 
 -- the greater of a sum that is there and a further one
 abbrev pub greater : Option ℤ → ℤ → ℤ
@@ -29,33 +28,33 @@ greater None y = y
 greater (Some x) y = (if int_lt x y then y else x)
 
 abbrev pub AreSame : Sums → Sums → Type 0
-AreSame f g = (k : ℕ × ℕ) → g k ≡ f k
+AreSame f g = (level node : ℕ) → g level node ≡ f level node
 
 abbrev pub AreNone : Sums → Type 0
-AreNone f = (k : ℕ × ℕ) → f k ≡ None
+AreNone f = (level node : ℕ) → f level node ≡ None
+
+-- all but one node have the sums that they had
+abbrev pub AreOthers : Sums → Sums → ℕ → ℕ → Type 0
+AreOthers f g level node = (l n : ℕ) → ((l ≡ level) × (n ≡ node) → ⊥) → g l n ≡ f l n
 
 -- a node has the greater of its sum and a further one
-pub record HasRaised (f g : Sums) (held : Held) : Type 0 where
-  pub here : g (key_of held) ≡ Some (greater (f (key_of held)) held.sum)
-  pub others : (k : ℕ × ℕ) → (k ≡ key_of held → ⊥) → g k ≡ f k
+pub record HasRaised (f g : Sums) (level node : ℕ) (sum : ℤ) : Type 0 where
+  pub here : g level node ≡ Some (greater (f level node) sum)
+  pub others : AreOthers f g level node
 
--- by level, then by number
-abbrev pub is_below : ℕ × ℕ → ℕ × ℕ → Bool
-is_below k top = is_lt (key_cmp k top)
-
-abbrev pub AreBelow : ℕ × ℕ → Sums → Type 0
-AreBelow top f = (k : ℕ × ℕ) (x : ℤ) → f k ≡ Some x → is_below k top ≡ true
+abbrev pub AreBelow : ℕ → ℕ → Sums → Type 0
+AreBelow level node f = (l n : ℕ) (x : ℤ) → f l n ≡ Some x → key_cmp (l, n) (level, node) ≡ Less
 
 -- the last node is taken
-pub record HasPopped (f g : Sums) (held : Held) : Type 0 where
-  pub was : f (key_of held) ≡ Some held.sum
-  pub gone : g (key_of held) ≡ None
-  pub others : (k : ℕ × ℕ) → (k ≡ key_of held → ⊥) → g k ≡ f k
-  pub below : AreBelow (key_of held) g
+pub record HasPopped (f g : Sums) (level node : ℕ) (sum : ℤ) : Type 0 where
+  pub was : f level node ≡ Some sum
+  pub gone : g level node ≡ None
+  pub others : AreOthers f g level node
+  pub below : AreBelow level node g
 
 abbrev pub IsPopped : Sums → Sums → Option Held → Type 0
-IsPopped f g None = AreNone f
-IsPopped f g (Some held) = HasPopped f g held
+IsPopped f g None = AreNone f × AreNone g
+IsPopped f g (Some held) = HasPopped f g held.level held.node held.sum
 
 -- what a walk to a node from its launch leaves of the offer, over the nodes before it, the nearest first
 abbrev pub headroom : Net → ℕ → List ℕ → Option ℤ
@@ -70,30 +69,27 @@ pub record IsThrough (net : Net) (n : ℕ) (x s : ℤ) : Type 0 where
   pub least : (room -ℤ x) ≤ℤ s
 
 -- a node with its level, and the sum of a walk from it to the end node
-pub record IsHeld (net : Net) (held : Held) : Type 0 where
-  pub low : held.node < count_of net
-  pub level : held.level ≡ level_of net held.node
+pub record IsReached (net : Net) (level node : ℕ) (sum : ℤ) : Type 0 where
+  pub low : node < count_of net
+  pub its : level ≡ level_of net node
   pub rest : List ℕ
-  pub adds : sum_to net held.node rest ≡ Some held.sum
-  pub range : unsigned_abs held.sum + 10 ^ 12 * place_of net held.node ≤ 10 ^ 12 * place_of net (end_of net)
+  pub adds : sum_to net node rest ≡ Some sum
+  pub range : unsigned_abs sum + 10 ^ 12 * place_of net node ≤ 10 ^ 12 * place_of net (end_of net)
 
-abbrev pub end_held : Net → Held
-end_held net = record { level = level_of net (end_of net); node = end_of net; sum = pos 0 }
-
-abbrev pub held_at : ℕ × ℕ → ℤ → Held
-held_at k x = record { level = k.0; node = k.1; sum = x }
+abbrev pub IsHeld : Net → Held → Type 0
+IsHeld net held = IsReached net held.level held.node held.sum
 
 -- a node still to be taken stands for a slack
 pub record IsAhead (net : Net) (f : Sums) (s : ℤ) : Type 0 where
   pub node : ℕ
   pub best : ℤ
-  pub held : f (level_of net node, node) ≡ Some best
+  pub held : f (level_of net node) node ≡ Some best
   pub through : IsThrough net node best s
 
--- all nodes reached are held, the slack found is one, and for each slack there is one found that is at
--- most it, a node ahead, or what waits
+-- all nodes reached have walks to the end node, the slack found is one, and for each slack there is one
+-- found that is at most it, a node ahead, or what waits
 pub record IsCut (net : Net) (f : Sums) (least : Option ℤ) (waits : ℤ → Type 0) : Type 0 where
-  pub held : (k : ℕ × ℕ) (x : ℤ) → f k ≡ Some x → IsHeld net (held_at k x)
+  pub held : (level node : ℕ) (sum : ℤ) → f level node ≡ Some sum → IsReached net level node sum
   pub known : (s : ℤ) → least ≡ Some s → IsSlack net s
   pub covers : (s : ℤ) → IsSlack net s → IsAtMost least s ⊎ (IsAhead net f s ⊎ waits s)
 
@@ -111,19 +107,19 @@ abbrev pub IsStill : Net → ℤ → List WalkArc → ℤ → Type 0
 IsStill net x [] s = ⊥
 IsStill net x (arc ∷ arcs) s = IsThrough net arc.from (arc.delay +ℤ x) s ⊎ IsStill net x arcs s
 
--- the node that is taken is held, and above all that is left
+-- the node that is taken has its walk, and lies above all that is left
 abbrev pub IsFront : Net → Sums → Option Held → Type 0
 IsFront net f None = AreNone f
-IsFront net f (Some held) = IsHeld net held × AreBelow (key_of held) f
+IsFront net f (Some held) = IsHeld net held × AreBelow held.level held.node f
 
 pub record IsSearching (net : Net) (f : Sums) (least : Option ℤ) (next : Option Held) : Type 0 where
   pub cut : IsCut net f least (IsNext net next)
   pub front : IsFront net f next
 
--- a node has been taken and all its arcs are followed
-pub record IsSettled (net : Net) (f : Sums) (least : Option ℤ) (held : Held) : Type 0 where
-  pub cut : IsCut net f least IsNever
-  pub below : AreBelow (key_of held) f
+-- a node has been taken and its arcs up to some are followed
+pub record IsSpread (net : Net) (f : Sums) (least : Option ℤ) (held : Held) (waits : ℤ → Type 0) : Type 0 where
+  pub cut : IsCut net f least waits
+  pub below : AreBelow held.level held.node f
 
 -- a number that falls from one node taken to the next
 abbrev pub top_of : Option Held → ℕ
@@ -139,14 +135,20 @@ is_shut (Some s) (Some room) = not (int_lt room s)
 abbrev pub room_of : Net → Held → Option ℤ
 room_of net held = minus_some (bound_of net held.node) (Some held.sum)
 
--- the node before an arc
+-- the end node with the empty walk, and the node before an arc
+abbrev pub end_held : Net → Held
+end_held net = record { level = level_of net (end_of net); node = end_of net; sum = pos 0 }
+
+abbrev pub arc_held : ℕ → Held → WalkArc → Held
+arc_held level held arc = record { level = level; node = arc.from; sum = arc.delay +ℤ held.sum }
+
 abbrev pub behind : Net → Held → WalkArc → Held
-behind net held arc = record { level = level_of net arc.from; node = arc.from; sum = arc.delay +ℤ held.sum }
+behind net held arc = arc_held (level_of net arc.from) held arc
 
 -- an arc is followed, where it is not shut
 abbrev pub RaisedIf : Bool → Sums → Sums → Held → Type 0
 RaisedIf true f g held = AreSame f g
-RaisedIf false f g held = HasRaised f g held
+RaisedIf false f g held = HasRaised f g held.level held.node held.sum
 
 abbrev pub HasFollowed : Net → Option ℤ → Held → WalkArc → Sums → Sums → Type 0
 HasFollowed net least held arc f g = RaisedIf (is_shut least (room_of net (behind net held arc))) f g (behind net held arc)
@@ -156,7 +158,12 @@ abbrev pub IsKnown : Net → Option ℤ → Type 0
 IsKnown net None = Unit {0}
 IsKnown net (Some s) = IsSlack net s
 
--- a node of a lower level with its sum, where there is one
+-- a node of a lower level with its walk, where there is one
 abbrev pub IsBehind : Net → Held → Option Held → Type 0
 IsBehind net held None = Unit {0}
 IsBehind net held (Some next) = IsHeld net next × (next.level < held.level)
+
+-- a number that falls from one node of the first walk to the next
+abbrev pub height_of : Option Held → ℕ
+height_of None = 0
+height_of (Some held) = held.level + 1

@@ -1,8 +1,7 @@
 -- A bound from the rows of a timing graph: the lowest offer on each launch edge less the node's arrival
 -- on it, signed so that early arrivals of hold tests are negated.
 
-use Rattle.std.specs.Prelude.{◌≡◌, ℕ, ◌^◌, ◌<◌, ◌≤◌, ℤ, neg_ℤ, ◌+ℤ◌, ◌-ℤ◌, ◌≤ℤ◌, unsigned_abs, List, [], ◌∷◌, All, Contains, Option, Some, None, option_map}
-use Rattle.sta_units.specs.Numbers.{Within}
+use Rattle.std.specs.Prelude.{◌≡◌, ℕ, ◌^◌, ◌<◌, ◌≤◌, ℤ, pos, ◌+ℤ◌, ◌-ℤ◌, ◌≤ℤ◌, unsigned_abs, List, [], ◌∷◌, All, Contains, Option, Some, None, option_map}
 use Rattle.timing_defs.specs.declared.kinds.Kind.{Kind}
 use Rattle.timing_defs.specs.declared.kinds.Kind.TheVariants.{Setup, Hold}
 use Rattle.timing_defs.specs.declared.kinds.Tran.{Tran}
@@ -14,7 +13,7 @@ use Rattle.bounded_slack.specs.Nets.{Net, count_of, arcs_into, offer_of, bound_o
 -- a time as a search for the least slack takes it: that of hold tests negated
 abbrev pub signed : Kind → ℤ → ℤ
 signed Setup time = time
-signed Hold time = neg_ℤ time
+signed Hold time = pos 0 -ℤ time
 
 abbrev pub edge_in : EdgeTime → ℕ × Tran
 edge_in low = (low.clock, low.tran)

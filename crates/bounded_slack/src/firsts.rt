@@ -78,5 +78,6 @@ pub(crate) fn first_slack<F: Fan>(alloc: Global, fan: &F) -> Result<Option<i64>,
         at = held;
         next = back(alloc, fan, held)?;
     }
-    Ok(minus(fan.offer(alloc, at.node)?, at))
+    let offer = fan.offer(alloc, at.node)?;
+    Ok(minus(offer, at))
 }

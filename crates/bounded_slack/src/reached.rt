@@ -1,7 +1,7 @@
 //! The nodes that a search has reached and not taken.
 
 ghost use Rattle.std.specs.Prelude.{◌≡◌, OnOk, Some, None};
-ghost use Rattle.bounded_slack.specs.Cuts.{sum_at, greater, key_of, AreNone, HasRaised, IsPopped};
+ghost use Rattle.bounded_slack.specs.Cuts.{sum_at, greater, AreNone, HasRaised, IsPopped};
 
 use sta_units::Memory;
 use std::alloc::Global;
@@ -27,11 +27,7 @@ fn greater(sum: Option<i64>, held: Held) -> i64
 {
     match sum {
         None => held.sum,
-        Some(found) => if found < held.sum {
-            held.sum
-        } else {
-            found
-        },
+        Some(found) => if found < held.sum { held.sum } else { found },
     }
 }
 
@@ -47,14 +43,14 @@ impl Reached {
 
     /// The sum of a node.
     fn sum_of(&self, held: Held) -> Option<i64>
-        ensures { result ≡ sum_at self.now (key_of held) }
+        ensures { result ≡ sum_at self.now held.level held.node }
     {
         self.sums.get(&(held.level, held.node)).copied()
     }
 
     /// Gives a node the greater of its sum and this one. Where memory is wanting all sums stay.
     pub(crate) fn raise(&mut self, held: Held) -> Result<(), Memory>
-        ensures { OnOk result (HasRaised (sum_at self.old) (sum_at self.new) held) }
+        ensures { OnOk result (HasRaised (sum_at self.old) (sum_at self.new) held.level held.node held.sum) }
     {
         let sum = greater(self.sum_of(held), held);
         match self.sums.insert((held.level, held.node), sum) {

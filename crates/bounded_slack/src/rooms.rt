@@ -1,26 +1,27 @@
 //! Bounds from arrivals on launch edges.
 
-ghost use Rattle.std.specs.Prelude.{◌≡◌, All, IfOk, None};
+ghost use Rattle.std.specs.Prelude.{◌≡◌, ◌-ℤ◌, All, IfOk, None, Some};
 ghost use Rattle.sta_units.specs.Numbers.{Within};
 ghost use Rattle.timing_defs.specs.declared.edge_times.EdgeTime.{EdgeTime};
-ghost use Rattle.bounded_slack.specs.Nets.{lesser, IsLeastSlack};
+ghost use Rattle.bounded_slack.specs.Nets.{IsLeastSlack};
 ghost use Rattle.bounded_slack.specs.Rows.{signed, signed_on, room_on, least_room, IsLowOffer, IsByRows};
 
 use crate::fans::Fan;
 use crate::searching::least_slack;
 use crate::steps::lesser;
-use sta_units::Memory;
+use sta_units::{Fs, Memory};
 use std::alloc::Global;
 use timing_defs::{EdgeTime, EdgeTimes, Kind, LaunchEdge};
 
-/// A time as a search for the least slack takes it: that of hold tests negated.
-fn signed(kind: Kind, time: i64) -> i64
-    requires { Within time }
-    ensures { result ≡ signed kind time }
+/// A lowest offer less a time, that of hold tests negated.
+fn left(kind: Kind, low: EdgeTime, time: Fs) -> Option<i64>
+    requires low { IsLowOffer low }
+    requires time { Within time.0 }
+    ensures { result ≡ Some (low.time.0 -ℤ signed kind time.0) }
 {
     match kind {
-        Kind::Setup => time,
-        Kind::Hold => -time,
+        Kind::Setup => Some(low.time.0 - time.0),
+        Kind::Hold => Some(low.time.0 + time.0),
     }
 }
 
@@ -35,7 +36,7 @@ fn room_on(kind: Kind, times: &EdgeTimes, low: &EdgeTime) -> Option<i64>
         tran: low.tran,
     };
     match times.on(edge) {
-        Some(time) => Some(low.time.0 - signed(kind, time.0)),
+        Some(time) => left(kind, *low, time),
         None => None,
     }
 }

@@ -1,9 +1,9 @@
 //! The search: nodes are taken by falling level.
 
-ghost use Rattle.std.specs.Prelude.{◌≡◌, All, IfOk, OnOk, Some};
+ghost use Rattle.std.specs.Prelude.{◌≡◌, IfOk, OnOk, Some};
 ghost use Rattle.worst_walks.specs.Walks.{delay_in};
-ghost use Rattle.bounded_slack.specs.Nets.{arcs_into, IsArcInto, IsNet, IsLeastSlack};
-ghost use Rattle.bounded_slack.specs.Cuts.{sum_at, key_of, behind, AreBelow, HasFollowed, IsHeld, IsCut, IsStill, IsSearching, IsSettled};
+ghost use Rattle.bounded_slack.specs.Nets.{arcs_into, IsArcInto, IsNet, IsShape, IsLeastSlack};
+ghost use Rattle.bounded_slack.specs.Cuts.{sum_at, HasFollowed, IsHeld, IsNever, IsSearching, IsSpread, IsStill};
 
 use crate::fans::Fan;
 use crate::firsts::{at_end, first_slack};
@@ -22,7 +22,8 @@ pub fn least_slack<F: Fan>(alloc: Global, fan: &F) -> Result<Option<i64>, Memory
 {
     let mut least = first_slack(alloc, fan)?;
     let mut reached = Reached::new(alloc);
-    reached.raise(at_end(fan))?;
+    let end = at_end(fan);
+    reached.raise(end)?;
     let mut next = reached.pop();
     while let Some(held) = next {
         least = settle(alloc, fan, &mut reached, least, held)?;
@@ -42,12 +43,13 @@ fn settle<F: Fan>(
 ) -> Result<Option<i64>, Memory>
     requires net { IsNet (F.net fan.now) }
     requires searching { IsSearching (F.net fan.now) (sum_at reached.old) least (Some held) }
-    ensures { IfOk result (λ found. IsSettled (F.net fan.now) (sum_at reached.new) found held) }
+    ensures { IfOk result (λ found. IsSpread (F.net fan.now) (sum_at reached.new) found held IsNever) }
 {
     if is_shut(least, room(fan, held)) {
         return Ok(least);
     }
-    let found = lesser(least, minus(fan.offer(alloc, held.node)?, held));
+    let offer = fan.offer(alloc, held.node)?;
+    let found = lesser(least, minus(offer, held));
     spread(alloc, fan, reached, found, held)?;
     Ok(found)
 }
@@ -62,9 +64,8 @@ fn spread<F: Fan>(
 ) -> Result<(), Memory>
     requires net { IsNet (F.net fan.now) }
     requires held { IsHeld (F.net fan.now) held }
-    requires cut { IsCut (F.net fan.now) (sum_at reached.old) least (IsStill (F.net fan.now) held.sum (arcs_into (F.net fan.now) held.node)) }
-    requires below { AreBelow (key_of held) (sum_at reached.old) }
-    ensures { OnOk result (IsSettled (F.net fan.now) (sum_at reached.new) least held) }
+    requires still { IsSpread (F.net fan.now) (sum_at reached.old) least held (IsStill (F.net fan.now) held.sum (arcs_into (F.net fan.now) held.node)) }
+    ensures { OnOk result (IsSpread (F.net fan.now) (sum_at reached.new) least held IsNever) }
 {
     let arcs = fan.arcs_into(alloc, held.node)?;
     for arc in arcs.as_slice() {
@@ -91,5 +92,6 @@ fn follow<F: Fan>(
     if is_shut(least, room(fan, next)) {
         return Ok(());
     }
-    reached.raise(next)
+    reached.raise(next)?;
+    Ok(())
 }

@@ -1,9 +1,10 @@
 //! Sums, rooms and slacks of single nodes.
 
-ghost use Rattle.std.specs.Prelude.{◌≡◌, ◌*◌, ◌^◌, ◌<◌, ◌≤◌, unsigned_abs, Some, None};
+ghost use Rattle.std.specs.Prelude.{◌≡◌, ◌*◌, ◌^◌, ◌≤◌, unsigned_abs, Some, None};
+ghost use Rattle.sta_units.specs.Numbers.{Within};
 ghost use Rattle.worst_walks.specs.Walks.{delay_in};
-ghost use Rattle.bounded_slack.specs.Nets.{arcs_into, count_of, minus_some, lesser, IsLow, IsArcInto, IsShape};
-ghost use Rattle.bounded_slack.specs.Cuts.{behind, is_shut, room_of, IsHeld};
+ghost use Rattle.bounded_slack.specs.Nets.{arcs_into, minus_some, lesser, IsLow, IsArcInto, IsShape};
+ghost use Rattle.bounded_slack.specs.Cuts.{arc_held, behind, is_shut, room_of, IsHeld};
 
 use crate::fans::Fan;
 use crate::reached::Held;
@@ -43,6 +44,19 @@ pub(crate) fn lesser(one: Option<i64>, other: Option<i64>) -> Option<i64>
     }
 }
 
+/// The node of an arc with its level, and the sum by this arc.
+fn arc_held(level: u32, held: Held, arc: WalkArc) -> Held
+    requires sum { unsigned_abs held.sum ≤ 2 ^ 22 * 10 ^ 12 }
+    requires delay { Within arc.delay }
+    ensures { result ≡ arc_held level held arc }
+{
+    Held {
+        level,
+        node: arc.from,
+        sum: arc.delay + held.sum,
+    }
+}
+
 /// The node before an arc, with the sum by this arc.
 pub(crate) fn behind<F: Fan>(fan: &F, held: Held, arc: WalkArc) -> Held
     requires net { IsShape (F.net fan.now) }
@@ -52,11 +66,7 @@ pub(crate) fn behind<F: Fan>(fan: &F, held: Held, arc: WalkArc) -> Held
     ensures value { result ≡ behind (F.net fan.now) held arc }
     ensures held { IsHeld (F.net fan.now) result }
 {
-    Held {
-        level: fan.level(arc.from),
-        node: arc.from,
-        sum: arc.delay + held.sum,
-    }
+    arc_held(fan.level(arc.from), held, arc)
 }
 
 /// What the bound of a node leaves for its sum.

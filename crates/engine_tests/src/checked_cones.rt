@@ -37,7 +37,7 @@ fn others(arcs: &[WalkArc]) -> &[WalkArc]
     &arcs[1..]
 }
 
-fn are_apart(arcs: &[WalkArc]) -> bool
+pub(crate) fn are_apart(arcs: &[WalkArc]) -> bool
     ensures { IsTrue result → AreApart arcs.now }
 {
     if arcs.is_empty() {

@@ -2,9 +2,13 @@
 #![tactic(auto)]
 
 #[cfg(test)]
+mod bounded_slacks;
+#[cfg(test)]
 mod checked_cones;
 #[cfg(test)]
 mod clock_credits;
+#[cfg(test)]
+mod drawn_nets;
 #[cfg(test)]
 mod given;
 #[cfg(test)]
@@ -21,3 +25,5 @@ mod session_runs;
 mod walks;
 #[cfg(test)]
 mod wires;
+#[cfg(test)]
+mod written_nets;

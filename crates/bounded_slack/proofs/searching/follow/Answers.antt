@@ -1,0 +1,34 @@
+use Rattle.std.proofs.Common.{true, false}
+use Rattle.bounded_slack.specs.Cuts.{sum_at}
+use Rattle.bounded_slack.proofs.Cutting.{shut_is, followed_shut, followed_raised}
+use Rattle.bounded_slack.proofs.searching.follow.Goals as goal
+
+pub behind-next-requires-clause-net : goal.behind-next-requires-clause-net
+behind-next-requires-clause-net g c = c.requires.net
+
+pub behind-next-requires-clause-held : goal.behind-next-requires-clause-held
+behind-next-requires-clause-held g c = c.requires.held
+
+pub behind-next-requires-clause-arc : goal.behind-next-requires-clause-arc
+behind-next-requires-clause-arc g c = c.requires.arc
+
+pub behind-next-requires-clause-there : goal.behind-next-requires-clause-there
+behind-next-requires-clause-there g c = c.requires.there
+
+pub room-requires-clause-net : goal.room-requires-clause-net
+room-requires-clause-net g c = c.requires.net
+
+pub room-requires-clause-held : goal.room-requires-clause-held
+room-requires-clause-held g c = c.behind-next.ensures.held
+
+pub returns-then-is_shut : goal.returns-then-is_shut
+returns-then-is_shut g c =
+    let net = g.F.Fan.net c.args.fan.now in
+    followed_shut net c.args.least c.args.held c.behind-next.result c.args.arc (sum_at c.args.reached.now) c.behind-next.ensures.value
+    (shut_is net c.args.least c.behind-next.result c.room.result c.is_shut.result true c.room.ensures c.is_shut.ensures c.if-is_shut.true)
+
+pub returns : goal.returns
+returns g c =
+    let net = g.F.Fan.net c.args.fan.now in
+    followed_raised net c.args.least c.args.held c.behind-next.result c.args.arc (sum_at c.args.reached.now) (sum_at c.raise.new.self) c.behind-next.ensures.value
+    (shut_is net c.args.least c.behind-next.result c.room.result c.is_shut.result false c.room.ensures c.is_shut.ensures c.if-is_shut.false) c.in_ok-raise.ensures
