@@ -1,8 +1,9 @@
 -- What is told of the graph in front of an end node, as functions have it.
 
-use Rattle.std.proofs.Common.{◌≡◌, ℕ, ◌^◌, ◌<◌, true, ℤ, List, Option, None, Some, refl, sym, ap, subst, ◌∙◌}
+use Rattle.std.proofs.Common.{◌≡◌, ℕ, ◌^◌, ◌<◌, true, ℤ, List, Option, None, Some, Result, Ok, Err, IfOk, refl, sym, ap, subst, ◌∙◌}
 use Rattle.std.specs.Prelude.{All, option_and_then}
 use Rattle.sta_units.specs.Numbers.{Within}
+use Rattle.sta_units.specs.declared.units.Memory.{Memory}
 use Rattle.timing_defs.specs.declared.edge_times.EdgeTime.{EdgeTime}
 use Rattle.timing_defs.specs.declared.kinds.Kind.{Kind}
 use Rattle.timing_defs.specs.declared.kinds.Tran.TheVariants.{Rise, Fall}
@@ -27,7 +28,7 @@ use Rattle.path_search.specs.declared.cones.EndNodes.{EndNodes}
 use Rattle.path_search.specs.declared.ends.EndTest.{EndTest}
 use Rattle.path_search.specs.declared.launches.LaunchNode.{LaunchNode}
 use Rattle.path_search.specs.Lows.{lows_told}
-use Rattle.path_search.specs.NodeNets.{arcs_there, launch_told, net_told, offer_told, signed_arrival, IsFanOf}
+use Rattle.path_search.specs.NodeNets.{arcs_there, launch_told, net_told, offer_told, signed_arrival, fan_net, FanValue, IsFanNet, IsFanOf}
 use Rattle.path_search.specs.NodeSlacks.{IsNodeSlack, lesser_slack}
 use Rattle.path_search.specs.PinCones.{AreEndNodes, IsNamedNode}
 use Rattle.path_search.specs.Runs.{IsTimed}
@@ -107,6 +108,17 @@ module _ (s : Stored) (g : Graphed) (rows : List NodeRow) (delays : List (List A
   found_as o least node its =
       subst (λ (z : Stored). IsNodeSlack z.design kind (named node) o) same
       (node_found g g_num g_linked is g_time g_fine kind delays g_delays tree h.sources.clocks tests g_ready end node ((λ i. node_at (same i) end) ∙ its) h.its_tests o least)
+
+-- the same of a net that is told so
+module _ (s : Stored) (g : Graphed) (rows : List NodeRow) (delays : List (List ArcDelay)) (tree : List TreeRow) (kind : Kind) (end : ℕ) (fan : FanValue)
+    (h : IsFanNet s g rows delays tree kind end fan) (num : IsNumbered s) (linked : IsLinked s.design) (is : IsGraph g) where
+  pub net_rows : node_bound g.stored < 2 ^ 32 → level_at g end < 2 ^ 22 → IsByRows (fan_net fan)
+  net_rows fits high = subst (λ (v : FanValue). IsByRows (fan_net v)) (sym h.is) (rows_as s g rows delays tree kind end h.tests h.lows h.told num linked is fits high)
+
+  pub net_found : (r : Result (Option ℤ) Memory) → IfOk r (IsLeastSlack (fan_net fan))
+      → IfOk r (λ o. (node : Node) → node_at s end ≡ Some node → IsNodeSlack s.design kind (named node) o)
+  net_found (Err e) least = tt
+  net_found (Ok o) least = found_as s g rows delays tree kind end h.tests h.lows h.told num linked is o (subst (λ (v : FanValue). IsLeastSlack (fan_net v) o) h.is least)
 
 -- a pin's slack is the lesser of those of its nodes
 pub pin_as : (g : Graphed) (s : Stored) → g.stored ≡ s → IsNumbered s → IsLinked s.design → IsGraph g → (kind : Kind) (pin : List ℕ) (ends : EndNodes) → AreEndNodes s pin ends

@@ -72,3 +72,17 @@ pub record IsFanOf (s : Stored) (g : Graphed) (rows : List NodeRow) (delays : Li
   pub there : is_number s.pins (pin_under end) ≡ true
   pub its_tests : AreEndTestsOf g kind end tests
   pub its_lows : lows ≡ lows_told s.design kind tree tests
+
+-- the value of a fan: the graph with a kind of tests, the clock tree, the tests of the end node and its number
+abbrev pub FanValue : Type 0
+FanValue = Graphed × Kind × List TreeRow × List EndTest × ℕ
+
+abbrev pub fan_net : FanValue → Net
+fan_net v = net_told v.0 v.1 v.2 v.3 v.4
+
+-- a fan that is told so
+pub record IsFanNet (s : Stored) (g : Graphed) (rows : List NodeRow) (delays : List (List ArcDelay)) (tree : List TreeRow) (kind : Kind) (end : ℕ) (fan : FanValue) : Type 0 where
+  pub tests : List EndTest
+  pub lows : List EdgeTime
+  pub told : IsFanOf s g rows delays tree kind end tests lows
+  pub is : fan ≡ (g, kind, tree, tests, end)

@@ -1,12 +1,12 @@
 //! The graph in front of an end node, as a search with a bound asks for it.
 
-ghost use Rattle.std.specs.Prelude.{◌≡◌, ◌<◌, true, IfOk};
+ghost use Rattle.std.specs.Prelude.{◌≡◌, ◌<◌, ◌^◌, true, IfOk};
 ghost use Rattle.timing_defs.specs.Paths.{named};
 ghost use Rattle.timing_defs.specs.Netlist.{Node};
 ghost use Rattle.timing_defs.specs.Tests.{data_split};
 ghost use Rattle.netlist_store.specs.Numbering.{is_number};
 ghost use Rattle.pin_graph.specs.Nodes.{node_at, node_bound, pin_under};
-ghost use Rattle.path_search.specs.NodeNets.{IsFanOf};
+ghost use Rattle.path_search.specs.NodeNets.{IsFanNet};
 ghost use Rattle.path_search.specs.NodeSlacks.{IsNodeSlack};
 ghost use Rattle.path_search.specs.Sources.{AreSources};
 
@@ -18,8 +18,10 @@ use crate::test_slacks::least_slack;
 use arc_delays::Delayed;
 use bounded_slack::{Fan, least_of_rows, least_room};
 use path_cones::arcs_into;
+use pin_graph::Graph;
 use sta_units::Memory;
 use std::alloc::Global;
+use std::marker::Model;
 use timing_defs::{EdgeTime, Items, Kind, Rows, Split};
 use worst_walks::WalkArc;
 
@@ -31,7 +33,21 @@ pub(crate) struct NodeFan<'a, A: Rows + Delayed> {
     tests: Items<EndTest>,
     lows: Items<EdgeTime>,
     end: u32,
-    ghost told: { IsFanOf sources.now.store.now sources.now.graph.now (A.rows sources.now.arrivals.now) (A.delays sources.now.arrivals.now) sources.now.tree.now sources.now.kind end tests lows },
+}
+
+impl<'a, A: Rows + Delayed> Model for NodeFan<'a, A> {
+    ghost use Rattle.std.specs.Prelude.{ℕ, List};
+    ghost use Rattle.timing_defs.specs.declared.kinds.Kind.{Kind};
+    ghost use Rattle.pin_graph.specs.Graphs.{Graphed};
+    ghost use Rattle.pessimism_credit.specs.declared.rows.TreeRow.{TreeRow};
+    ghost use Rattle.path_search.specs.declared.ends.EndTest.{EndTest};
+    ghost use Rattle.path_search.specs.NodeNets.{IsFanOf};
+
+    ghost Value = { Graphed × Kind × List TreeRow × List EndTest × ℕ };
+
+    ghost view = { λ f. (f.sources.now.graph.now, f.sources.now.kind, f.sources.now.tree.now, f.tests, f.end) };
+
+    ghost invariant = { λ f. IsFanOf f.sources.now.store.now f.sources.now.graph.now (A.rows f.sources.now.arrivals.now) (A.delays f.sources.now.arrivals.now) f.sources.now.tree.now f.sources.now.kind f.end f.tests f.lows };
 }
 
 /// The split of the data that a kind of test compares.
@@ -47,7 +63,7 @@ fn data_split(kind: Kind) -> Split
 impl<A: Rows + Delayed> Fan for NodeFan<'_, A> {
     ghost use Rattle.path_search.specs.NodeNets.{net_told};
 
-    ghost net = { λ f. net_told f.sources.now.graph.now f.sources.now.kind f.sources.now.tree.now f.tests f.end };
+    ghost net = { λ v. net_told v.0 v.1 v.2 v.3 v.4 };
 
     fn end(&self) -> u32 {
         self.end
@@ -116,7 +132,7 @@ fn node_fan<'a, A: Rows + Delayed>(
     requires sources { AreSources sources.now.store.now sources.now.graph.now (A.rows sources.now.arrivals.now) (A.delays sources.now.arrivals.now) sources.now.tree.now }
     requires end { end < node_bound sources.now.store.now }
     requires there { is_number sources.now.store.now.pins (pin_under end) ≡ true }
-    ensures { IfOk result (λ fan. (fan.sources ≡ sources) × (fan.end ≡ end)) }
+    ensures { IfOk result (IsFanNet sources.now.store.now sources.now.graph.now (A.rows sources.now.arrivals.now) (A.delays sources.now.arrivals.now) sources.now.tree.now sources.now.kind end) }
 {
     sources.store.laws();
     sources.graph.laws();
@@ -143,6 +159,13 @@ fn node_fan<'a, A: Rows + Delayed>(
     })
 }
 
+/// The numbers of a graph's nodes fit.
+fn bounded(graph: &Graph)
+    ensures { node_bound graph.now.stored < 2 ^ 32 }
+{
+    let _ = graph.count();
+}
+
 /// The slack of an end node for a kind of tests, in fs: the least over all paths to it that are tested;
 /// none where there is no such path. Fails for want of memory, and where the end node's level is `2^22` or
 /// more, above that of a sound design.
@@ -158,7 +181,7 @@ pub(crate) fn node_slack<A: Rows + Delayed>(
 {
     sources.store.laws();
     sources.graph.laws();
-    let _ = sources.graph.count();
+    bounded(sources.graph);
     if sources.graph.level(end) >= 1 << 22 {
         return Err(Memory);
     }
