@@ -63,11 +63,11 @@ use Rattle.path_search.proofs.TestRanges.{launch_clock}
 -- signs of times
 sign_same : (kind : Kind) (x : ℤ) → sign kind x ≡ signed kind x
 sign_same Setup x = refl
-sign_same Hold x = refl
+sign_same Hold x = omega (arith, ints)
 
 sign_on : (kind : Kind) (o : Option ℤ) → option_map (sign kind) o ≡ option_map (signed kind) o
-sign_on Setup o = refl
-sign_on Hold o = refl
+sign_on kind None = refl
+sign_on kind (Some x) = ap Some (sign_same kind x)
 
 sign_within : (kind : Kind) (x : ℤ) → Within x → Within (sign kind x)
 sign_within Setup x h = h

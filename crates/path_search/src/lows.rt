@@ -87,14 +87,7 @@ fn low_at(
     let apart = low_apart(store, kind, rule, edge, test);
     let uncertainty = uncertainty_of(store, kind, test.test.capture_clock);
     let credit = low_credit(tree, test.place);
-    Some(slack_by(
-        kind,
-        &test.test,
-        apart.0,
-        uncertainty,
-        credit.0,
-        0,
-    ))
+    Some(slack_by(kind, &test.test, apart.0, uncertainty, credit.0, 0))
 }
 
 /// The least of these over tests; none where there is no test.
