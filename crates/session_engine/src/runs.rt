@@ -1,0 +1,163 @@
+//! The run of a script: one session of several at a board of versions.
+
+ghost use Rattle.std.specs.Prelude.{ℕ, ◌≡◌, ◌+◌, ◌<◌, ◌≤◌, [], ◌∷◌, ◌++◌, List, true, Some, length, vec_len, vec_capacity, IfOk};
+ghost use Rattle.std.specs.Arc.{arc_value};
+ghost use Rattle.std.specs.List.{list_all};
+ghost use Rattle.timing_defs.specs.declared.design.Design.{Design};
+ghost use Rattle.timing_defs.specs.declared.scripts.Command.{Command};
+ghost use Rattle.version_board.specs.Callers.{IsSeatOf, IsSame};
+ghost use Rattle.session_engine.specs.Looking.{Sight, meant, Holds};
+ghost use Rattle.session_engine.specs.Running.{is_runnable, IsRunnable, IsRun, Ran};
+
+use crate::commands::{answer, query_of, taken};
+use crate::versions::Version;
+use sta_outside::{Gate, Point};
+use sta_units::Memory;
+use std::alloc::Global;
+use std::sync::{Arc, Wait};
+use std::thread::Threads;
+use timing_defs::{Command, Items, Query, Row, Script, Transcript};
+use version_board::{Board, Seat};
+
+fn discard_query(_query: Option<Query>) {}
+
+fn discard_rows(_rows: Vec<Row>) {}
+
+/// Answers the command at a place: its row stands behind the others, and the session holds the version.
+fn step<H: Threads + Wait + Sync, G: Gate>(
+    rt: &H,
+    alloc: Global,
+    who: u32,
+    board: &Board<Version>,
+    seat: &mut Seat<Version>,
+    held: Arc<Version>,
+    rows: &mut Vec<Row>,
+    place: u32,
+    command: &Command,
+    workers: u32,
+    gate: &G,
+) -> Result<Arc<Version>, Memory>
+    requires seat { IsSeatOf meant board.now seat.old }
+    requires number { seat.old.view.number ≡ who }
+    requires held { Holds seat.old.view (arc_value held) }
+    requires command { is_runnable command.now ≡ true }
+    requires room { vec_len rows.old < vec_capacity rows.old }
+    requires some { 1 ≤ workers }
+    requires most { workers ≤ 32 }
+    ensures same { IsSame seat.old seat.new }
+    ensures holds { IfOk result (λ next. Holds seat.new.view (arc_value next)) }
+    ensures long { IfOk result (λ next. vec_len rows.new ≡ vec_len rows.old + 1) }
+    ensures room { IfOk result (λ next. vec_capacity rows.new ≡ vec_capacity rows.old) }
+    ensures run { IfOk result (λ next. (origin : Design) (first : ℕ) (v : Sight) (commands : List Command) → seat.old.view.first ≡ first → seat.old.view.origin ≡ Some origin → place ≡ length commands + 1 → IsRun origin first who v commands seat.old.view (arc_value held) rows.old.items → IsRun origin first who v (commands ++ command.now ∷ []) seat.new.view (arc_value next) rows.new.items) }
+{
+    held.laws();
+    match query_of(alloc, command) {
+        Ok(query) => match answer(rt, alloc, who, board, seat, held, command, workers, gate) {
+            Ok((held, answer)) => {
+                held.laws();
+                let number = held.number();
+                rows.push_reserved(Row {
+                    command: place,
+                    query,
+                    number,
+                    answer,
+                });
+                gate.at(Point::Answered {
+                    session: who,
+                    command: place,
+                });
+                Ok(held)
+            }
+            Err(Memory) => {
+                discard_query(query);
+                Err(Memory)
+            }
+        },
+        Err(Memory) => {
+            Version::discard(held);
+            Err(Memory)
+        }
+    }
+}
+
+/// Answers the commands of a script in order, over a first taking.
+fn steps<H: Threads + Wait + Sync, G: Gate>(
+    rt: &H,
+    alloc: Global,
+    who: u32,
+    board: &Board<Version>,
+    seat: &mut Seat<Version>,
+    rows: &mut Vec<Row>,
+    commands: &[Command],
+    workers: u32,
+    gate: &G,
+) -> Result<Arc<Version>, Memory>
+    requires seat { IsSeatOf meant board.now seat.old }
+    requires number { seat.old.view.number ≡ who }
+    requires commands { list_all is_runnable commands.now ≡ true }
+    requires few { length commands.now ≤ 10000 }
+    requires empty { rows.old.items ≡ [] }
+    requires room { length commands.now ≤ vec_capacity rows.old }
+    requires some { 1 ≤ workers }
+    requires most { workers ≤ 32 }
+    ensures same { IsSame seat.old seat.new }
+    ensures run { IfOk result (λ held. IsRun board.now.opening.origin board.now.opening.first who seat.old.view commands.now seat.new.view (arc_value held) rows.new.items) }
+{
+    let mut held = taken(rt, who, board, seat, gate)?;
+    held.laws();
+    let mut place = 1u32;
+    for command in commands {
+        held = step(
+            rt, alloc, who, board, seat, held, rows, place, command, workers, gate,
+        )?;
+        place += 1;
+    }
+    Ok(held)
+}
+
+/// Runs the script of one session at its seat: takes the newest version, and answers each command with a
+/// row. `take` and an ECO look at the newest version on the board, `await` with at most its looks; a
+/// question is answered at the version that the session holds. An accepted ECO is published over the
+/// newest version: where another session published since it was prepared, it is prepared over that
+/// one's again. Room for the rows is there before the first look. The gate is called where no turn is
+/// held: after each look, before and after a publication, after each row.
+///
+/// # Errors
+///
+/// Want of memory alone; what the session published until then stays.
+pub fn run_script<H: Threads + Wait + Sync, G: Gate>(
+    rt: &H,
+    alloc: Global,
+    who: u32,
+    board: &Board<Version>,
+    seat: &mut Seat<Version>,
+    script: &Script,
+    workers: u32,
+    gate: &G,
+) -> Result<Transcript, Memory>
+    requires seat { IsSeatOf meant board.now seat.old × (seat.old.view.number ≡ who) }
+    requires script { IsRunnable script.now }
+    requires some { 1 ≤ workers }
+    requires most { workers ≤ 32 }
+    ensures same { IsSame seat.old seat.new }
+    ensures ran { IfOk result (Ran board.now.opening.origin board.now.opening.first who script.now seat.old.view seat.new.view) }
+{
+    let commands = script.commands.as_slice();
+    match Vec::with_capacity(alloc, commands.len()) {
+        Ok(mut rows) => match steps(
+            rt, alloc, who, board, seat, &mut rows, commands, workers, gate,
+        ) {
+            Ok(held) => {
+                Version::discard(held);
+                Ok(Transcript {
+                    rows: Items::from_vec(rows),
+                })
+            }
+            Err(Memory) => {
+                discard_rows(rows);
+                Err(Memory)
+            }
+        },
+        Err(_) => Err(Memory),
+    }
+}
