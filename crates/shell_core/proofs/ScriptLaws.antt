@@ -234,6 +234,12 @@ pub script_refused : (text : List ℕ) (code : Code) (place : ℕ) → script_of
 script_refused text code place read =
     sym (told_is (least_from None (faults 0 outside (events 1 (lines_of text)))) (commands outside (events 1 (lines_of text)))) ∙ ap fault_in read
 
+-- a script that was read has no fault
+pub script_faultless : (text : List ℕ) (script : Script) → script_of text ≡ Ok script → faults 0 outside (events 1 (lines_of text)) ≡ []
+script_faultless text script read =
+    let es = events 1 (lines_of text) in
+    least_none (faults 0 outside es) (sym (told_is (least_from None (faults 0 outside es)) (commands outside es)) ∙ ap fault_in read)
+
 -- what a reader tells of a script
 pub script_told : (r : Result Script ReadFault) (text : List ℕ) → Tells r (script_of text) → IfOk r (λ s. are_answerable s ≡ true)
     → MatchResult r (λ s. (script_of text ≡ Ok s) × IsScript s) (λ e. Fails e (faults 0 outside (events 1 (lines_of text))))

@@ -1,6 +1,6 @@
 -- The documents of a run: in which order they are fetched and read, what they say, and what stops that.
 
-use Rattle.std.specs.Prelude.{◌≡◌, ◌<◌, ◌≤◌, ◌⊎◌, ℕ, Bool, true, false, if◌then◌else◌, List, [], ◌∷◌, ◌++◌, codes, length, Option, Some, None, Ok, ⊤}
+use Rattle.std.specs.Prelude.{◌≡◌, ◌<◌, ◌≤◌, ◌⊎◌, ℕ, ◌+◌, ◌-◌, Bool, true, false, if◌then◌else◌, List, [], ◌∷◌, ◌++◌, codes, decimal, length, Option, Some, None, Ok, ⊤}
 use Rattle.std.specs.Str.{bytes_eq}
 use Rattle.sta_outside.specs.Shelf.{document_limit, Told, Lacks, Reaches, Rose}
 use Rattle.timing_defs.specs.declared.library.Library.{Library}
@@ -29,6 +29,7 @@ use Rattle.eco_journal.specs.Lines.{lines_of}
 use Rattle.script_reader.specs.Scripts.{outside, events, script_of}
 use Rattle.script_reader.specs.Scripts.{faults as line_faults}
 use Rattle.shell_core.specs.Words.{RunWords}
+use Rattle.shell_core.specs.Words.{word as word_at}
 use Rattle.shell_core.specs.declared.documents.Role.{Role}
 use Rattle.shell_core.specs.declared.documents.Role.TheVariants.{Early, Late, Netlist, Sdc, Spef, Session}
 use Rattle.shell_core.specs.declared.documents.Stop.{Stop}
@@ -37,14 +38,25 @@ use Rattle.shell_core.specs.declared.documents.How.{How}
 use Rattle.shell_core.specs.declared.documents.How.TheVariants.{Failed, Absent, TooLong}
 use Rattle.shell_core.specs.declared.documents.Documents.{Documents}
 
--- how a document is called in a line of fault
+-- how a document is called in a line of fault: by its kind, and a script with the number of its session
+abbrev pub kind_text : Role → List ℕ
+kind_text Early = codes "early"
+kind_text Late = codes "late"
+kind_text Netlist = codes "netlist"
+kind_text Sdc = codes "sdc"
+kind_text Spef = codes "spef"
+kind_text (Session number) = codes "script"
+
+abbrev pub number_text : Role → List ℕ
+number_text Early = []
+number_text Late = []
+number_text Netlist = []
+number_text Sdc = []
+number_text Spef = []
+number_text (Session number) = decimal number
+
 abbrev pub role_text : Role → List ℕ
-role_text Early = codes "early"
-role_text Late = codes "late"
-role_text Netlist = codes "netlist"
-role_text Sdc = codes "sdc"
-role_text Spef = codes "spef"
-role_text Session = codes "script1"
+role_text role = kind_text role ++ number_text role
 
 abbrev pub how_text : How → List ℕ
 how_text Failed = codes "failed"
@@ -63,21 +75,26 @@ refusal_line role wrong = line (codes "fault" ++ word (role_text role) ++ word (
 abbrev pub shelf_line : List ℕ → How → List ℕ
 shelf_line name how = line (codes "fault shelf" ++ word name ++ word (how_text how))
 
--- the name that a command line has for a document
+-- the name that a command line has for a document; sessions count from 1
 abbrev pub name_of : RunWords → Role → List ℕ
 name_of run Early = run.early
 name_of run Late = run.late
 name_of run Netlist = run.netlist
 name_of run Sdc = run.sdc
 name_of run Spef = run.spef
-name_of run Session = run.script
+name_of run (Session number) = word_at run.scripts (number - 1)
 
 -- the documents in the order in which they are fetched and read; the word `none` stands for no parasitics
 abbrev pub has_no_spef : RunWords → Bool
 has_no_spef run = bytes_eq run.spef (codes "none")
 
+-- the scripts of sessions, of which the first has the number n
+abbrev pub script_sources : ℕ → List (List ℕ) → List Role
+script_sources n [] = []
+script_sources n (name ∷ names) = Session n ∷ script_sources (n + 1) names
+
 abbrev pub last_sources : RunWords → List Role
-last_sources run = (if has_no_spef run then Session ∷ [] else Spef ∷ Session ∷ [])
+last_sources run = (if has_no_spef run then script_sources 1 run.scripts else Spef ∷ script_sources 1 run.scripts)
 
 abbrev pub sources : RunWords → List Role
 sources run = Early ∷ Late ∷ Netlist ∷ Sdc ∷ last_sources run
@@ -103,7 +120,7 @@ HasFaults docs run Late text faults = library_faults text ≡ faults
 HasFaults docs run Netlist text faults = netlist_faults (netlist_events text) ≡ faults
 HasFaults docs run Sdc text faults = (units : Units) × AreUnits docs run units × (constraint_faults units text ≡ faults)
 HasFaults docs run Spef text faults = spef_faults (spef_events text) ≡ faults
-HasFaults docs run Session text faults = line_faults 0 outside (events 1 (lines_of text)) ≡ faults
+HasFaults docs run (Session number) text faults = line_faults 0 outside (events 1 (lines_of text)) ≡ faults
 
 -- a document that is there, and without a fault
 abbrev pub IsRead : Docs → RunWords → Role → Type 0
@@ -174,9 +191,16 @@ AreParasitics docs run p =
     ((has_no_spef run ≡ true) × (p ≡ no_parasitics))
     ⊎ ((has_no_spef run ≡ false) × Says docs run.spef (SaysParasitics p))
 
+-- the scripts, one for each name in order
+abbrev pub SayScripts : Docs → List (List ℕ) → List Script → Type 0
+SayScripts docs [] [] = ⊤
+SayScripts docs [] (script ∷ scripts) = ⊥
+SayScripts docs (name ∷ names) [] = ⊥
+SayScripts docs (name ∷ names) (script ∷ scripts) = Says docs name (SaysScript script) × SayScripts docs names scripts
+
 -- the values of the documents of a run
-abbrev pub AreLast : Docs → RunWords → Parasitics → Script → Type 0
-AreLast docs run p script = AreParasitics docs run p × Says docs run.script (SaysScript script)
+abbrev pub AreLast : Docs → RunWords → Parasitics → List Script → Type 0
+AreLast docs run p scripts = AreParasitics docs run p × SayScripts docs run.scripts scripts
 
 abbrev pub AreDocuments : Docs → RunWords → Documents → Type 0
 AreDocuments docs run d =
@@ -184,4 +208,4 @@ AreDocuments docs run d =
     × Says docs run.late (SaysLibrary d.late)
     × Says docs run.netlist (SaysModule d.netlist)
     × AreConstraints docs run d.sdc
-    × AreLast docs run d.spef d.script
+    × AreLast docs run d.spef d.scripts

@@ -1,5 +1,6 @@
 pub mod Answers
 pub mod Documents
 pub mod Kept
+pub mod Reading
 pub mod Scripts
 pub mod Words

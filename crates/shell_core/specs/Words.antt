@@ -1,11 +1,12 @@
--- The words of a command line that runs one script.
-use Rattle.std.specs.Prelude.{ℕ, ◌+◌, ◌-◌, ◌*◌, List, [], ◌∷◌, Bool, false, ◌==◌, ◌&&◌, not, nat_le, length, if◌then◌else◌, Option, Some, None, option_map, codes, get_or}
+-- The words of a command line that runs 1 to 16 scripts.
+use Rattle.std.specs.Prelude.{ℕ, ◌+◌, ◌-◌, ◌*◌, List, [], ◌∷◌, Bool, false, ◌==◌, ◌&&◌, not, nat_le, length, if◌then◌else◌, Option, Some, None, option_map, codes, get_or, map, drop}
 use Rattle.std.specs.Char.{is_ascii_digit}
 use Rattle.std.specs.List.{list_all}
 use Rattle.std.specs.Str.{bytes_eq}
+use Rattle.std.specs.String.{string_bytes}
 use Rattle.shell_core.specs.declared.words.Run.{Run}
 
--- a run: the names of its documents, and how many workers it has
+-- a run: the names of its documents, of scripts one for each session, and how many workers it has
 pub record RunWords : Type 0 where
   pub early : List ℕ
   pub late : List ℕ
@@ -13,7 +14,7 @@ pub record RunWords : Type 0 where
   pub sdc : List ℕ
   pub spef : List ℕ
   pub workers : ℕ
-  pub script : List ℕ
+  pub scripts : List (List ℕ)
 
 abbrev pub run_words : Run → RunWords
 run_words run =
@@ -24,7 +25,7 @@ run_words run =
       sdc = run.sdc.now;
       spef = run.spef.now;
       workers = run.workers;
-      script = run.script.now;
+      scripts = map string_bytes run.scripts.now;
     }
 
 -- the number that decimal digits write, behind the digits of n
@@ -48,10 +49,10 @@ is_operand (byte ∷ bytes) = not (byte == 45)
 abbrev pub word : List (List ℕ) → ℕ → List ℕ
 word words at = get_or words at []
 
--- run EARLY LATE NETLIST SDC SPEF WORKERS SCRIPT
+-- run EARLY LATE NETLIST SDC SPEF WORKERS SCRIPT.., with 1 to 16 scripts
 abbrev pub run_of : List (List ℕ) → Option RunWords
 run_of words =
-    (if length words == 8 && bytes_eq (word words 0) (codes "run") && list_all is_operand words
+    (if nat_le 8 (length words) && nat_le (length words) 23 && bytes_eq (word words 0) (codes "run") && list_all is_operand words
     then
     option_map
     (λ workers.
@@ -62,7 +63,7 @@ run_of words =
       sdc = word words 4;
       spef = word words 5;
       workers = workers;
-      script = word words 7;
+      scripts = drop 7 words;
     })
     (workers_of (word words 6))
     else None)

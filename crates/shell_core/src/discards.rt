@@ -1,6 +1,6 @@
 //! Values that are given up where the reading of documents stops: each is dropped at one place.
 
-use timing_defs::{Constraints, Library, Module, Parasitics};
+use timing_defs::{Constraints, Items, Library, Module, Parasitics, Script};
 
 pub(crate) fn discard_library(_library: Library) {}
 
@@ -9,3 +9,5 @@ pub(crate) fn discard_netlist(_netlist: Module) {}
 pub(crate) fn discard_constraints(_constraints: Constraints) {}
 
 pub(crate) fn discard_parasitics(_parasitics: Parasitics) {}
+
+pub(crate) fn discard_scripts(_scripts: Items<Script>) {}

@@ -1,6 +1,7 @@
 //! The documents of a run, fetched and read one after the other.
 
-ghost use Rattle.std.specs.Prelude.{◌≡◌, ◌≤◌, ◌∷◌, [], true, IfOk, IfErr, MatchResult};
+ghost use Rattle.std.specs.Prelude.{◌≡◌, ◌≤◌, ◌<◌, ◌+◌, ◌++◌, ◌∷◌, [], length, true, IfOk, OnOk, IfErr, MatchResult};
+ghost use Rattle.std.specs.List.{All};
 ghost use Rattle.timing_defs.specs.Documents.{is_library, are_constraints, are_parasitics, IsNetlist};
 ghost use Rattle.sta_text.specs.Faults.{Fails};
 ghost use Rattle.liberty_cells.specs.Faults.{faults_of, units_of_text};
@@ -8,13 +9,17 @@ ghost use Rattle.eco_journal.specs.Lines.{lines_of};
 ghost use Rattle.script_reader.specs.Scripts.{outside, events};
 ghost use Rattle.script_reader.specs.Scripts.{faults as line_faults};
 ghost use Rattle.shell_core.specs.declared.documents.Role.TheVariants as role;
+ghost use Rattle.shell_core.specs.declared.documents.Stop.TheVariants as cause;
 ghost use Rattle.shell_core.specs.Words.{run_words};
 ghost use Rattle.shell_core.specs.Scripts.{IsScript};
-ghost use Rattle.shell_core.specs.Documents.{has_no_spef, no_parasitics, name_of, Gives, role_text, how_text, last_sources, sources, Stops, Says, SaysLibrary, SaysModule, SaysParasitics, SaysScript, AreUnits, AreConstraints, AreLast, AreDocuments};
+ghost use Rattle.shell_core.specs.Documents.{has_no_spef, no_parasitics, name_of, Gives, kind_text, role_text, how_text, script_sources, last_sources, sources, Stops, Says, SaysLibrary, SaysModule, SaysParasitics, SaysScript, SayScripts, AreUnits, AreConstraints, AreLast, AreDocuments};
 ghost use Rattle.shell_core.specs.Kept.{AreKept};
+ghost use Rattle.shell_core.specs.Reading.{AreRead};
 
-use crate::discards::{discard_constraints, discard_library, discard_netlist, discard_parasitics};
-use crate::words::Run;
+use crate::discards::{
+    discard_constraints, discard_library, discard_netlist, discard_parasitics, discard_scripts,
+};
+use crate::words::{Run, word_at};
 use liberty_cells::{read_library, units};
 use script_reader::read_script;
 use sdc_reader::read_constraints;
@@ -27,7 +32,7 @@ use timing_defs::{
 };
 use verilog_netlist::read_module;
 
-/// A document of a run.
+/// A document of a run. A script is that of the session of a number, from 1.
 #[derive(Clone, Copy, Drop)]
 pub enum Role {
     Early,
@@ -35,7 +40,7 @@ pub enum Role {
     Netlist,
     Sdc,
     Spef,
-    Session,
+    Session { number: usize },
 }
 
 /// Why the shelf did not give a document.
@@ -55,7 +60,7 @@ pub enum Stop {
     Memory,
 }
 
-/// The values of the documents of a run.
+/// The values of the documents of a run; the scripts are in the order of their names.
 #[derive(Drop)]
 pub struct Documents {
     pub early: Library,
@@ -63,13 +68,13 @@ pub struct Documents {
     pub netlist: Module,
     pub sdc: Constraints,
     pub spef: Parasitics,
-    pub script: Script,
+    pub scripts: Items<Script>,
 }
 
 impl Role {
-    /// How the document is called in a line of fault.
-    pub fn label(self) -> &'static str
-        ensures { result.now ≡ role_text self }
+    /// How a document of its kind is called in a line of fault.
+    fn kind(self) -> &'static str
+        ensures { result.now ≡ kind_text self }
     {
         match self {
             Role::Early => "early",
@@ -77,8 +82,26 @@ impl Role {
             Role::Netlist => "netlist",
             Role::Sdc => "sdc",
             Role::Spef => "spef",
-            Role::Session => "script1",
+            Role::Session { .. } => "script",
         }
+    }
+
+    /// How the document is called in a line of fault: `early`, `late`, `netlist`, `sdc`, `spef`,
+    /// and `script1` for the script of the first session.
+    ///
+    /// # Errors
+    ///
+    /// Want of memory.
+    pub fn label(self, alloc: Global) -> Result<Vec<u8>, Memory>
+        ensures { IfOk result (λ text. text.items ≡ role_text self) }
+    {
+        let mut text = Vec::new(alloc);
+        text.extend_from_slice(self.kind().as_bytes())?;
+        if let Role::Session { number } = self {
+            let digits = number.to_string(alloc)?;
+            text.extend_from_slice(digits.as_bytes())?;
+        }
+        Ok(text)
     }
 }
 
@@ -105,7 +128,7 @@ pub fn name_of<'a>(run: &Run<'a>, role: Role) -> &'a str
         Role::Netlist => run.netlist,
         Role::Sdc => run.sdc,
         Role::Spef => run.spef,
-        Role::Session => run.script,
+        Role::Session { number } => word_at(run.scripts, number.saturating_sub(1)),
     }
 }
 
@@ -225,19 +248,80 @@ fn read_session(alloc: Global, text: &[u8]) -> Result<Script, ReadFault>
     read_script(alloc, text)
 }
 
-fn session<S: Shelf>(alloc: Global, shelf: &mut S, run: &Run<'_>) -> Result<Script, Stop>
+/// The script of the session of a number.
+fn session<S: Shelf>(
+    alloc: Global,
+    shelf: &mut S,
+    run: &Run<'_>,
+    number: usize,
+) -> Result<Script, Stop>
     ensures map { S.holds shelf.new ≡ S.holds shelf.old }
     ensures rising { S.faults shelf.old ≤ S.faults shelf.new }
-    ensures value { IfOk result (λ value. Says (S.holds shelf.old) (run_words run.now).script (SaysScript value) × (S.faults shelf.new ≡ S.faults shelf.old)) }
+    ensures value { IfOk result (λ value. Says (S.holds shelf.old) (name_of (run_words run.now) (role.Session number)) (SaysScript value) × (S.faults shelf.new ≡ S.faults shelf.old)) }
     ensures kept { IfOk result IsScript }
-    ensures stop { IfErr result (λ stop. Stops (S.holds shelf.old) (run_words run.now) (S.faults shelf.old) (S.faults shelf.new) (role.Session ∷ []) stop) }
+    ensures stop { IfErr result (λ stop. Stops (S.holds shelf.old) (run_words run.now) (S.faults shelf.old) (S.faults shelf.new) (role.Session number ∷ []) stop) }
 {
-    let text = fetch(alloc, shelf, run, Role::Session)?;
+    let role = Role::Session { number };
+    let text = fetch(alloc, shelf, run, role)?;
     match read_session(alloc, text.as_slice()) {
         Ok(value) => Ok(value),
-        Err(ReadFault::At { code, offset }) => Err(Stop::Refused(Role::Session, code, offset)),
+        Err(ReadFault::At { code, offset }) => Err(Stop::Refused(role, code, offset)),
         Err(ReadFault::Memory) => Err(Stop::Memory),
     }
+}
+
+/// Scripts, and one more behind them.
+fn joined(mut scripts: Items<Script>, script: Script) -> Result<Items<Script>, Stop>
+    ensures { MatchResult result (λ all. all ≡ scripts ++ script ∷ []) (λ stop. stop ≡ cause.Memory) }
+{
+    match scripts.push(script) {
+        Ok(()) => Ok(scripts),
+        Err(Memory) => {
+            discard_scripts(scripts);
+            Err(Stop::Memory)
+        }
+    }
+}
+
+/// Scripts that were read, and the next one.
+#[tactic(auto, using(crate::proofs::ReadLemmas::read_more, crate::proofs::ReadLemmas::stops_here))]
+fn with_next<S: Shelf>(
+    alloc: Global,
+    shelf: &mut S,
+    run: &Run<'_>,
+    count: usize,
+    scripts: Items<Script>,
+) -> Result<Items<Script>, Stop>
+    requires read { AreRead (S.holds shelf.old) (run_words run.now) count scripts }
+    requires more { count < length run.now.scripts.now }
+    ensures map { S.holds shelf.new ≡ S.holds shelf.old }
+    ensures rising { S.faults shelf.old ≤ S.faults shelf.new }
+    ensures value { IfOk result (λ got. AreRead (S.holds shelf.old) (run_words run.now) (count + 1) got × (S.faults shelf.new ≡ S.faults shelf.old)) }
+    ensures stop { IfErr result (λ stop. Stops (S.holds shelf.old) (run_words run.now) (S.faults shelf.old) (S.faults shelf.new) (script_sources 1 (run_words run.now).scripts) stop) }
+{
+    match session(alloc, shelf, run, count + 1) {
+        Ok(script) => joined(scripts, script),
+        Err(stop) => {
+            discard_scripts(scripts);
+            Err(stop)
+        }
+    }
+}
+
+/// The scripts of a run, in order.
+#[tactic(auto, using(crate::proofs::ReadLemmas::read_none, crate::proofs::ReadLemmas::all_said))]
+fn scripts<S: Shelf>(alloc: Global, shelf: &mut S, run: &Run<'_>) -> Result<Items<Script>, Stop>
+    ensures map { S.holds shelf.new ≡ S.holds shelf.old }
+    ensures rising { S.faults shelf.old ≤ S.faults shelf.new }
+    ensures value { IfOk result (λ got. SayScripts (S.holds shelf.old) (run_words run.now).scripts got × (S.faults shelf.new ≡ S.faults shelf.old)) }
+    ensures kept { IfOk result (λ got. All IsScript got × (length got ≡ length run.now.scripts.now)) }
+    ensures stop { IfErr result (λ stop. Stops (S.holds shelf.old) (run_words run.now) (S.faults shelf.old) (S.faults shelf.new) (script_sources 1 (run_words run.now).scripts) stop) }
+{
+    let mut scripts = Items::new(alloc);
+    for count in 0..run.scripts.len() {
+        scripts = with_next(alloc, shelf, run, count, scripts)?;
+    }
+    Ok(scripts)
 }
 
 /// Whether the word of a run says that it has no parasitics.
@@ -247,22 +331,22 @@ fn has_no_spef(run: &Run<'_>) -> bool
     run.spef == "none"
 }
 
-/// A script, behind parasitics that are read.
+/// Scripts, behind parasitics that are read.
 #[tactic(auto, using(crate::proofs::Stopping::stops_first, crate::proofs::Stopping::stops_behind))]
 fn from_spef<S: Shelf>(
     alloc: Global,
     shelf: &mut S,
     run: &Run<'_>,
-) -> Result<(Parasitics, Script), Stop>
+) -> Result<(Parasitics, Items<Script>), Stop>
     ensures map { S.holds shelf.new ≡ S.holds shelf.old }
     ensures rising { S.faults shelf.old ≤ S.faults shelf.new }
-    ensures value { IfOk result (λ got. Says (S.holds shelf.old) (run_words run.now).spef (SaysParasitics got.0) × Says (S.holds shelf.old) (run_words run.now).script (SaysScript got.1) × (S.faults shelf.new ≡ S.faults shelf.old)) }
-    ensures kept { IfOk result (λ got. (are_parasitics got.0.nets ≡ true) × IsScript got.1) }
-    ensures stop { IfErr result (λ stop. Stops (S.holds shelf.old) (run_words run.now) (S.faults shelf.old) (S.faults shelf.new) (role.Spef ∷ role.Session ∷ []) stop) }
+    ensures value { IfOk result (λ got. Says (S.holds shelf.old) (run_words run.now).spef (SaysParasitics got.0) × SayScripts (S.holds shelf.old) (run_words run.now).scripts got.1 × (S.faults shelf.new ≡ S.faults shelf.old)) }
+    ensures kept { IfOk result (λ got. (are_parasitics got.0.nets ≡ true) × All IsScript got.1 × (length got.1 ≡ length run.now.scripts.now)) }
+    ensures stop { IfErr result (λ stop. Stops (S.holds shelf.old) (run_words run.now) (S.faults shelf.old) (S.faults shelf.new) (role.Spef ∷ script_sources 1 (run_words run.now).scripts) stop) }
 {
     let parasitics = spef(alloc, shelf, run)?;
-    match session(alloc, shelf, run) {
-        Ok(script) => Ok((parasitics, script)),
+    match scripts(alloc, shelf, run) {
+        Ok(scripts) => Ok((parasitics, scripts)),
         Err(stop) => {
             discard_parasitics(parasitics);
             Err(stop)
@@ -270,31 +354,35 @@ fn from_spef<S: Shelf>(
     }
 }
 
-/// The script of a run without parasitics.
+/// The scripts of a run without parasitics.
 fn without_spef<S: Shelf>(
     alloc: Global,
     shelf: &mut S,
     run: &Run<'_>,
-) -> Result<(Parasitics, Script), Stop>
+) -> Result<(Parasitics, Items<Script>), Stop>
     ensures map { S.holds shelf.new ≡ S.holds shelf.old }
     ensures rising { S.faults shelf.old ≤ S.faults shelf.new }
-    ensures value { IfOk result (λ got. (got.0 ≡ no_parasitics) × Says (S.holds shelf.old) (run_words run.now).script (SaysScript got.1) × (S.faults shelf.new ≡ S.faults shelf.old)) }
-    ensures kept { IfOk result (λ got. (are_parasitics got.0.nets ≡ true) × IsScript got.1) }
-    ensures stop { IfErr result (λ stop. Stops (S.holds shelf.old) (run_words run.now) (S.faults shelf.old) (S.faults shelf.new) (role.Session ∷ []) stop) }
+    ensures value { IfOk result (λ got. (got.0 ≡ no_parasitics) × SayScripts (S.holds shelf.old) (run_words run.now).scripts got.1 × (S.faults shelf.new ≡ S.faults shelf.old)) }
+    ensures kept { IfOk result (λ got. (are_parasitics got.0.nets ≡ true) × All IsScript got.1 × (length got.1 ≡ length run.now.scripts.now)) }
+    ensures stop { IfErr result (λ stop. Stops (S.holds shelf.old) (run_words run.now) (S.faults shelf.old) (S.faults shelf.new) (script_sources 1 (run_words run.now).scripts) stop) }
 {
-    let script = session(alloc, shelf, run)?;
+    let scripts = scripts(alloc, shelf, run)?;
     let parasitics = Parasitics {
         nets: Items::new(alloc),
     };
-    Ok((parasitics, script))
+    Ok((parasitics, scripts))
 }
 
-/// Parasitics and the script behind them.
-fn last<S: Shelf>(alloc: Global, shelf: &mut S, run: &Run<'_>) -> Result<(Parasitics, Script), Stop>
+/// Parasitics and the scripts behind them.
+fn last<S: Shelf>(
+    alloc: Global,
+    shelf: &mut S,
+    run: &Run<'_>,
+) -> Result<(Parasitics, Items<Script>), Stop>
     ensures map { S.holds shelf.new ≡ S.holds shelf.old }
     ensures rising { S.faults shelf.old ≤ S.faults shelf.new }
     ensures value { IfOk result (λ got. AreLast (S.holds shelf.old) (run_words run.now) got.0 got.1 × (S.faults shelf.new ≡ S.faults shelf.old)) }
-    ensures kept { IfOk result (λ got. (are_parasitics got.0.nets ≡ true) × IsScript got.1) }
+    ensures kept { IfOk result (λ got. (are_parasitics got.0.nets ≡ true) × All IsScript got.1 × (length got.1 ≡ length run.now.scripts.now)) }
     ensures stop { IfErr result (λ stop. Stops (S.holds shelf.old) (run_words run.now) (S.faults shelf.old) (S.faults shelf.new) (last_sources (run_words run.now)) stop) }
 {
     if has_no_spef(run) {
@@ -311,17 +399,17 @@ fn from_sdc<S: Shelf>(
     shelf: &mut S,
     run: &Run<'_>,
     units: &Units,
-) -> Result<(Constraints, Parasitics, Script), Stop>
+) -> Result<(Constraints, Parasitics, Items<Script>), Stop>
     requires { AreUnits (S.holds shelf.old) (run_words run.now) units.now }
     ensures map { S.holds shelf.new ≡ S.holds shelf.old }
     ensures rising { S.faults shelf.old ≤ S.faults shelf.new }
     ensures value { IfOk result (λ got. AreConstraints (S.holds shelf.old) (run_words run.now) got.0 × AreLast (S.holds shelf.old) (run_words run.now) got.1 got.2 × (S.faults shelf.new ≡ S.faults shelf.old)) }
-    ensures kept { IfOk result (λ got. (are_constraints got.0 ≡ true) × (are_parasitics got.1.nets ≡ true) × IsScript got.2) }
+    ensures kept { IfOk result (λ got. (are_constraints got.0 ≡ true) × (are_parasitics got.1.nets ≡ true) × All IsScript got.2 × (length got.2 ≡ length run.now.scripts.now)) }
     ensures stop { IfErr result (λ stop. Stops (S.holds shelf.old) (run_words run.now) (S.faults shelf.old) (S.faults shelf.new) (role.Sdc ∷ last_sources (run_words run.now)) stop) }
 {
     let constraints = sdc(alloc, shelf, run, units)?;
     match last(alloc, shelf, run) {
-        Ok((parasitics, script)) => Ok((constraints, parasitics, script)),
+        Ok((parasitics, scripts)) => Ok((constraints, parasitics, scripts)),
         Err(stop) => {
             discard_constraints(constraints);
             Err(stop)
@@ -440,10 +528,11 @@ fn with_rest<S: Shelf>(
     ensures rising { S.faults shelf.old ≤ S.faults shelf.new }
     ensures value { IfOk result (λ got. AreDocuments (S.holds shelf.old) (run_words run.now) got × (S.faults shelf.new ≡ S.faults shelf.old)) }
     ensures kept { IfOk result AreKept }
+    ensures many { IfOk result (λ got. length got.scripts ≡ length run.now.scripts.now) }
     ensures stop { IfErr result (λ stop. Stops (S.holds shelf.old) (run_words run.now) (S.faults shelf.old) (S.faults shelf.new) (role.Sdc ∷ last_sources (run_words run.now)) stop) }
 {
     match from_sdc(alloc, shelf, run, &netted.libraries.units) {
-        Ok((sdc, spef, script)) => {
+        Ok((sdc, spef, scripts)) => {
             let Netted { libraries, netlist } = netted;
             let Libraries { early, late, .. } = libraries;
             Ok(Documents {
@@ -452,7 +541,7 @@ fn with_rest<S: Shelf>(
                 netlist,
                 sdc,
                 spef,
-                script,
+                scripts,
             })
         }
         Err(stop) => {
@@ -463,7 +552,7 @@ fn with_rest<S: Shelf>(
 }
 
 /// The values of the documents of a run, each fetched and at once read: libraries, netlist,
-/// constraints in the units of the late library, parasitics and script.
+/// constraints in the units of the late library, parasitics, and the scripts in order.
 ///
 /// # Errors
 ///
@@ -474,6 +563,7 @@ pub fn read_all<S: Shelf>(alloc: Global, shelf: &mut S, run: &Run<'_>) -> Result
     ensures rising { S.faults shelf.old ≤ S.faults shelf.new }
     ensures value { IfOk result (λ got. AreDocuments (S.holds shelf.old) (run_words run.now) got × (S.faults shelf.new ≡ S.faults shelf.old)) }
     ensures kept { IfOk result AreKept }
+    ensures many { IfOk result (λ got. length got.scripts ≡ length run.now.scripts.now) }
     ensures stop { IfErr result (λ stop. Stops (S.holds shelf.old) (run_words run.now) (S.faults shelf.old) (S.faults shelf.new) (sources (run_words run.now)) stop) }
 {
     let netted = to_netlist(alloc, shelf, run)?;

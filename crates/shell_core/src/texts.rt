@@ -74,9 +74,10 @@ pub fn design_line(alloc: Global, fault: &Fault) -> Result<Vec<u8>, Memory>
 pub fn refusal_line(alloc: Global, role: Role, code: Code, place: u64) -> Result<Vec<u8>, Memory>
     ensures { IfOk result (λ text. text.items ≡ refusal_line role (record { code = code; at = place })) }
 {
+    let label = role.label(alloc)?;
     let mut text = Vec::new(alloc);
     push(&mut text, b"fault")?;
-    push_word(&mut text, role.label().as_bytes())?;
+    push_word(&mut text, label.as_slice())?;
     push_word(&mut text, code.label().as_bytes())?;
     push_number(alloc, &mut text, place)?;
     push_end(&mut text)?;

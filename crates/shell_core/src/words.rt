@@ -1,13 +1,13 @@
 //! The words of the command line.
 
-ghost use Rattle.std.specs.Prelude.{◌≡◌, ◌<◌, ◌≤◌, map, option_map, IfSome, MatchOption};
+ghost use Rattle.std.specs.Prelude.{◌≡◌, ◌<◌, ◌≤◌, map, length, option_map, IfSome, MatchOption};
 ghost use Rattle.std.specs.Char.{is_ascii_digit};
 ghost use Rattle.std.specs.List.{list_all};
 ghost use Rattle.std.specs.String.{string_bytes};
 ghost use Rattle.shell_core.specs.Words.{number_behind, workers_of, is_operand, word, run_of, run_words};
 
-/// What a command line asks for: the names of the documents, and the number of workers, from 1 to
-/// 32. It borrows the words.
+/// What a command line asks for: the names of the documents, with those of 1 to 16 scripts, one for
+/// each session, and the number of workers, from 1 to 32. It borrows the words.
 #[derive(Clone, Copy, Drop)]
 pub struct Run<'a> {
     pub early: &'a str,
@@ -16,7 +16,7 @@ pub struct Run<'a> {
     pub sdc: &'a str,
     pub spef: &'a str,
     pub workers: u32,
-    pub script: &'a str,
+    pub scripts: &'a [String],
 }
 
 fn all_digits(text: &[u8]) -> bool
@@ -74,7 +74,7 @@ fn all_operands(words: &[String]) -> bool
     true
 }
 
-fn word_at(words: &[String], at: usize) -> &str
+pub(crate) fn word_at(words: &[String], at: usize) -> &str
     ensures { result.now ≡ word (map string_bytes words.now) at }
 {
     match words.get(at) {
@@ -84,13 +84,14 @@ fn word_at(words: &[String], at: usize) -> &str
 }
 
 /// The run that the words after the program's name ask for. They are exactly `run EARLY LATE
-/// NETLIST SDC SPEF WORKERS SCRIPT`, none empty and none beginning with `-`; WORKERS has 1 to 20
-/// digits and a value from 1 to 32. There is no run exactly where they are not.
+/// NETLIST SDC SPEF WORKERS SCRIPT ..`, with 1 to 16 scripts, none empty and none beginning with `-`;
+/// WORKERS has 1 to 20 digits and a value from 1 to 32. There is no run exactly where they are not.
 pub fn read_words(words: &[String]) -> Option<Run<'_>>
     ensures run { option_map run_words result ≡ run_of (map string_bytes words.now) }
     ensures workers { IfSome result (λ run. (1 ≤ run.workers) × (run.workers ≤ 32)) }
+    ensures scripts { IfSome result (λ run. (1 ≤ length run.scripts.now) × (length run.scripts.now ≤ 16)) }
 {
-    if words.len() != 8 || word_at(words, 0) != "run" || !all_operands(words) {
+    if words.len() < 8 || words.len() > 23 || word_at(words, 0) != "run" || !all_operands(words) {
         return None;
     }
     match workers(word_at(words, 6).as_bytes()) {
@@ -102,7 +103,7 @@ pub fn read_words(words: &[String]) -> Option<Run<'_>>
             sdc: word_at(words, 4),
             spef: word_at(words, 5),
             workers,
-            script: word_at(words, 7),
+            scripts: &words[7..],
         }),
     }
 }
