@@ -8,6 +8,6 @@ returns-in-Ok-clause-value g c =
     let first = c.in_ok-constraints.ensures.value in
     let last = c.in-Ok.ensures.value in (
       first.0,
-      subst (λ docs. AreLast docs (run_words c.args.run.now) c.in-Ok.parasitics c.in-Ok.script) c.sdc.ensures.map last.0,
+      subst (λ docs. AreLast docs (run_words c.args.run.now) c.in-Ok.parasitics c.in-Ok.scripts) c.sdc.ensures.map last.0,
       last.1 ∙ first.1,
     )
