@@ -1,6 +1,6 @@
 -- What is known while the scripts of a run are read, one after the other.
 
-use Rattle.std.specs.Prelude.{◌≡◌, ◌≤◌, ℕ, ◌+◌, List, length, take, drop}
+use Rattle.std.specs.Prelude.{◌≡◌, ℕ, ◌+◌, List, length, take, drop}
 use Rattle.std.specs.List.{All}
 use Rattle.timing_defs.specs.declared.scripts.Script.{Script}
 use Rattle.shell_core.specs.declared.documents.Stop.{Stop}

@@ -284,7 +284,6 @@ fn joined(mut scripts: Items<Script>, script: Script) -> Result<Items<Script>, S
 }
 
 /// Scripts that were read, and the next one.
-#[tactic(auto, using(crate::proofs::ReadLemmas::read_more, crate::proofs::ReadLemmas::stops_here))]
 fn with_next<S: Shelf>(
     alloc: Global,
     shelf: &mut S,
