@@ -1,13 +1,14 @@
 //! What a run ends with: its status and its text.
 
-ghost use Rattle.std.specs.Prelude.{◌≡◌, ◌≤◌, ◌∷◌, [], false, IfOk};
+ghost use Rattle.std.specs.Prelude.{◌≡◌, ◌≤◌, false, IfOk};
+ghost use Rattle.std.specs.List.{list_any};
 ghost use Rattle.shell_core.specs.Documents.{design_line};
 ghost use Rattle.shell_core.specs.Answers.{is_wanting, is_refusal, has_refusal, status_of};
 
 use crate::texts::design_line;
 use sta_units::Memory;
 use std::alloc::Global;
-use timing_defs::{Answer, Fault, Row};
+use timing_defs::{Answer, Fault, Row, Transcript};
 
 /// What a run ends with: its status, and what it writes.
 #[derive(Drop)]
@@ -32,12 +33,21 @@ fn has_refusal(rows: &[Row]) -> bool
     rows.iter().any(|row| is_refusal(&row.answer))
 }
 
-/// The status of a run that is answered with these rows: 1 where some row is refused, no or not yet.
-pub fn status(rows: &[Row]) -> u8
-    ensures status { result ≡ status_of (record { rows = rows.now } ∷ []) }
+fn some_refusal(transcripts: &[Transcript]) -> bool
+    ensures { result ≡ list_any (λ t. has_refusal t.rows) transcripts.now }
+{
+    transcripts
+        .iter()
+        .any(|transcript| has_refusal(transcript.rows.as_slice()))
+}
+
+/// The status of a run that is answered with these transcripts: 1 where some row is refused, no or not
+/// yet.
+pub fn status(transcripts: &[Transcript]) -> u8
+    ensures status { result ≡ status_of transcripts.now }
     ensures low { result ≤ 3 }
 {
-    if has_refusal(rows) { 1 } else { 0 }
+    if some_refusal(transcripts) { 1 } else { 0 }
 }
 
 /// Whether a fault is want of memory.
