@@ -39,7 +39,7 @@ module _ (map : List (List ℕ × List ℕ)) (run : RunWords) where
       let units : left.0 ≡ right.0 = left.1.2 ∙ ap units_of_text texts ∙ sym right.1.2 in
       sym left.2 ∙ ap (λ u. constraint_faults u text) units ∙ right.2
   one_list Spef text xs ys left right = sym left ∙ right
-  one_list Session text xs ys left right = sym left ∙ right
+  one_list (Session number) text xs ys left right = sym left ∙ right
 
   refused_here : (role : Role) (wrong : Wrong) → HasText map run role → (text : List ℕ) (faults : List Wrong) → held map (name_of run role) ≡ Some text
       → HasFaults (Some map) run role text faults → least_from None faults ≡ Some wrong → ⊥
@@ -84,7 +84,7 @@ design_answers d scripts status text sound (inr answer) = counted status (list_a
 documents_answer : (docs : Documents) (status : ℕ) (text : List ℕ) → AreSound docs → DocumentsEnd docs status text → IsAnswered status
 documents_answer docs status text sound (inl refused) = absurd (false≢true (ap is_ok (sym refused.1.1 ∙ sound.1)))
 documents_answer docs status text sound (inr ended) =
-    design_answers ended.0 (docs.script ∷ []) status text
+    design_answers ended.0 docs.scripts status text
     (subst IsFaultless (ap (λ (r : Result Design Fault). ok_design r ended.0) (sym sound.1 ∙ ended.1)) sound.2) ended.2
 
 module _ (map : List (List ℕ × List ℕ)) (run : RunWords) (f f' : ℕ) (texts : HasTexts map run (sources run))

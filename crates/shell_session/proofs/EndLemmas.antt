@@ -1,5 +1,5 @@
 -- How a run ends, and what stands at the sink then.
-use Rattle.std.proofs.Common.{◌≡◌, ◌⊎◌, ℕ, ◌≤◌, true, false, List, [], ◌∷◌, Option, Some, None, Result, Ok, Err, refl, sym, ap, ◌∙◌, inl, inr, append-nil}
+use Rattle.std.proofs.Common.{◌≡◌, ◌⊎◌, ℕ, ◌≤◌, true, false, List, [], Option, Some, None, Result, Ok, Err, refl, sym, ap, ◌∙◌, inl, inr, append-nil}
 use Rattle.std.specs.Prelude.{IfOk}
 use Rattle.std.proofs.lemmas.Bool.{false≢true}
 use Rattle.sta_outside.specs.Shelf.{Rose}
@@ -89,5 +89,5 @@ module _ (docs : Documents) (status : ℕ) (text : List ℕ) where
   documents_refused x refused not is written = inl (is, (x, caused x (λ y. linked_of docs ≡ Err y) refused not, written))
 
   -- and whose documents are
-  pub documents_linked : (d : Design) → linked_of docs ≡ Ok d → DesignEnds d (docs.script ∷ []) status text → DocumentsEnd docs status text
+  pub documents_linked : (d : Design) → linked_of docs ≡ Ok d → DesignEnds d docs.scripts status text → DocumentsEnd docs status text
   documents_linked d linked ended = inr (d, linked, ended)

@@ -1,6 +1,7 @@
+pub mod AnswerLaws
 pub mod BackLaws
 pub mod Completeness
+pub mod EachLaws
 pub mod EndLemmas
-pub mod RowLaws
-pub mod RunLaws
+pub mod Sent
 pub mod WholeLaws

@@ -1,2 +1,2 @@
+pub mod Each
 pub mod Serving
-pub mod Session

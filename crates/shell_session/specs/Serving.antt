@@ -6,23 +6,23 @@ use Rattle.sta_outside.specs.Sink.{Appends, AppendsPrefix}
 use Rattle.timing_defs.specs.declared.edits.Entry.{Entry}
 use Rattle.timing_defs.specs.declared.faults.Fault.{Fault}
 use Rattle.timing_defs.specs.declared.design.Design.{Design}
-use Rattle.timing_defs.specs.declared.scripts.Row.{Row}
 use Rattle.timing_defs.specs.declared.scripts.Script.{Script}
 use Rattle.timing_defs.specs.declared.scripts.Transcript.{Transcript}
+use Rattle.timing_defs.specs.declared.scripts.Totals.{Totals}
 use Rattle.timing_defs.specs.Edits.{linked}
 use Rattle.timing_defs.specs.Checks.{Faulty}
-use Rattle.timing_defs.specs.Output.{journal_text}
+use Rattle.timing_defs.specs.Output.{journal_text, output_text}
+use Rattle.timing_defs.specs.Reports.{AreTotals}
 use Rattle.timing_defs.specs.Sessions.{IsWhole, IsOutput}
 use Rattle.sta_text.specs.declared.faults.Wrong.{Wrong}
 use Rattle.eco_journal.specs.Journal.{entries_of}
 use Rattle.session_engine.specs.Soundness.{IsFaultless}
-use Rattle.session_engine.specs.Versions.{Versioned, IsVersion}
+use Rattle.session_engine.specs.Versions.{Versioned}
 use Rattle.shell_core.specs.Answers.{status_of}
 use Rattle.shell_core.specs.Words.{RunWords, run_of}
 use Rattle.shell_core.specs.declared.documents.Role.{Role}
 use Rattle.shell_core.specs.declared.documents.How.{How}
 use Rattle.shell_core.specs.declared.documents.Documents.{Documents}
-use Rattle.shell_session.specs.Session.{IsWritten}
 use Rattle.shell_core.specs.Documents.{Docs, sources, name_of, HasFaults, FirstRefused, ShelfFails, AreDocuments, words_line, design_line, refusal_line, shelf_line}
 
 -- the answer of a run of scripts over a design: the whole output of a journal and transcripts, whose
@@ -33,11 +33,16 @@ IsAnswer d scripts status text =
     × IsWhole d 0 scripts journal ts × IsOutput d 0 journal ts text × (status ≡ status_of ts)
     × (entries_of (journal_text journal) ≡ Ok journal)
 
--- how a session ends that has answered its script: its output, and the status of its rows
-pub record IsSessionEnd (v : Versioned) (rows : List Row) (status : ℕ) (text : List ℕ) : Type 0 where
-  pub stands : IsVersion v
-  pub written : IsWritten v rows text
-  pub counted : status ≡ status_of (record { rows = rows } ∷ [])
+-- the output of sessions that left this version and these transcripts
+abbrev pub IsOutputOf : Versioned → List Transcript → List ℕ → Type 0
+IsOutputOf v ts text =
+    (totals : Totals) × AreTotals v.stored.design v.number totals
+    × (text ≡ output_text v.journal ts v.stored.design.constraints.clocks totals)
+
+-- how sessions end that have answered their scripts: with their output, and the status of their rows
+pub record AreEnded (v : Versioned) (ts : List Transcript) (status : ℕ) (text : List ℕ) : Type 0 where
+  pub written : IsOutputOf v ts text
+  pub counted : status ≡ status_of ts
 
 -- how a run over a design ends: with a fault of the design, or with an answer where it has none
 abbrev pub DesignEnds : Design → List Script → ℕ → List ℕ → Type 0
@@ -52,7 +57,7 @@ linked_of docs = linked docs.early docs.late docs.netlist docs.sdc docs.spef
 abbrev pub DocumentsEnd : Documents → ℕ → List ℕ → Type 0
 DocumentsEnd docs status text =
     ((status ≡ 3) × ((x : Fault) × (linked_of docs ≡ Err x) × (text ≡ design_line x)))
-    ⊎ ((d : Design) × (linked_of docs ≡ Ok d) × DesignEnds d (docs.script ∷ []) status text)
+    ⊎ ((d : Design) × (linked_of docs ≡ Ok d) × DesignEnds d docs.scripts status text)
 
 -- how a run ends, with the line or the output that is written
 abbrev pub RunEnds : Docs → ℕ → ℕ → RunWords → ℕ → List ℕ → Type 0

@@ -1,15 +1,26 @@
 //! Values that are given up where a run ends: each is dropped at one place.
 
-use timing_defs::{Entry, Fault, Items, Query, Row, Script, Transcript};
+use crate::sessions::Ended;
+use session_engine::Version;
+use timing_defs::{Entry, Fault, Items, Script, Transcript};
+use version_board::{Board, Seat};
 
-pub(crate) fn discard_query(_query: Option<Query>) {}
+pub(crate) fn discard_board(_board: Board<Version>) {}
 
-pub(crate) fn discard_rows(_rows: Items<Row>) {}
+pub(crate) fn discard_seat(_seat: Seat<Version>) {}
+
+pub(crate) fn discard_seats(_seats: Vec<Seat<Version>>) {}
+
+pub(crate) fn discard_ended(_ended: Vec<Ended>) {}
+
+pub(crate) fn discard_transcript(_transcript: Transcript) {}
+
+pub(crate) fn discard_told(_transcripts: Vec<Transcript>) {}
 
 pub(crate) fn discard_transcripts(_transcripts: Items<Transcript>) {}
 
 pub(crate) fn discard_entries(_entries: Items<Entry>) {}
 
-pub(crate) fn discard_script(_script: Script) {}
+pub(crate) fn discard_scripts(_scripts: Items<Script>) {}
 
 pub(crate) fn discard_fault(_fault: Fault) {}

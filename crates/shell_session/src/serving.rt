@@ -1,6 +1,6 @@
 //! The top call: one run of the server.
 
-ghost use Rattle.std.specs.Prelude.{◌≡◌, ◌≤◌, map, IfOk};
+ghost use Rattle.std.specs.Prelude.{◌≡◌, ◌≤◌, length, map, IfOk};
 ghost use Rattle.std.specs.String.{string_bytes};
 ghost use Rattle.shell_core.specs.Words.{run_words};
 ghost use Rattle.shell_session.specs.Serving.{RunEnds, Ends, Written, NothingRefuses, IsAnswered};
@@ -12,6 +12,7 @@ use shell_core::{
 use sta_outside::{Gate, Shelf, Sink};
 use sta_units::Memory;
 use std::alloc::Global;
+use std::sync::Wait;
 use std::thread::Threads;
 
 /// How a run ended: 0 where all rows are answers, 1 where some row is refused, no or not yet, 2 where
@@ -21,7 +22,7 @@ pub type Status = u8;
 
 /// How a run ends, by its words.
 #[tactic(auto, using(crate::proofs::EndLemmas::run_read, crate::proofs::EndLemmas::run_refused, crate::proofs::EndLemmas::run_missing))]
-fn run_end<H: Threads + Sync, S: Shelf, G: Gate>(
+fn run_end<H: Threads + Wait + Sync, S: Shelf, G: Gate>(
     rt: &H,
     alloc: Global,
     shelf: &mut S,
@@ -30,6 +31,7 @@ fn run_end<H: Threads + Sync, S: Shelf, G: Gate>(
 ) -> Result<End, Memory>
     requires some { 1 ≤ run.now.workers }
     requires most { run.now.workers ≤ 32 }
+    requires count { (1 ≤ length run.now.scripts.now) × (length run.now.scripts.now ≤ 16) }
     ensures ends { IfOk result (λ end. RunEnds (S.holds shelf.old) (S.faults shelf.old) (S.faults shelf.new) (run_words run.now) end.status end.text.items) }
     ensures kept { S.holds shelf.new ≡ S.holds shelf.old }
     ensures rising { S.faults shelf.old ≤ S.faults shelf.new }
@@ -55,7 +57,7 @@ fn run_end<H: Threads + Sync, S: Shelf, G: Gate>(
 
 /// How a run ends, and what it is to write.
 #[tactic(auto, using(crate::proofs::EndLemmas::ends_asked, crate::proofs::EndLemmas::ends_unasked))]
-fn ending<H: Threads + Sync, S: Shelf, G: Gate>(
+fn ending<H: Threads + Wait + Sync, S: Shelf, G: Gate>(
     rt: &H,
     alloc: Global,
     words: &[String],
@@ -82,7 +84,7 @@ fn ending<H: Threads + Sync, S: Shelf, G: Gate>(
 
 /// Runs the server once, by its words.
 #[tactic(auto, using(crate::proofs::EndLemmas::written_whole, crate::proofs::EndLemmas::written_partly, crate::proofs::EndLemmas::written_nothing))]
-fn written<H: Threads + Sync, S: Shelf, K: Sink, G: Gate>(
+fn written<H: Threads + Wait + Sync, S: Shelf, K: Sink, G: Gate>(
     rt: &H,
     alloc: Global,
     words: &[String],
@@ -104,12 +106,14 @@ fn written<H: Threads + Sync, S: Shelf, K: Sink, G: Gate>(
     }
 }
 
-/// Runs the server once: the words after the program's name ask for a run of documents and a script,
-/// which are fetched from the shelf and read. The script is answered over the design of the documents,
-/// each question by the full analysis of the design after the ECOs before it, and what the run writes
-/// is put into the sink in one piece. Takes the work of its readers, of one full analysis for the first
-/// version and for each ECO, and of its questions.
-pub fn serve<H: Threads + Sync, S: Shelf, K: Sink, G: Gate>(
+/// Runs the server once: the words after the program's name ask for a run of documents and 1 to 16
+/// scripts, which are fetched from the shelf and read. A session for each script answers it over the
+/// design of the documents, all beside each other: each question by the full analysis of the design
+/// after the entries of the journal that its session had seen, each ECO by one entry or its fault. What
+/// the run writes is put into the sink in one piece. Takes the work of its readers, of one full analysis
+/// for the first version, of one analysis for each ECO that is prepared, and of its questions. It waits
+/// for turns of its sessions.
+pub fn serve<H: Threads + Wait + Sync, S: Shelf, K: Sink, G: Gate>(
     rt: &H,
     alloc: Global,
     words: &[String],

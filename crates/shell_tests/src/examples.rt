@@ -15,6 +15,7 @@ use documents::DOCUMENTS;
 use shell_session::Status;
 use std::alloc::Global;
 use std::process::Abort;
+use std::sync::Wait;
 use std::thread::Threads;
 
 /// The run of two inverters.
@@ -34,7 +35,7 @@ type Documents = &'static [(&'static str, &'static str)];
 type Example = (&'static str, Documents, &'static str, Status, &'static str);
 
 /// The status of a run over the shared documents, some others and the script `s1`, and what it writes.
-fn answer<H: Abort + Threads + Sync>(
+fn answer<H: Abort + Threads + Wait + Sync>(
     rt: &H,
     alloc: Global,
     line: &str,
@@ -49,7 +50,7 @@ fn answer<H: Abort + Threads + Sync>(
 }
 
 /// Compares an example with what its run ends with.
-fn compare<H: Abort + Threads + Sync>(rt: &H, alloc: Global, example: &Example) {
+fn compare<H: Abort + Threads + Wait + Sync>(rt: &H, alloc: Global, example: &Example) {
     let (line, others, script, status, text) = *example;
     let (ended, written) = answer(rt, alloc, line, others, script);
     let written = String::from_utf8(written).expect(rt, "a text is written");
@@ -61,7 +62,7 @@ fn compare<H: Abort + Threads + Sync>(rt: &H, alloc: Global, example: &Example) 
 }
 
 /// Compares examples with what their runs end with.
-fn compare_all<H: Abort + Threads + Sync>(rt: &H, alloc: Global, examples: &[Example]) {
+fn compare_all<H: Abort + Threads + Wait + Sync>(rt: &H, alloc: Global, examples: &[Example]) {
     for example in examples {
         compare(rt, alloc, example);
     }

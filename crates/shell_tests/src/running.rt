@@ -4,6 +4,7 @@ use shell_session::{Status, serve};
 use sta_outside::{MemShelf, MemSink, NoGate};
 use std::alloc::Global;
 use std::process::Abort;
+use std::sync::Wait;
 use std::thread::Threads;
 
 /// The names and the texts of documents.
@@ -43,7 +44,7 @@ fn words_of(rt: &impl Abort, alloc: Global, line: &str) -> Vec<String> {
 
 /// The status of a run by the words of a line, and what it writes into a sink of so much room. The shelf fails at fetches as `fails`
 /// plans it.
-pub(crate) fn run<H: Abort + Threads + Sync>(
+pub(crate) fn run<H: Abort + Threads + Wait + Sync>(
     rt: &H,
     alloc: Global,
     line: &str,

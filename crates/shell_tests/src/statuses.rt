@@ -4,6 +4,7 @@ use crate::running::{Texts, run};
 use shell_session::Status;
 use std::alloc::Global;
 use std::process::Abort;
+use std::sync::Wait;
 use std::thread::Threads;
 
 const LIBRARY: &str = "library (a) { time_unit : \"1ps\"; capacitive_load_unit (1, ff);
@@ -100,7 +101,7 @@ const ROWS: [Row; 15] = [
 ];
 
 /// Compares a row with what its run ends with.
-fn compare<H: Abort + Threads + Sync>(rt: &H, alloc: Global, row: &Row) {
+fn compare<H: Abort + Threads + Wait + Sync>(rt: &H, alloc: Global, row: &Row) {
     let (line, netlist, script, fails, room, status, text) = *row;
     let mut texts = Texts::new(alloc);
     let documents = [

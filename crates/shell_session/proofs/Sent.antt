@@ -1,0 +1,63 @@
+-- What a session leaves may go from thread to thread: each type in its turn, since one search through all of them is too long.
+use denote.Param.Send.{IsSend, sendable}
+use Rattle.std.proofs.Crossing.{crosses}
+use Rattle.sta_units.proofs.units.Fs.TheSendSync as fs_sent
+use Rattle.sta_units.proofs.units.Memory.TheSendSync as memory_sent
+use Rattle.timing_defs.proofs.names.Name.TheSendSync as name_sent
+use Rattle.timing_defs.proofs.items.Items.TheSendSync as items_sent
+use Rattle.timing_defs.proofs.kinds.Split.TheSendSync as split_sent
+use Rattle.timing_defs.proofs.kinds.Tran.TheSendSync as tran_sent
+use Rattle.timing_defs.proofs.kinds.Kind.TheSendSync as kind_sent
+use Rattle.timing_defs.proofs.edits.Eco.TheSendSync as eco_sent
+use Rattle.timing_defs.proofs.edge_times.EdgeTime.TheSendSync as time_sent
+use Rattle.timing_defs.proofs.rows.Path.TheSendSync as path_sent
+use Rattle.timing_defs.proofs.reports.Candidate.TheSendSync as candidate_sent
+use Rattle.timing_defs.proofs.reports.EndRow.TheSendSync as end_sent
+use Rattle.timing_defs.proofs.reports.Advice.TheSendSync as advice_sent
+use Rattle.timing_defs.proofs.faults.Fault.TheSendSync as fault_sent
+use Rattle.timing_defs.proofs.faults.QueryFault.TheSendSync as query_fault_sent
+use Rattle.timing_defs.specs.contracts.reports.Query as query
+use Rattle.timing_defs.specs.contracts.reports.Report as report
+use Rattle.timing_defs.specs.contracts.scripts.Answer as answer
+use Rattle.timing_defs.specs.contracts.scripts.Row as row
+use Rattle.timing_defs.specs.contracts.scripts.Transcript as transcript
+use Rattle.timing_defs.proofs.reports.Query.TheLaws.TheKnot as query_knot
+use Rattle.timing_defs.proofs.reports.Report.TheLaws.TheKnot as report_knot
+use Rattle.version_board.proofs.boards.Seat.TheSendSync as seat_sent
+use Rattle.session_engine.proofs.versions.Version.TheSendSync as version_sent
+use Rattle.shell_session.specs.contracts.sessions.Ended as ended
+
+ruleset parts = (name_sent.the_send, items_sent.the_send, split_sent.the_send, split_sent.the_field_send, tran_sent.the_send, tran_sent.the_field_send, kind_sent.the_send, kind_sent.the_field_send, eco_sent.the_send, eco_sent.the_field_send, time_sent.the_send, time_sent.the_field_send, path_sent.the_send, path_sent.the_field_send, candidate_sent.the_send, candidate_sent.the_field_send, end_sent.the_send, end_sent.the_field_send, advice_sent.the_send, advice_sent.the_field_send, fault_sent.the_send, fault_sent.the_field_send, query_fault_sent.the_send, query_fault_sent.the_field_send, fs_sent.the_send, fs_sent.the_field_send, memory_sent.the_send, memory_sent.the_field_send)
+
+query_send : IsSend query.the_row
+query_send = search (query_knot.crosses, parts, crosses, sendable) depth 64 fits 20000
+
+query_field_send : IsSend query.the_field.row
+query_field_send = search (query_knot.crosses, parts, crosses, sendable) depth 64 fits 20000
+
+report_send : IsSend report.the_row
+report_send = let a = query_send in let b = query_field_send in search (report_knot.crosses, parts, crosses, sendable) depth 64 fits 20000
+
+report_field_send : IsSend report.the_field.row
+report_field_send = let a = query_send in let b = query_field_send in search (report_knot.crosses, parts, crosses, sendable) depth 64 fits 20000
+
+answer_send : IsSend answer.the_row
+answer_send = let a = report_send in let b = report_field_send in search (parts, crosses, sendable) depth 64 fits 20000
+
+answer_field_send : IsSend answer.the_field.row
+answer_field_send = let a = report_send in let b = report_field_send in search (parts, crosses, sendable) depth 64 fits 20000
+
+row_send : IsSend row.the_row
+row_send = let a = query_send in let b = query_field_send in let c = answer_send in let d = answer_field_send in search (parts, crosses, sendable) depth 64 fits 20000
+
+row_field_send : IsSend row.the_field.row
+row_field_send = let a = query_send in let b = query_field_send in let c = answer_send in let d = answer_field_send in search (parts, crosses, sendable) depth 64 fits 20000
+
+transcript_send : IsSend transcript.the_row
+transcript_send = let a = row_send in let b = row_field_send in search (parts, crosses, sendable) depth 64 fits 20000
+
+transcript_field_send : IsSend transcript.the_field.row
+transcript_field_send = let a = row_send in let b = row_field_send in search (parts, crosses, sendable) depth 64 fits 20000
+
+pub ended_send : IsSend ended.the_row
+ended_send = let a = transcript_send in let b = transcript_field_send in search (seat_sent.the_send, version_sent.the_send, version_sent.the_sync, parts, crosses, sendable) depth 64 fits 20000
