@@ -32,7 +32,7 @@ class Documents(unittest.TestCase):
                 if file:
                     text = (folder / f"{file}.antt").read_text()
                     for name in re.findall(r"`(\w+)`", names):
-                        found = re.search(rf"(?m)^(?:\w+ )*pub {name} |\b{name} :", text)
+                        found = re.search(rf"(?m)^(?:\w+ )*pub (?:record |data )?{name} |\b{name} :", text)
                         self.assertTrue(found, f"{row[0]}: {crate}/specs/{file} has no {name}")
 
     def test_tests_of_the_index_are_there(self):
