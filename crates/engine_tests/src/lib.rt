@@ -3,7 +3,6 @@
 
 #[cfg(test)]
 mod bounded_slacks;
-#[cfg(test)]
 mod checked_cones;
 #[cfg(test)]
 mod clock_credits;
@@ -25,5 +24,4 @@ mod session_runs;
 mod walks;
 #[cfg(test)]
 mod wires;
-#[cfg(test)]
 mod written_nets;
