@@ -1,14 +1,20 @@
 #!/usr/bin/env python3
-"""Compares a built program with the plain timer of reference_timer.py: bench/compare.py PROGRAM FIRST COUNT.
+"""Compares a built program with the plain timer of reference_timer.py: bench/compare.py PROGRAM FIRST COUNT [SESSIONS].
 
 Each seed from FIRST on gives a random design of 25 to 1,200 cells, with or without parasitics, and a script of ten
 random ECOs with reports between; both outputs have to be the same, byte for byte. Where they differ, the documents and
-both outputs are kept in a folder compare-SEED of the caller's folder."""
+both outputs are kept in a folder compare-SEED of the caller's folder.
+
+With SESSIONS, 2 to 16, there are so many such scripts, each written for the design as it was read, so that some ECOs are
+refused for what another session did. The output is then checked by tools/check_sessions.py: each answer has to be the one
+that the program gives one session over the journal, and, but for refusals, the one that the plain timer gives."""
 import pathlib, random, subprocess, sys, tempfile
 
 HERE = pathlib.Path(__file__).resolve().parent
-sys.path.insert(0, str(HERE))
+sys.path[:0] = [str(HERE), str(HERE.parent / "tools")]
+import check_sessions
 import design
+import read_answers
 
 # cells that stand for each other
 
@@ -90,26 +96,84 @@ def script(r, n, ports):
         reports(4)
     return lines
 
-def one(program, seed):
-    """Whether both give the same for a seed."""
-    r = random.Random(seed)
+def design_of(r, seed):
+    """A random netlist with the number of its cells and of its blocks."""
     design.random = Seeded(seed)
     design.LEAF, design.BRANCH = r.choice([2, 5, 30]), r.choice([2, 4])
     cells = r.choice([25, 60, 120, 300, 700, 1200])
     n, blocks = design.build(cells)
+    return n, cells, blocks
+
+
+def write_documents(d, r, n, blocks, count):
+    """Writes the documents of a netlist and so many scripts; gives the words of the run."""
+    ports = {"clk": "input", "operand": f"input [{design.INPUTS - 1}:0]", "result": f"output [{blocks - 1}:0]"}
+    n.write(d / "v", ports)
+    (d / "l").write_text(design.HEAD + "".join(design.gate(g) for g in design.GATES) + design.register() + "}\n")
+    sdc = design.constraints(blocks, r.choice([700, 1000, 1500, 2001, 3000]))
+    sdc = sdc.replace("-early 0.95", f"-early {r.choice(['0.9', '0.95', '1', '0.873'])}").replace("-late 1.05", f"-late {r.choice(['1', '1.05', '1.1337'])}")
+    (d / "c").write_text(sdc)
+    names = ["s"] + [f"s{k}" for k in range(2, count + 1)]
+    for name in names:
+        (d / name).write_text("\n".join(script(r, n, ports)) + "\n")
+    with open(d / "p", "w") as out:
+        subprocess.run([sys.executable, HERE / "spef.py", "l", "v"], cwd=d, stdout=out, check=True)
+    spef = r.choice(["p", "p", "none"])
+    return ["run", "l", "l", "v", "c", spef, r.choice("124"), *names]
+
+
+def keep(seed, d, texts):
+    """Keeps the documents and some texts."""
+    kept = pathlib.Path(f"compare-{seed}")
+    kept.mkdir(exist_ok=True)
+    for f in d.iterdir():
+        (kept / f.name).write_bytes(f.read_bytes())
+    for name, text in texts.items():
+        (kept / name).write_text(text)
+
+
+def runner(program, words, d):
+    """Runs a script on the documents."""
+    def run(text):
+        (d / "alone").write_text(text)
+        ran = subprocess.run([*program, *words[:7], "alone"], cwd=d, stdout=subprocess.PIPE, text=True)
+        return read_answers.Output(ran.stdout)
+    return run
+
+
+def beside(program, seed, count):
+    """Whether several sessions are answered as one session alone is."""
+    r = random.Random(seed)
+    n, cells, blocks = design_of(r, seed)
     with tempfile.TemporaryDirectory() as d:
         d = pathlib.Path(d)
-        ports = {"clk": "input", "operand": f"input [{design.INPUTS - 1}:0]", "result": f"output [{blocks - 1}:0]"}
-        n.write(d / "v", ports)
-        (d / "l").write_text(design.HEAD + "".join(design.gate(g) for g in design.GATES) + design.register() + "}\n")
-        sdc = design.constraints(blocks, r.choice([700, 1000, 1500, 2001, 3000]))
-        sdc = sdc.replace("-early 0.95", f"-early {r.choice(['0.9', '0.95', '1', '0.873'])}").replace("-late 1.05", f"-late {r.choice(['1', '1.05', '1.1337'])}")
-        (d / "c").write_text(sdc)
-        (d / "s").write_text("\n".join(script(r, n, ports)) + "\n")
-        with open(d / "p", "w") as out:
-            subprocess.run([sys.executable, HERE / "spef.py", "l", "v"], cwd=d, stdout=out, check=True)
-        spef = r.choice(["p", "p", "none"])
-        words = ["run", "l", "l", "v", "c", spef, r.choice("124"), "s"]
+        words = write_documents(d, r, n, blocks, count)
+        got = subprocess.run([program] + words, cwd=d, capture_output=True, text=True)
+        faults = [f"status {got.returncode}"] if got.returncode not in (0, 1) else []
+        if not faults:
+            scripts = [read_answers.read_script((d / it).read_text()) for it in words[7:]]
+            output = read_answers.Output(got.stdout)
+            for timer in ([program], [sys.executable, str(HERE / "reference_timer.py")]):
+                sessions = check_sessions.Sessions(scripts, output, refusals=timer == [program])
+                sessions.look()
+                if not sessions.faults:
+                    sessions.compare(runner(timer, words, d))
+                faults += sessions.faults
+        rows = [row.sort for session in output.sessions for row in session] if not faults else []
+        print(seed, cells, words[5], f"DIFFERS: {faults[0]}" if faults else "same", got.returncode, f"{rows.count('accepted')} accepted, {rows.count('refused')} refused", flush=True)
+        if faults:
+            keep(seed, d, {"faults": "\n".join(faults), "got": got.stdout + got.stderr})
+        return not faults
+
+
+def one(program, seed):
+    """Whether both give the same for a seed."""
+    r = random.Random(seed)
+    n, cells, blocks = design_of(r, seed)
+    with tempfile.TemporaryDirectory() as d:
+        d = pathlib.Path(d)
+        words = write_documents(d, r, n, blocks, 1)
+        spef = words[5]
         want = subprocess.run([sys.executable, HERE / "reference_timer.py"] + words, cwd=d, capture_output=True, text=True)
         if want.returncode:
             print(seed, cells, "reference:", want.stderr[-200:])
@@ -118,19 +182,16 @@ def one(program, seed):
         ok = got.stdout == want.stdout and got.returncode == 0
         print(seed, cells, spef, "same" if ok else "DIFFERS", got.returncode, len(got.stdout), flush=True)
         if not ok:
-            keep = pathlib.Path(f"compare-{seed}")
-            keep.mkdir(exist_ok=True)
-            for f in d.iterdir():
-                (keep / f.name).write_bytes(f.read_bytes())
-            (keep / "want").write_text(want.stdout)
-            (keep / "got").write_text(got.stdout + got.stderr)
+            keep(seed, d, {"want": want.stdout, "got": got.stdout + got.stderr})
         return ok
 
 def main():
     program, first, count = pathlib.Path(sys.argv[1]).resolve(), int(sys.argv[2]), int(sys.argv[3])
-    differing = [seed for seed in range(first, first + count) if not one(program, seed)]
+    sessions = int(sys.argv[4]) if len(sys.argv) > 4 else 1
+    differing = [seed for seed in range(first, first + count) if not (beside(program, seed, sessions) if sessions > 1 else one(program, seed))]
     print(f"{count - len(differing)} of {count} the same", *differing)
     sys.exit(1 if differing else 0)
 
 
-main()
+if __name__ == "__main__":
+    main()

@@ -1,5 +1,5 @@
 #!/usr/bin/env python3
-"""Says where a refused document is at fault and why: explain_fault.py STATUS OUTPUT run EARLY LATE NETLIST SDC SPEF WORKERS SCRIPT
+"""Says where a refused document is at fault and why: explain_fault.py STATUS OUTPUT run EARLY LATE NETLIST SDC SPEF WORKERS SCRIPT [SCRIPT ..]
 
 STATUS is the exit status of the run, OUTPUT the file with what it wrote, and the words are those of the run. It prints
 FILE:LINE:COLUMN: CODE: the sentence of docs/FAULTS.md, the line with a caret, and what it finds of the cause. `./lizdrog` does this
@@ -16,7 +16,7 @@ import design_documents as documents
 FAULTS = pathlib.Path(__file__).resolve().parent.parent / "docs" / "FAULTS.md"
 ROLES = {"early": 1, "late": 2, "netlist": 3, "sdc": 4, "spef": 5}
 WIDTH = 150
-ORDER = "EARLY LATE NETLIST SDC SPEF WORKERS SCRIPT"
+ORDER = "EARLY LATE NETLIST SDC SPEF WORKERS SCRIPT.."
 COMMENTS = re.compile(r"^\s*#[^\n]*|//[^\n]*|/\*.*?\*/", re.S | re.M)
 KINDS = [(r"\s*library\b", "a library (Liberty)", ("early", "late")), (r"\s*module\b", "a netlist (Verilog)", ("netlist",)),
          (r"\s*\*SPEF", "parasitics (SPEF)", ("spef",)), (r"\s*(create_clock|set_units|set_input|set_output|set sdc_version)", "constraints (SDC)", ("sdc",)),

@@ -66,10 +66,10 @@ class Row:
 
 
 class Output:
-    """The output of a run: the ECOs of its journal, the rows of its sessions, and its last line."""
+    """The output of a run: the ECOs of its journal with the sessions that made them, the rows of its sessions, and its last line."""
 
     def __init__(self, text):
-        self.ecos, self.sessions, self.final, self.rows = [], [], None, []
+        self.ecos, self.makers, self.sessions, self.final, self.rows = [], [], [], None, []
         lines, at = text.split("\n"), 0
         if not lines[0].startswith("journal"):
             raise ValueError(f"this is no output of a run: {lines[0][:60]}")
@@ -78,6 +78,7 @@ class Output:
             at += 1
             if words[0] == "entry":
                 self.ecos.append(lines[at:at + int(words[5])])
+                self.makers.append(int(words[3]))
                 at += int(words[5])
             elif words[0] == "session":
                 self.sessions.append([])

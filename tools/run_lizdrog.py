@@ -1,10 +1,10 @@
 #!/usr/bin/env python3
 """Lizdrog, a static timing server.
 
-  lizdrog [--proved] run EARLY LATE NETLIST SDC SPEF WORKERS SCRIPT
+  lizdrog [--proved] run EARLY LATE NETLIST SDC SPEF WORKERS SCRIPT [SCRIPT ..]
       EARLY, LATE  two libraries (Liberty), or one of them twice   NETLIST  a module of gates (Verilog)
       SDC          constraints                                     SPEF     parasitics, or the word none
-      WORKERS      1 to 32 threads                                 SCRIPT   questions and edits, one a line
+      WORKERS      1 to 32 threads                                 SCRIPT   questions and edits, one a line; 1 to 16, each a session
   lizdrog --build    build the program without proof now, in minutes (`rt ci` proves it and builds it, in hours)
   lizdrog --version  the commit, the toolchain, and whether the program that would run is proved
   --proved           refuse to run a program that is not proved
@@ -33,6 +33,7 @@ FOLDER = QUICK.parent
 NO_PROGRAM = 70
 FIRST_BYTES = 65536
 LEAST_WORDS = {"run": 7, "generate": 3}
+MOST_SCRIPTS = 16
 
 
 def say(line):
@@ -234,7 +235,7 @@ def doubts(words):
     """What is seen of words that the program took for no command."""
     if any(it.startswith("-") for it in words):
         return "no name of a document begins with -: standard input is /dev/stdin"
-    return "run takes one script so far" if words[0] == "run" and len(words) > LEAST_WORDS["run"] + 1 else "these words are no command"
+    return f"run takes {MOST_SCRIPTS} scripts at most" if words[0] == "run" and len(words) > LEAST_WORDS["run"] + MOST_SCRIPTS else "these words are no command"
 
 
 def serve(given, words):

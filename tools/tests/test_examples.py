@@ -41,6 +41,15 @@ class Pages(unittest.TestCase):
         for block in given[given.index(run) + 1:]:
             self.assertIn(block + "\n", out)
 
+    def test_two_engineers(self):
+        """What does not hang on the order of the sessions; test_sessions.py looks at the rest."""
+        given = blocks(EXAMPLES / "two-engineers" / "README.md")
+        commands = [it for it in given if it.startswith(("cd ", "../"))]
+        out = self.run_blocks(commands, "")
+        for block in given:
+            if block not in commands and not block.startswith("journal"):
+                self.assertIn(block + "\n", out)
+
     @unittest.skipUnless(LIBRARY.exists(), "no library for examples/pulse-width: apt-get install qflow-tech-osu018")
     def test_walk(self):
         given = blocks(EXAMPLES / "README.md")

@@ -1,0 +1,134 @@
+"""The checker of several sessions, on rows written by hand and, where there is a program, on its runs."""
+import pathlib
+import re
+import shutil
+import tempfile
+import unittest
+
+import common
+import check_sessions
+import read_answers
+
+EXAMPLE = common.TOP / "examples" / "two-engineers"
+ONE = "report_wns setup\nrepower_gate g1 BUF\nreport_wns setup\n"
+TWO = "repower_gate g1 BUFX\nbegin_eco\nremove_gate b1\nremove_gate b2\ncommit_eco\nawait 2 10\ntake\nreport_path q setup\n"
+OUTPUT = """journal 1 2
+entry 1 session 2 edits 2
+remove_gate b1
+remove_gate b2
+entry 2 session 1 edits 1
+repower_gate g1 BUF
+session 1 rows 3
+1 0 wns 5.000
+2 2 accepted
+3 2 wns 7.000
+session 2 rows 5
+1 0 refused E3 BUFX
+2 1 accepted
+3 2 reached
+4 2 taken
+5 2 path setup q slack 7.000 credit 0.000 from clk rise to clk rise nodes 1
+q rise 3.000
+final 2 setup 7.000 0.000 hold none 0.000
+"""
+ALONE = """journal 1 2
+entry 1 session 1 edits 2
+remove_gate b1
+remove_gate b2
+entry 2 session 1 edits 1
+repower_gate g1 BUF
+session 1 rows 6
+1 0 wns 5.000
+2 0 refused E3 BUFX
+3 1 accepted
+4 2 accepted
+5 2 wns 7.000
+6 2 path setup q slack 7.000 credit 0.000 from clk rise to clk rise nodes 1
+q rise 3.000
+final 2 setup 7.000 0.000 hold none 0.000
+"""
+
+
+def faults_of(output=OUTPUT, alone=ALONE, scripts=(ONE, TWO)):
+    """What is wrong with an output, and the script that was run alone."""
+    asked = []
+
+    def run(text):
+        asked.append(text)
+        return read_answers.Output(alone)
+
+    sessions = check_sessions.Sessions([read_answers.read_script(it) for it in scripts], read_answers.Output(output))
+    sessions.look()
+    if not sessions.faults:
+        sessions.compare(run)
+    return sessions.faults, "".join(asked)
+
+
+class Checker(unittest.TestCase):
+    def test_what_agrees(self):
+        faults, asked = faults_of()
+        self.assertEqual(faults, [])
+        self.assertEqual(asked, "report_wns setup\nrepower_gate g1 BUFX\nbegin_eco\nremove_gate b1\nremove_gate b2\ncommit_eco\n"
+                                "repower_gate g1 BUF\nreport_wns setup\nreport_path q setup\n")
+
+    def test_what_does_not(self):
+        for old, new, said in (("3 2 wns 7.000", "3 2 wns 7.001", "session 1, command 3: wns 7.001, and one session says wns 7.000 at design 2"),
+                               ("3 2 wns", "3 1 wns", "session 1, command 3: the design 1 behind 2"),
+                               ("3 2 reached", "3 2 not_yet 10", "session 2, command 3: await 2 10 has the answer not_yet 10 (design 2)"),
+                               ("session 2 edits 2", "session 1 edits 2", "its rows accept [2], and its entries are [1, 2]"),
+                               ("q rise 3.000", "q rise 3.001", "session 2, command 5"),
+                               ("4 2 taken", "4 2 reached", "take has the answer reached"),
+                               ("repower_gate g1 BUF\nsession", "repower_gate g2 BUF\nsession", "repower_gate g1 BUF has the answer accepted"),
+                               ("final 2 setup 7.000", "final 2 setup 7.001", "the last line")):
+            faults, _ = faults_of(OUTPUT.replace(old, new))
+            self.assertTrue(any(said in it for it in faults), (new, faults))
+
+    def test_parasitics_are_written_in_order(self):
+        self.assertEqual(check_sessions.in_order("set_parasitics n r a b 5 c a 1 r b d 7 c d 2"), "set_parasitics n c a 1 c d 2 r a b 5 r b d 7")
+        self.assertEqual(check_sessions.in_order("set_parasitics n none"), "set_parasitics n none")
+
+    def test_an_entry_that_is_refused_alone(self):
+        faults, _ = faults_of(alone=ALONE.replace("3 1 accepted", "3 0 refused E1 b1"))
+        self.assertIn("an entry of the journal is refused E1 b1: begin_eco", faults)
+
+    def test_other_scripts(self):
+        self.assertEqual(faults_of(scripts=(ONE,))[0], ["1 scripts, and 2 sessions"])
+        self.assertIn("session 1: 4 commands", faults_of(scripts=(ONE + "take\n", TWO))[0][0])
+
+
+@common.needs_program
+class Runs(unittest.TestCase):
+    def setUp(self):
+        self.folder = pathlib.Path(tempfile.mkdtemp())
+        self.addCleanup(shutil.rmtree, self.folder)
+
+    def check(self, words, folder):
+        """Runs these words and checks the output; gives it."""
+        status, out, _ = common.run(common.PROGRAM, *words, cwd=folder)
+        self.assertIn(status, (0, 1))
+        (self.folder / "out").write_text(out)
+        told = common.tool("check_sessions", "--program", common.PROGRAM, self.folder / "out", *words, cwd=folder)
+        self.assertEqual(told[0], 0, told[1:])
+        return read_answers.Output(out)
+
+    def test_two_engineers(self):
+        page = (EXAMPLE / "README.md").read_text()
+        words = re.search(r"lizdrog (run .*) >two\.out", page).group(1).split()
+        self.assertEqual(sorted(self.check(words, EXAMPLE).makers), [1, 2])
+        shown = re.search(r"^```\n(journal 1 2\n.*?)^```", page, re.S | re.M).group(1)
+        (self.folder / "shown").write_text(shown)
+        told = common.tool("check_sessions", "--program", common.PROGRAM, self.folder / "shown", *words, cwd=EXAMPLE)
+        self.assertEqual(told, (0, re.search(r"^```\n(check_sessions: .*?)^```", page, re.S | re.M).group(1), ""))
+
+    def test_sixteen_sessions(self):
+        words = common.write_documents(self.folder)
+        names = [f"s{number}.eco" for number in range(1, 17)]
+        for number, name in enumerate(names):
+            made = f"insert_gate b{number // 2} BUF\nreport_worst setup 2\ntake\nreport_path r2:D setup\ninsert_buffer n2 x{number} m{number} BUF r2:D\nreport_wns hold\n"
+            (self.folder / name).write_text(made * 2)
+        output = self.check([*words[:7], *names], self.folder)
+        self.assertGreaterEqual(len(output.ecos), 9)
+
+
+if __name__ == "__main__":
+    unittest.main()
