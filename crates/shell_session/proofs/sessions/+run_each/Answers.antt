@@ -1,14 +1,23 @@
-use Rattle.std.proofs.Common.{rules, ◌≡◌, ◌<◌, length, subst}
-use denote.Param.Send.{sendable}
+use Rattle.std.proofs.Common.{rules, ℕ, ◌≡◌, ◌<◌, length, subst}
+use denote.Param.Send.{IsSync, sendable}
 use Rattle.std.specs.Prelude.{get_or}
 use Rattle.shell_session.specs.Each.{HandsBack, AreNew}
 use Rattle.shell_session.proofs.EachLaws.{new_popped, each_popped}
-use Rattle.shell_session.proofs.Sent.{ended_send}
+use Rattle.shell_session.proofs.Sent.{ended_send, script_sync, board_sync, seat_send}
+use Rattle.std.proofs.Crossing.{crosses}
 use Rattle.shell_session.proofs.sessions.+run_each.Goals as goal
 
 pub spawn_with-started-requires-send-T : goal.spawn_with-started-requires-send-T
 spawn_with-started-requires-send-T g t c κs within =
     search (ended_send, sendable) depth 20
+
+pub spawn_with-started-requires-send-F : goal.spawn_with-started-requires-send-F
+spawn_with-started-requires-send-F g t c κs within =
+    let h : IsSync (denote.Param.param 1 g.row.H) = c.requires-raw.1.1.1.1.0 in
+    let k : IsSync (denote.Param.param 2 g.row.G) = c.requires-raw.1.1.1.1.1.0 in
+    let a = board_sync in let b = seat_send in let d = script_sync in
+    let c : ℕ = 0 in let within : ℕ = 0 in let t : ℕ = 0 in
+    search (crosses, sendable) depth 64 fits 20000
 
 pub spawn_with-started-requires-clause-runs : goal.spawn_with-started-requires-clause-runs
 spawn_with-started-requires-clause-runs g t c κs within =
