@@ -1,0 +1,6 @@
+mod AppLemmas
+mod ByRows
+mod NumberLemmas
+mod PlainWalk
+mod PlainRun
+mod PlainGenerate

@@ -1,0 +1,45 @@
+-- What the words of a command line ask for, where they are plain: none is empty or begins with `-`.
+use Rattle.std.specs.Prelude.{ℕ, List, map}
+use Rattle.command_words.specs.declared.asked.Run.{Run}
+use Rattle.command_words.specs.declared.asked.Generate.{Generate}
+use Rattle.command_words.specs.declared.asked.Asked.{Asked}
+use Rattle.command_words.specs.declared.asked.Asked.TheVariants.{Run as run_asked, Generate as generate_asked}
+
+-- a run: the names of its documents, and of 1 to 16 scripts, and how many workers it has
+pub record RunWords : Type 0 where
+  pub early : List ℕ
+  pub late : List ℕ
+  pub netlist : List ℕ
+  pub sdc : List ℕ
+  pub spef : List ℕ
+  pub workers : ℕ
+  pub scripts : List (List ℕ)
+
+-- a generated run: the number that the draws start from, and how many gates and edits there are
+pub record GenerateWords : Type 0 where
+  pub number : ℕ
+  pub gates : ℕ
+  pub edits : ℕ
+
+pub data Words : Type 0 where
+  run : RunWords → Words
+  generate : GenerateWords → Words
+
+abbrev pub run_words : Run → RunWords
+run_words r =
+    record {
+      early = r.early.now;
+      late = r.late.now;
+      netlist = r.netlist.now;
+      sdc = r.sdc.now;
+      spef = r.spef.now;
+      workers = r.workers;
+      scripts = map (λ s. s.now) r.scripts.items;
+    }
+
+abbrev pub generate_words : Generate → GenerateWords
+generate_words g = record { number = g.number; gates = g.gates; edits = g.edits }
+
+abbrev pub words_of_asked : Asked → Words
+words_of_asked (run_asked r) = run (run_words r)
+words_of_asked (generate_asked g) = generate (generate_words g)

@@ -1,0 +1,68 @@
+//! The words of a command line.
+
+ghost use Rattle.std.specs.Prelude.{◌≡◌, IfOk, option_map, map};
+ghost use Rattle.std.specs.String.{string_bytes};
+ghost use Rattle.std.specs.Prelude.{option_and_then};
+ghost use Rattle.clap.specs.Matches.{found_of};
+ghost use Rattle.clap.specs.Walk.{rows_of};
+ghost use Rattle.clap.specs.Simple.{subcommand_rows_of};
+ghost use Rattle.command_words.specs.Asked.{words_of_asked};
+ghost use Rattle.command_words.specs.Command.{asked_in, words_of};
+
+use crate::asked::Asked;
+use crate::commands::lizdrog;
+use crate::matched::{generate_of, run_of};
+use clap::ArgMatches;
+use clap::error::ErrorKind;
+use sta_units::Memory;
+use std::alloc::{AllocError, Global};
+
+/// What the matches of a subcommand ask for.
+fn asked_by<'a>(
+    alloc: Global,
+    name: &str,
+    matches: &ArgMatches<'a>,
+) -> Result<Option<Asked<'a>>, AllocError>
+    ensures { IfOk result (λ found. option_map words_of_asked found ≡ asked_in (name.now, rows_of (found_of matches.now))) }
+{
+    match name {
+        "run" => match run_of(alloc, matches)? {
+            None => Ok(None),
+            Some(run) => Ok(Some(Asked::Run(run))),
+        },
+        "generate" => match generate_of(matches) {
+            None => Ok(None),
+            Some(generate) => Ok(Some(Asked::Generate(generate))),
+        },
+        _ => Ok(None),
+    }
+}
+
+/// What all matches ask for.
+fn asked_of<'a>(alloc: Global, matches: &ArgMatches<'a>) -> Result<Option<Asked<'a>>, AllocError>
+    ensures { IfOk result (λ found. option_map words_of_asked found ≡ option_and_then asked_in (subcommand_rows_of matches.now)) }
+{
+    match matches.subcommand() {
+        None => Ok(None),
+        Some((name, inner)) => asked_by(alloc, name, inner),
+    }
+}
+
+/// What the words after the program's name ask for: none exactly where the command refuses them, they
+/// name no subcommand, or a number or a count is out of its range.
+///
+/// # Errors
+///
+/// Want of memory alone.
+pub fn read_words<'a>(alloc: Global, words: &'a [String]) -> Result<Option<Asked<'a>>, Memory>
+    ensures { IfOk result (λ found. option_map words_of_asked found ≡ words_of (map string_bytes words.entry.now)) }
+{
+    let command = lizdrog(alloc)?;
+    match command.try_get_matches_from(words) {
+        Ok(matches) => Ok(asked_of(alloc, &matches)?),
+        Err(error) => match error.kind() {
+            ErrorKind::OutOfMemory => Err(Memory),
+            _ => Ok(None),
+        },
+    }
+}

@@ -1,0 +1,11 @@
+mod VerilogWords
+mod InstTokens
+mod Walks
+mod NetlistChecks
+mod ModuleBack
+mod GeneratedWords
+mod GeneratedNames
+mod ScriptsBack
+mod GeneratedBack
+mod ConstraintsBack
+mod LibraryBack

@@ -1,0 +1,3 @@
+pub mod Netlists
+pub mod Scripts
+pub mod Constants

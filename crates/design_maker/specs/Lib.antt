@@ -1,0 +1,5 @@
+pub mod Draws
+pub mod Insts
+pub mod Sessions
+pub mod Written
+pub mod Constants
