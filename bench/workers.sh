@@ -106,7 +106,6 @@ use verilog_netlist::read_module;
 #[derive(Debug, Drop)]
 enum Trouble {
     Text(&'static str),
-    Design(Fault),
     Memory,
     Outside,
 }
@@ -229,7 +228,7 @@ fn shared_store(alloc: Global, cells: Libraries, texts: Texts) -> Result<Arc<Sto
 {
     match linked(alloc, cells, texts) {
         Ok(store) => Ok(shared(alloc, store)?),
-        Err(fault) => Err(Trouble::Design(fault)),
+        Err(_) => Err(Trouble::Text("the design is refused")),
     }
 }
 
@@ -362,10 +361,10 @@ fn timed<H: Threads + Sync>(
             let both = since(rt, &start);
             match required {
                 Ok(_) => Ok((forward, both)),
-                Err(fault) => Err(Trouble::Design(fault)),
+                Err(_) => Err(Trouble::Text("the design is refused")),
             }
         }
-        Err(fault) => Err(Trouble::Design(fault)),
+        Err(_) => Err(Trouble::Text("the design is refused")),
     }
 }
 
@@ -393,7 +392,7 @@ fn analysed<H: Threads + Sync>(
 {
     match Analysis::full(threads, rt.alloc(), store, graph, workers, &NoGate) {
         Ok(_) => Ok(since(rt, start)),
-        Err(fault) => Err(Trouble::Design(fault)),
+        Err(_) => Err(Trouble::Text("the design is refused")),
     }
 }
 
@@ -445,7 +444,7 @@ fn told_levels<H: Threads + Sync>(
 {
     match sound_graph(rt.alloc(), store) {
         Ok(graph) => told(rt, threads, store, &graph, workers),
-        Err(fault) => Err(Trouble::Design(fault)),
+        Err(_) => Err(Trouble::Text("the design is refused")),
     }
 }
 
@@ -461,7 +460,7 @@ fn whole_of<H: Threads + Sync>(
 {
     match sound_graph(rt.alloc(), store) {
         Ok(graph) => whole(rt, threads, store, graph, workers),
-        Err(fault) => Err(Trouble::Design(fault)),
+        Err(_) => Err(Trouble::Text("the design is refused")),
     }
 }
 

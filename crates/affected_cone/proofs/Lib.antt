@@ -19,3 +19,7 @@ pub mod FindLaws
 pub mod EndOrder
 pub mod RowLaws
 pub mod WithinLaws
+pub mod RenewedLists
+pub mod RenewedEnds
+pub mod FineBase
+pub mod ChangedLaws

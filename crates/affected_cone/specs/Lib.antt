@@ -6,3 +6,5 @@ pub mod Found
 pub mod Floors
 pub mod Known
 pub mod Rising
+pub mod Renewed
+pub mod Updated

@@ -1,9 +1,11 @@
 //! The analysis of a store.
 
-ghost use Rattle.std.specs.Prelude.{◌≡◌, ◌≤◌, ◌⊎◌, true, Some, IfOk, IfErr};
+ghost use Rattle.std.specs.Prelude.{◌≡◌, ◌+◌, ◌≤◌, ◌⊎◌, true, Some, IfOk, IfErr, OnOk};
 ghost use Rattle.timing_defs.specs.Checks.{IsSound};
+ghost use Rattle.timing_defs.specs.Cones.{forward_count, backward_count};
 ghost use Rattle.timing_defs.specs.Reports.{AreTotals, is_plain};
 ghost use Rattle.timing_defs.specs.Questions.{Told, query_fault};
+ghost use Rattle.netlist_store.specs.Applying.{IsEditOf};
 ghost use Rattle.pin_graph.specs.RowTables.{IsRangeFault};
 ghost use Rattle.affected_cone.specs.Analysed.{IsAnalysis};
 
@@ -11,6 +13,7 @@ use crate::asking::{Known, answer};
 use crate::ends::EndSlacks;
 use crate::found::find_all;
 use crate::totals::totals_of;
+use crate::updating::{Base, find_after};
 use arrival_engine::Arrivals;
 use netlist_store::{Store, Touched};
 use pessimism_credit::ClockTree;
@@ -80,8 +83,12 @@ impl Analysis {
     }
 
     /// The analysis of the store that an ECO made of this analysis's store; `touched` is what the ECO
-    /// touched. Its rows are those of the full analysis of the edited store (`alike`). It is found anew,
-    /// in the time of `full`, and counts no steps.
+    /// touched. Its rows are those of the full analysis of the edited store (`alike`). What the ECO does
+    /// not lead to is shared with this analysis: slews and arrivals are evaluated where the ECO touched
+    /// something or those before are others, required times where something after them is other, slacks
+    /// where walks lead from what it touched. Each evaluation of a node's arrivals or required times is a
+    /// step: at least as many as nodes that the ECO affects forward, at most as many as these and those
+    /// that it affects backward. Workers and faults as `full` has them.
     pub fn update<H: Threads + Sync, G: Gate, L>(
         &self,
         rt: &H,
@@ -97,13 +104,30 @@ impl Analysis {
         requires most { workers ≤ 32 }
         requires sound { IsSound store.now.design }
         requires graph { graph.stored ≡ store.now }
+        requires made { IsEditOf self.now.stored (record { insts = touched.now.insts; nets = touched.now.nets }) store.now }
         ensures analysis { IfOk result (λ analysis. analysis.stored ≡ store.now) }
+        ensures least { OnOk result (steps.old + forward_count self.now.stored.design store.now.design (record { insts = touched.now.insts; nets = touched.now.nets }) ≤ steps.new) }
+        ensures most { steps.new ≤ steps.old + forward_count self.now.stored.design store.now.design (record { insts = touched.now.insts; nets = touched.now.nets }) + backward_count self.now.stored.design store.now.design (record { insts = touched.now.insts; nets = touched.now.nets }) }
         ensures refused { IfErr result (IsRangeFault store.now.design) }
     {
-        let _ = &self.ends;
-        let _ = touched;
-        let _ = &steps;
-        Analysis::full(rt, alloc, store, graph, workers, gate)
+        store.laws();
+        graph.laws();
+        let base = Base {
+            graph: &self.graph,
+            arrivals: &self.arrivals,
+            required: &self.required,
+            ends: self.ends.as_slice(),
+        };
+        let found = find_after(
+            rt, alloc, &base, store, &graph, touched, workers, gate, steps,
+        )?;
+        Ok(Analysis {
+            graph,
+            arrivals: found.arrivals,
+            required: found.required,
+            tree: found.tree,
+            ends: found.ends,
+        })
     }
 
     /// What every analysis keeps, told to the proofs of callers; the call does nothing.

@@ -1,6 +1,6 @@
 //! Endpoints and their slacks.
 
-ghost use Rattle.std.specs.Prelude.{◌≡◌, ◌<◌, ◌≤◌, ◌-◌, nat_eq, true, find, IfOk};
+ghost use Rattle.std.specs.Prelude.{◌≡◌, ◌<◌, ◌≤◌, ◌-◌, nat_eq, true, find, All, IfOk};
 ghost use Rattle.level_workers.specs.Mapped.{IsMap};
 ghost use Rattle.affected_cone.specs.Analysed.{is_end, ends_of, slack_in, IsEnd, IsSearch};
 ghost use Rattle.affected_cone.specs.Rising.{AreRising, AreBounds};
@@ -89,7 +89,7 @@ pub(crate) fn find_end(ends: &[EndSlacks], pin: u32) -> Option<EndSlacks>
 }
 
 /// Whether a number is that of an endpoint's pin.
-fn is_end(store: &Store, pin: u32) -> bool
+pub(crate) fn is_end(store: &Store, pin: u32) -> bool
     ensures { result ≡ is_end store.now pin }
 {
     if !store.has_pin(pin) {
@@ -112,7 +112,7 @@ pub(crate) fn all_ends(alloc: Global, store: &Store) -> Result<Items<u32>, Memor
 }
 
 /// The slacks of an endpoint, by one search for both kinds.
-fn end_slacks(alloc: Global, search: &Search<'_>, pin: u32) -> Result<EndSlacks, Memory>
+pub(crate) fn end_slacks(alloc: Global, search: &Search<'_>, pin: u32) -> Result<EndSlacks, Memory>
     requires search { IsSearch search.now }
     requires pin { is_end search.now.store.now pin ≡ true }
     ensures { IfOk result (IsEnd search.now.store.now pin) }
@@ -153,7 +153,7 @@ pub(crate) fn slacks_of<H: Threads + Sync>(
     ends: &[u32],
 ) -> Result<Items<EndSlacks>, Memory>
     requires search { IsSearch search.now }
-    requires ends { ends.now ≡ ends_of search.now.store.now }
+    requires ends { All (λ pin. is_end search.now.store.now pin ≡ true) ends.now }
     ensures { IfOk result (IsMap (IsEnd search.now.store.now) ends.now) }
 {
     let found = |pin: &u32| -> Result<EndSlacks, Memory>

@@ -9,12 +9,14 @@
 mod analyses;
 mod asked;
 mod asking;
+mod end_updates;
 mod ends;
 mod found;
 mod graph_slacks;
 mod ranking;
 mod sharing;
 mod totals;
+mod updating;
 
 pub use analyses::{Analysis, ask};
 pub use ends::EndSlacks;

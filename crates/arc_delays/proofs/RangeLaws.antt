@@ -298,11 +298,17 @@ module _ (g : Graphed) (num : IsNumbered g.stored) (linked : IsLinked g.stored.d
           (subst (λ (t : Bool). Contains (if t then option_map_or (cell_arcs_in g.stored.design n) n.pin.owner [] else net_arcs_in g.stored.design n) from) sinks
           (kept_in (λ f. not (is_network g.stored.design n.pin) || is_network g.stored.design f.pin) (all_arcs_in g.stored.design n) from c))
 
-      its_carried : IsCarried g.stored.design split n
+      pub its_carried : IsCarried g.stored.design split n
       its_carried = record { load = λ drives. loaded; wires = λ sinks. wired; delays = along }
 
     its_calm : (split : Split) (n : Node) → IsInGraph g num linked is n → is_forward_origin g.stored.design split n ≡ false
     its_calm split n s = fine.nodes n (in_nodes n s) split
+
+    -- slews and arrivals have values within their limits
+    pub its_fine : (split : Split) (n : Node) → IsInGraph g num linked is n → IsFine g.stored.design split n
+    its_fine split n s =
+        fine_below g.stored.design (IsInGraph g num linked is) (graph_level g num linked is) (graph_placed g num linked is) its_calm its_carried split
+        (suc (graph_level g num linked is n)) n s (omega arith)
 
     its_near : (split : Split) (n : Node) → IsInGraph g num linked is n → IsNear g.stored.design split n
     its_near split n s =

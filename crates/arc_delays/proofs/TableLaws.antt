@@ -1,6 +1,6 @@
 -- The table of the delays of arcs has those of the definition, each within its limit.
 
-use Rattle.std.proofs.Common.{◌≡◌, ℕ, zero, suc, ◌<◌, ℤ, Bool, true, false, ◌||◌, if◌then◌else◌, List, [], ◌∷◌, map, Option, None, Some, refl, sym, ap, subst, ◌∙◌, inl, inr, arith}
+use Rattle.std.proofs.Common.{length, get_or, ◌≡◌, ℕ, zero, suc, ◌<◌, ℤ, Bool, true, false, ◌||◌, if◌then◌else◌, List, [], ◌∷◌, map, Option, None, Some, refl, sym, ap, subst, ◌∙◌, inl, inr, arith}
 use Rattle.std.specs.Prelude.{nat_eq, Contains, find, option_map, option_and_then, IfSome}
 use Rattle.std.proofs.lemmas.Bool.{cases_Bool, eqb-true, eq-eqb, or_parts, not-false, false≢true}
 use Rattle.std.proofs.lemmas.Option.{none-some}
@@ -25,7 +25,7 @@ use Rattle.pin_graph.specs.Graphs.{Graphed, IsGraph, IsArc, fan_at}
 use Rattle.pin_graph.proofs.Members.{first_in, later_in, none_in}
 use Rattle.pin_graph.proofs.NodeLaws.{node_below, has_node}
 use Rattle.arc_delays.specs.declared.tables.ArcDelay.{ArcDelay}
-use Rattle.arc_delays.specs.Delays.{delay_numbered, delay_in, delay_told, arc_delay, AreDelays, AreAllInto, AreWithin}
+use Rattle.arc_delays.specs.Delays.{delay_numbered, delay_in, delay_told, arc_delay, AreDelays, AreDelaysAt, AreInto, AreAllInto, AreWithin}
 use Rattle.arc_delays.proofs.DelayLaws.{narrow_arc}
 
 -- the first arc from a node, with its delays
@@ -118,22 +118,34 @@ module _ (g : Graphed) (num : IsNumbered g.stored) (linked : IsLinked g.stored.d
       if_some (delay_numbered g.stored split arc.from arc.to)
       (λ v e. delay_bound g.stored.design split a.to a.from (row g.stored.design a.from) v (narrow_arc g num linked fine arc a split) (sym is_delay ∙ e))
 
+  -- the delays of the arcs into a node
+  pub into_told : (node : ℕ) (delays : List ArcDelay) → node < node_bound g.stored → AreInto g node delays → AreDelaysAt g.stored node delays
+  into_told node delays low m split arc a ends =
+      let fan = is.ins node low in
+      let has = has_arc g.stored (fan_at g.ins node) arc (fan.all arc a ends) in
+      let to : has.arc.to ≡ arc.to = (fan.sound has.arc has.within).1 ∙ sym ends in
+      ap (λ ds. option_and_then (delay_in split) (find (λ (d : ArcDelay). nat_eq d.from arc.from) ds)) m
+      ∙ told_is g.stored split (fan_at g.ins node) arc.from has
+      ∙ ap (λ k. delay_numbered g.stored split k has.arc.to) has.same
+      ∙ ap (λ k. delay_numbered g.stored split arc.from k) to
+
+  -- a table that has those of each node
+  pub delays_by_node : AreWithin g.stored.design → (t : List (List ArcDelay)) → length t ≡ node_bound g.stored
+      → ((node : ℕ) → node < node_bound g.stored → AreDelaysAt g.stored node (get_or t node [])) → AreDelays g.stored t
+  delays_by_node fine t count each = record { count = count; each = λ split arc a. each arc.to (arc_below arc a) split arc a refl; within = arc_within fine }
+
   module _ (t : List (List ArcDelay)) (m : AreAllInto g t) where
     told_at : (split : Split) (arc : GraphArc) → IsArc g.stored arc → delay_told t split arc.from arc.to ≡ delay_numbered g.stored split arc.from arc.to
-    told_at split arc a =
-        let low = arc_below arc a in
-        let fan = is.ins arc.to low in
-        let has = has_arc g.stored (fan_at g.ins arc.to) arc (fan.all arc a refl) in
-        let ends : has.arc.to ≡ arc.to = (fan.sound has.arc has.within).1 in
-        ap (λ ds. option_and_then (delay_in split) (find (λ (d : ArcDelay). nat_eq d.from arc.from) ds)) (m.each arc.to low)
-        ∙ told_is g.stored split (fan_at g.ins arc.to) arc.from has
-        ∙ ap (λ k. delay_numbered g.stored split k has.arc.to) has.same
-        ∙ ap (λ k. delay_numbered g.stored split arc.from k) ends
+    told_at split arc a = into_told arc.to (get_or t arc.to []) (arc_below arc a) (m.each arc.to (arc_below arc a)) split arc a refl
 
     all_delays : AreWithin g.stored.design → AreDelays g.stored t
     all_delays fine = record { count = m.count; each = told_at; within = arc_within fine }
 
 -- as the code has it: the graph is that of a store
+pub delays_at_node : (s : Stored) (t : List (List ArcDelay)) → AreDelays s t → (node : ℕ) → AreDelaysAt s node (get_or t node [])
+delays_at_node s t are node split arc a to =
+    ap (λ k. option_and_then (delay_in split) (find (λ (d : ArcDelay). nat_eq d.from arc.from) (get_or t k []))) (sym to) ∙ are.each split arc a
+
 pub delays_there : (g : Graphed) (s : Stored) → g.stored ≡ s → IsNumbered s → IsLinked s.design → IsGraph g → AreWithin s.design → (t : List (List ArcDelay))
     → AreAllInto g t → AreDelays s t
 delays_there g s same num linked is fine t m =

@@ -1,6 +1,6 @@
 -- The delays along the arcs of a design, by the numbers of nodes.
 
-use Rattle.std.specs.Prelude.{ℕ, ◌≡◌, ◌<◌, ℤ, true, false, List, [], map, length, find, get_or, Contains, Option, option_and_then, nat_eq, IfSome}
+use Rattle.std.specs.Prelude.{ℕ, ◌≡◌, ◌<◌, ◌-◌, ◌++◌, ℤ, true, false, List, [], map, length, take, replicate, find, get_or, Contains, Option, option_and_then, nat_eq, IfSome}
 use Rattle.sta_units.specs.Numbers.{Within}
 use Rattle.timing_defs.specs.declared.kinds.Split.{Split}
 use Rattle.timing_defs.specs.declared.kinds.Split.TheVariants.{Early, Late}
@@ -43,10 +43,19 @@ arc_delay s arc =
 abbrev pub AreInto : Graphed → ℕ → List ArcDelay → Type 0
 AreInto g node delays = delays ≡ map (arc_delay g.stored) (fan_at g.ins node)
 
+-- a list has the delay of each arc into a node, in any order
+abbrev pub AreDelaysAt : Stored → ℕ → List ArcDelay → Type 0
+AreDelaysAt s node delays = (split : Split) (arc : GraphArc) → IsArc s arc → arc.to ≡ node
+    → option_and_then (delay_in split) (find (λ (d : ArcDelay). nat_eq d.from arc.from) delays) ≡ delay_numbered s split arc.from arc.to
+
 -- a list has those of each node
 pub record AreAllInto (g : Graphed) (t : List (List ArcDelay)) : Type 0 where
   pub count : length t ≡ node_bound g.stored
   pub each : (node : ℕ) → node < node_bound g.stored → AreInto g node (get_or t node [])
+
+-- the delays of that many nodes: of those that are there, then none
+abbrev pub sized_delays : List (List ArcDelay) → ℕ → List (List ArcDelay)
+sized_delays t count = take count t ++ replicate (count - length t) []
 
 -- no row and no arc of a design has a quantity that leaves its limit
 pub record AreWithin (d : Design) : Type 0 where

@@ -1,3 +1,4 @@
 pub mod Analysed
 pub mod Leveled
 pub mod Planned
+pub mod Updated

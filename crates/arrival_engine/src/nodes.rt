@@ -12,7 +12,7 @@ ghost use Rattle.arrival_engine.specs.Analysed.{AreTables, IsNodeRow, IsNodeFaul
 
 use crate::tables::Arrivals;
 use arc_delays::ArcDelay;
-use cow_table::CowTable;
+use cow_table::{CowTable, Held};
 use netlist_store::Store;
 use node_rows::{Before, BothDelays, NodeAt, Setting, node_row};
 use pin_graph::{Graph, GraphArc};
@@ -24,7 +24,7 @@ use timing_defs::{EdgeTimes, Fault, Items, NodeRow};
 #[derive(Drop)]
 pub(crate) struct NodeAnswer {
     pub(crate) row: NodeRow,
-    pub(crate) delays: Items<ArcDelay>,
+    pub(crate) delays: Held<Items<ArcDelay>>,
 }
 
 /// The row of a number that is of no node.
@@ -40,14 +40,15 @@ pub(crate) fn empty_row(alloc: Global) -> NodeRow
 }
 
 /// What is answered for a number that is of no node: an empty row, and no delays.
-pub(crate) fn no_answer(alloc: Global) -> NodeAnswer
-    ensures row { result.row ≡ empty_row }
-    ensures delays { result.delays ≡ [] }
+pub(crate) fn no_answer(alloc: Global) -> Result<NodeAnswer, Memory>
+    ensures row { IfOk result (λ found. found.row ≡ empty_row) }
+    ensures delays { IfOk result (λ found. found.delays ≡ []) }
 {
-    NodeAnswer {
+    let delays = Held::of(alloc, Items::new(alloc))?;
+    Ok(NodeAnswer {
         row: empty_row(alloc),
-        delays: Items::new(alloc),
-    }
+        delays,
+    })
 }
 
 /// A node by its pin's number; none of a gap.
@@ -101,7 +102,7 @@ fn sourced(
     alloc: Global,
     arcs: &[GraphArc],
     delays: &[BothDelays],
-) -> Result<Items<ArcDelay>, Memory>
+) -> Result<Held<Items<ArcDelay>>, Memory>
     requires { length delays.now ≡ length arcs.now }
     ensures { IfOk result (λ all. all ≡ with_sources arcs.now delays.now) }
 {
@@ -114,7 +115,7 @@ fn sourced(
             late: delay.late,
         })?;
     }
-    Ok(all)
+    Held::of(alloc, all)
 }
 
 /// The row of a node over the rows of the nodes before it, with the delays of the arcs into it, in time
@@ -137,7 +138,7 @@ pub(crate) fn evaluated(
     setting.store.laws();
     graph.laws();
     match place_of(graph, node) {
-        None => Ok(no_answer(alloc)),
+        None => Ok(no_answer(alloc)?),
         Some(to) => {
             let found = befores(alloc, graph, rows, node)?;
             let told = node_row(alloc, setting, to, found.as_slice())?;

@@ -1,6 +1,6 @@
 //! The pass over the levels of a graph.
 
-ghost use Rattle.std.specs.Prelude.{ℕ, ◌≡◌, ◌+◌, ◌<◌, ◌≤◌, ◌^◌, ⊤, [], length, replicate, slice_set, IfOk, IfErr, OnOk};
+ghost use Rattle.std.specs.Prelude.{ℕ, ◌≡◌, ◌+◌, ◌<◌, ◌≤◌, ◌^◌, ⊤, length, slice_set, IfOk, IfErr, OnOk};
 ghost use Rattle.level_workers.specs.Mapped.{IsMap};
 ghost use Rattle.pin_graph.specs.Nodes.{node_bound};
 ghost use Rattle.pin_graph.specs.RowTables.{AreRows, AreRowsFine, IsRangeFault};
@@ -10,7 +10,7 @@ ghost use Rattle.arrival_engine.specs.Leveled.{AreLevels};
 
 use crate::nodes::{NodeAnswer, empty_row, evaluated, no_answer};
 use crate::ordering::by_level;
-use arc_delays::ArcDelay;
+use arc_delays::ArcDelays;
 use cow_table::CowTable;
 use level_workers::{map_level, worth_threads};
 use node_rows::Setting;
@@ -25,7 +25,7 @@ use timing_defs::{Fault, Items, NodeRow};
 #[derive(Drop)]
 pub(crate) struct Found {
     pub(crate) rows: CowTable<NodeRow>,
-    pub(crate) delays: Items<Items<ArcDelay>>,
+    pub(crate) delays: ArcDelays,
 }
 
 /// The row of a node of a level and the delays of the arcs into it, over the rows of the lower ones.
@@ -45,16 +45,16 @@ fn level_answer(
     setting.store.laws();
     graph.laws();
     if node >= graph.count() {
-        return Ok(no_answer(alloc));
+        return Ok(no_answer(alloc)?);
     }
     if graph.level(node) != level {
-        return Ok(no_answer(alloc));
+        return Ok(no_answer(alloc)?);
     }
     evaluated(alloc, setting, graph, rows, node)
 }
 
 /// The answers for the nodes of a level, in their order, by several threads.
-fn level_answers<H: Threads + Sync, G: Gate>(
+pub(crate) fn level_answers<H: Threads + Sync, G: Gate>(
     rt: &H,
     alloc: Global,
     setting: &Setting<'_>,
@@ -79,31 +79,19 @@ fn level_answers<H: Threads + Sync, G: Gate>(
     map_level(rt, alloc, threads, level, nodes, &evaluate, gate)
 }
 
-/// An empty list for each number.
-fn no_delays(alloc: Global, count: usize) -> Result<Vec<Items<ArcDelay>>, Memory>
-    ensures { IfOk result (λ delays. delays.items ≡ replicate count []) }
-{
-    let mut delays = Vec::with_capacity(alloc, count)?;
-    for node in 0..count {
-        let _ = node;
-        delays.push(Items::new(alloc)).map_err(|_| Memory)?;
-    }
-    Ok(delays)
-}
-
 /// Moves what is answered for a node to its place.
 fn put_answer(
     rows: &mut CowTable<NodeRow>,
-    delays: &mut Vec<Items<ArcDelay>>,
+    delays: &mut ArcDelays,
     node: u32,
     answer: NodeAnswer,
 ) -> Result<(), Memory>
     requires row { node < length rows.old }
-    requires delay { node < length delays.old.items }
+    requires delay { node < length delays.old }
     ensures rows { OnOk result (rows.new ≡ slice_set rows.old node answer.row) }
-    ensures delays { OnOk result (delays.new.items ≡ slice_set delays.old.items node answer.delays) }
+    ensures delays { OnOk result (delays.new ≡ slice_set delays.old node answer.delays) }
 {
-    delays[node as usize] = answer.delays;
+    delays.put(node, answer.delays)?;
     rows.set(node as usize, answer.row)
 }
 
@@ -112,7 +100,7 @@ fn put_answer(
 fn put_answers(
     graph: &Graph,
     rows: &mut CowTable<NodeRow>,
-    delays: &mut Vec<Items<ArcDelay>>,
+    delays: &mut ArcDelays,
     level: u32,
     nodes: &[u32],
     answers: Items<Result<NodeAnswer, Fault>>,
@@ -120,9 +108,9 @@ fn put_answers(
     requires nodes { AreOfLevel graph.now level nodes.now }
     requires answers { IsMap (IsLevelAnswer graph.now level) nodes.now answers }
     requires rows { AreDoneBelow graph.now rows.old level }
-    requires delays { AreDelayedBelow graph.now delays.old.items level }
+    requires delays { AreDelayedBelow graph.now delays.old level }
     ensures rows { OnOk result (AreDoneBelow graph.now rows.new (level + 1)) }
-    ensures delays { OnOk result (AreDelayedBelow graph.now delays.new.items (level + 1)) }
+    ensures delays { OnOk result (AreDelayedBelow graph.now delays.new (level + 1)) }
     ensures err { IfErr result (IsRangeFault graph.now.stored.design) }
 {
     // The graph and the level are asked for by the contract alone.
@@ -146,7 +134,7 @@ pub(crate) fn all_levels<H: Threads + Sync, G: Gate>(
     setting: &Setting<'_>,
     graph: &Graph,
     rows: &mut CowTable<NodeRow>,
-    delays: &mut Vec<Items<ArcDelay>>,
+    delays: &mut ArcDelays,
     workers: u32,
     levels: &[Items<u32>],
     gate: &G,
@@ -157,9 +145,9 @@ pub(crate) fn all_levels<H: Threads + Sync, G: Gate>(
     requires levels { AreLevels graph.now levels.now }
     requires few { length levels.now ≤ 2 ^ 32 }
     requires rows { length rows.old ≡ node_bound graph.now.stored }
-    requires delays { length delays.old.items ≡ node_bound graph.now.stored }
+    requires delays { length delays.old ≡ node_bound graph.now.stored }
     ensures done { OnOk result (AreDoneBelow graph.now rows.new (length levels.now)) }
-    ensures delayed { OnOk result (AreDelayedBelow graph.now delays.new.items (length levels.now)) }
+    ensures delayed { OnOk result (AreDelayedBelow graph.now delays.new (length levels.now)) }
     ensures err { IfErr result (IsRangeFault graph.now.stored.design) }
 {
     for (at, items) in levels.iter().enumerate() {
@@ -194,7 +182,7 @@ pub(crate) fn full_rows<H: Threads + Sync, G: Gate>(
     let levels = by_level(alloc, graph)?;
     let count = graph.count() as usize;
     let mut rows = CowTable::filled(rt, alloc, workers, count, &empty_row(alloc))?;
-    let mut delays = no_delays(alloc, count)?;
+    let mut delays = ArcDelays::none(rt, alloc, graph.count())?;
     let nodes = levels.as_slice();
     all_levels(
         rt,
@@ -207,6 +195,5 @@ pub(crate) fn full_rows<H: Threads + Sync, G: Gate>(
         nodes,
         gate,
     )?;
-    let delays = Items::from_vec(delays);
     Ok(Found { rows, delays })
 }

@@ -64,7 +64,11 @@ fn first_rows(
 }
 
 /// That many rows: a copy of those that are there, then empty ones.
-fn sized(alloc: Global, rows: &CowTable<NodeRow>, count: usize) -> Result<CowTable<NodeRow>, Memory>
+pub(crate) fn sized(
+    alloc: Global,
+    rows: &CowTable<NodeRow>,
+    count: usize,
+) -> Result<CowTable<NodeRow>, Memory>
     ensures { IfOk result (λ more. more ≡ sized_rows rows.now count) }
 {
     if count < rows.len() {
@@ -76,7 +80,7 @@ fn sized(alloc: Global, rows: &CowTable<NodeRow>, count: usize) -> Result<CowTab
 }
 
 /// A value that is to be shared, with one owner.
-fn shared<T: Drop>(alloc: Global, value: T) -> Result<Arc<T>, Memory>
+pub(crate) fn shared<T: Drop>(alloc: Global, value: T) -> Result<Arc<T>, Memory>
     ensures { IfOk result (λ owner. arc_value owner ≡ value) }
 {
     Arc::new(alloc, value).map_err(|_| Memory)

@@ -1,4 +1,4 @@
--- What is found of a net, as it is put into the tables of wires.
+-- What is found of nets, and how it is put into the tables of wires.
 
 use Rattle.std.proofs.Common.{◌≡◌, ℕ, zero, suc, ◌+◌, ◌<◌, true, false, List, [], ◌∷◌, ◌++◌, map, length, get_or, Option, None, Some, Result, Ok, Err, refl, sym, ap, subst, ◌∙◌, arith}
 use Rattle.std.specs.Prelude.{is_some, option_map, option_and_then, IfOk, IfErr}
@@ -17,16 +17,18 @@ use Rattle.netlist_store.specs.Numbering.{Stored, name_at, is_number, IsNumbered
 use Rattle.level_workers.specs.Mapped.{IsMap}
 use Rattle.node_rows.specs.declared.pin_wires.NetLoad.{NetLoad}
 use Rattle.node_rows.specs.declared.pin_wires.PinWire.{PinWire}
+use Rattle.node_rows.specs.declared.pin_wires.Wires.{Wires}
 use Rattle.node_rows.specs.declared.net_trees.NetTrees.{NetTrees}
 use Rattle.node_rows.specs.declared.found_nets.WireTo.{WireTo}
 use Rattle.node_rows.specs.declared.found_nets.FoundNet.{FoundNet}
 use Rattle.node_rows.specs.declared.unfit.Unfit.{Unfit}
 use Rattle.node_rows.specs.Evaluation.{IsUnfit}
 use Rattle.node_rows.specs.NetPins.{IsOnNet, pin_cap_at}
-use Rattle.node_rows.specs.NetTrees.{IsTreeNet, AreTrees, is_wide_net, late_of, pin_word}
-use Rattle.node_rows.specs.FoundNets.{ArePut, AreWiresTo, IsFoundNet, IsNetAnswer}
-use Rattle.node_rows.proofs.NetSteps.{gap_more, plain_more, plain_fine_as}
-use Rattle.node_rows.proofs.TreeSteps.{wide_as, tree_more}
+use Rattle.node_rows.specs.NetTrees.{IsTreeNet, AreTrees, AreUpTo, is_wide_net, late_of, pin_word}
+use Rattle.node_rows.specs.FoundNets.{with_wires, ArePut, AreWiresTo, AreNetWires, IsFoundNet, IsNetAnswer}
+use Rattle.node_rows.proofs.NetSteps.{gap_load, gap_wires, plain_load, plain_wires, plain_fine_as}
+use Rattle.node_rows.proofs.TreeSteps.{wide_as, tree_load, tree_wires}
+use Rattle.node_rows.proofs.UpToLaws.{more_nets}
 
 -- a number that is no net's
 no_name : (s : Stored) (o : Option (List ℕ)) → is_some o ≡ false → option_map_or (is_net_origin s.design) o false ≡ false
@@ -36,7 +38,8 @@ no_name s (Some name) e = absurd (false≢true (sym e))
 pub gap_found : (s : Stored) (net : ℕ) (load : NetLoad) (wires : List WireTo) → wires ≡ [] → is_number s.nets net ≡ false → IsFoundNet s net (record { load = load; wires = wires })
 gap_found s net load wires empty none = subst (λ (ws : List WireTo). IsFoundNet s net (record { load = load; wires = ws })) (sym empty) (record {
   within = All-nil (λ (to : WireTo). to.pin < length s.pins);
-  more = λ w next had pushed put. gap_more s w next net load had pushed put none;
+  load = gap_load s net load none;
+  wires = λ old len. gap_wires s net old none;
   fine = no_name s (name_at s.nets net) none;
 })
 
@@ -47,7 +50,8 @@ pub plain_found : (s : Stored) (net : ℕ) (load : NetLoad) (wires : List WireTo
     → is_within load.early.0 ≡ true → is_within load.late.0 ≡ true → IsFoundNet s net (record { load = load; wires = wires })
 plain_found s net load wires empty number rc is lumped early late fine_e fine_l = subst (λ (ws : List WireTo). IsFoundNet s net (record { load = load; wires = ws })) (sym empty) (record {
   within = All-nil (λ (to : WireTo). to.pin < length s.pins);
-  more = λ w next had pushed put. plain_more s w next net load had pushed put rc is lumped early late fine_e fine_l;
+  load = plain_load s net load early late fine_e fine_l;
+  wires = λ old len. plain_wires s net old rc is lumped;
   fine = plain_fine_as s net number rc is lumped load early late fine_e fine_l;
 })
 
@@ -59,12 +63,21 @@ pub tree_found : (s : Stored) → IsNumbered s → IsLinked s.design → (rc : N
     → (wires : List WireTo) → AreWiresTo s trees items wires → IsFoundNet s net (record { load = load; wires = wires })
 tree_found s num linked rc root items t net its each trees are fine load early late wires to = record {
   within = to.within;
-  more = λ w next had pushed put.
-      (let p : ArePut s trees w.pins next.pins items = subst (λ (xs : List (Option PinWire)). ArePut s trees w.pins xs items) (sym put) (to.put w.pins had.pins) in
-      tree_more s num linked rc root items t net its each trees are fine w next load had pushed p.len early late
+  load = tree_load s num linked rc root items t net its each trees are fine load early late;
+  wires = λ old len.
+      (let p : ArePut s trees old (with_wires old wires) items = to.put old len in
+      tree_wires s num linked rc root items t net its each trees are fine old (with_wires old wires) p.len
       (p.there rc (pin_word s root) (λ split. map (pin_cap_at s split) items) are.early are.late) p.kept);
   fine = wide_as s net rc its ∙ fine;
 }
+
+-- it is put into the tables of the nets below
+pub found_more : (s : Stored) (net : ℕ) (found : FoundNet) → IsFoundNet s net found → (w next : Wires) → AreUpTo s w net
+    → next.loads ≡ w.loads ++ found.load ∷ [] → next.pins ≡ with_wires w.pins found.wires → AreUpTo s next (net + 1)
+found_more s net found f w next had pushed put =
+    let p : AreNetWires s net w.pins next.pins = subst (λ (xs : List (Option PinWire)). AreNetWires s net w.pins xs) (sym put) (f.wires w.pins had.pins) in
+    more_nets s w next net found.load had pushed p.len (λ split name named. (f.load.is split name named, f.load.within split name named))
+    (p.wired (λ pin on. had.later pin net (omega arith) on)) p.kept
 
 -- an answer
 pub answered : (s : Stored) (net : ℕ) (answer : Result FoundNet Unfit) → IfOk answer (IsFoundNet s net) → IfErr answer (IsUnfit (is_wide_net s net)) → IsNetAnswer s net answer

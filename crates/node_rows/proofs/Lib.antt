@@ -3,9 +3,11 @@ pub mod Amounts
 pub mod ArcLaws
 pub mod ConstraintLaws
 pub mod CountLaws
+pub mod EcoNets
 pub mod FineLaws
 pub mod FoundLaws
 pub mod InstForms
+pub mod KeptNets
 pub mod LoadForms
 pub mod LoadLaws
 pub mod Members
@@ -18,6 +20,7 @@ pub mod PinLaws
 pub mod PinNames
 pub mod PinSums
 pub mod PortLaws
+pub mod RenewLaws
 pub mod ResultLaws
 pub mod RootLaws
 pub mod RowForms

@@ -1,6 +1,6 @@
--- The tables of wires, as a net without resistors or a gap comes.
+-- What is found of a net without resistors, or of a gap.
 
-use Rattle.std.proofs.Common.{◌≡◌, ℕ, ◌+◌, Bool, true, false, not, ◌||◌, List, [], ◌∷◌, ◌++◌, length, Option, None, Some, refl, sym, ap, subst, ◌∙◌, arith}
+use Rattle.std.proofs.Common.{◌≡◌, ℕ, Bool, true, false, not, ◌||◌, List, [], ◌∷◌, Option, None, Some, refl, sym, ap, subst, ◌∙◌}
 use Rattle.std.specs.Prelude.{is_some, option_map, option_and_then}
 use Rattle.std.specs.List.{list_all}
 use Rattle.std.specs.Option.{option_map_or}
@@ -18,48 +18,54 @@ use Rattle.timing_defs.specs.Range.{rc_nodes, root_of_net, wires_within, is_larg
 use Rattle.netlist_store.specs.Numbering.{Stored, name_at, is_number}
 use Rattle.node_rows.specs.declared.pin_wires.NetLoad.{NetLoad}
 use Rattle.node_rows.specs.declared.pin_wires.PinWire.{PinWire}
-use Rattle.node_rows.specs.declared.pin_wires.Wires.{Wires}
-use Rattle.node_rows.specs.WireTables.{IsWire, split_load, wire_at}
-use Rattle.node_rows.specs.NetTrees.{AreUpTo, is_wide_net}
+use Rattle.node_rows.specs.WireTables.{IsWire, split_load}
+use Rattle.node_rows.specs.NetTrees.{is_wide_net}
+use Rattle.node_rows.specs.FoundNets.{AreNetWires, IsNetLoad}
 use Rattle.node_rows.proofs.Members.{some_is}
 use Rattle.node_rows.proofs.PinLaws.{there}
 use Rattle.node_rows.proofs.PinSums.{net_told}
 use Rattle.node_rows.proofs.WireForms.{no_ress, no_delay, bare_wire, lumped_wire}
-use Rattle.node_rows.proofs.UpToLaws.{more_nets}
 
-module _ (s : Stored) (w next : Wires) (net : ℕ) (load : NetLoad) (had : AreUpTo s w net) (pushed : next.loads ≡ w.loads ++ load ∷ []) (same : next.pins ≡ w.pins) where
-  pub gap_more : is_number s.nets net ≡ false → AreUpTo s next (net + 1)
-  gap_more none =
-      more_nets s w next net load had pushed (ap length same)
-      (λ split name named. absurd (false≢true (sym none ∙ ap is_some named)))
-      (λ pin to from told on sinks led. let k = net_told s pin net to told on in absurd (false≢true (sym none ∙ ap is_some k.told)))
-      (λ pin n on apart. ap (λ xs. wire_at xs pin) same)
+module _ (s : Stored) (net : ℕ) (old : List (Option PinWire)) where
+  pub gap_wires : is_number s.nets net ≡ false → AreNetWires s net old old
+  gap_wires none = record {
+    len = refl;
+    wired = λ bare pin to from told on sinks led. let k = net_told s pin net to told on in absurd (false≢true (sym none ∙ ap is_some k.told));
+    kept = λ pin other on apart. refl;
+  }
 
   no_wire : (d : Design) (from to : Pin) (name : List ℕ) → net_of to ≡ Some name → (o : Option NetRc) → rc_of d name ≡ o → option_map_or is_lumped o true ≡ true → IsWire d from to None
   no_wire d from to name on None e h = bare_wire d from to name on e
   no_wire d from to name on (Some rc) e h = lumped_wire d from to name on rc e h
 
-  pub plain_more : (rc : Option NetRc) → rc ≡ option_and_then (rc_of s.design) (name_at s.nets net) → option_map_or is_lumped rc true ≡ true
-      → option_map (net_load s.design Early) (name_at s.nets net) ≡ Some load.early.0 → option_map (net_load s.design Late) (name_at s.nets net) ≡ Some load.late.0
-      → is_within load.early.0 ≡ true → is_within load.late.0 ≡ true → AreUpTo s next (net + 1)
-  plain_more rc is lumped early late fine_e fine_l =
-      more_nets s w next net load had pushed (ap length same) right
-      (λ pin to from told on sinks led.
-      let k = net_told s pin net to told on in
-      let its : rc_of s.design k.name ≡ rc = sym (ap (option_and_then (rc_of s.design)) k.told) ∙ sym is in
-      let bare : wire_at next.pins pin ≡ None = ap (λ xs. wire_at xs pin) same ∙ had.later pin net (omega arith) on in
-      subst (λ (o : Option PinWire). IsWire s.design from to o) (sym bare) (no_wire s.design from to k.name k.on rc its lumped))
-      (λ pin n on apart. ap (λ xs. wire_at xs pin) same)
-    where
-      early_is : (name : List ℕ) → name_at s.nets net ≡ Some name → load.early.0 ≡ net_load s.design Early name
-      early_is name named = sym (some_is (sym (ap (option_map (net_load s.design Early)) named) ∙ early))
+  pub plain_wires : (rc : Option NetRc) → rc ≡ option_and_then (rc_of s.design) (name_at s.nets net) → option_map_or is_lumped rc true ≡ true → AreNetWires s net old old
+  plain_wires rc is lumped = record {
+    len = refl;
+    wired = λ bare pin to from told on sinks led.
+        (let k = net_told s pin net to told on in
+        let its : rc_of s.design k.name ≡ rc = sym (ap (option_and_then (rc_of s.design)) k.told) ∙ sym is in
+        subst (λ (o : Option PinWire). IsWire s.design from to o) (sym (bare pin on)) (no_wire s.design from to k.name k.on rc its lumped));
+    kept = λ pin other on apart. refl;
+  }
 
-      late_is : (name : List ℕ) → name_at s.nets net ≡ Some name → load.late.0 ≡ net_load s.design Late name
-      late_is name named = sym (some_is (sym (ap (option_map (net_load s.design Late)) named) ∙ late))
+pub gap_load : (s : Stored) (net : ℕ) (load : NetLoad) → is_number s.nets net ≡ false → IsNetLoad s net load
+gap_load s net load none = record {
+  is = λ split name named. absurd (false≢true (sym none ∙ ap is_some named));
+  within = λ split name named. absurd (false≢true (sym none ∙ ap is_some named));
+}
 
-      right : (split : Split) (name : List ℕ) → name_at s.nets net ≡ Some name → (split_load split load ≡ net_load s.design split name) × (is_within (net_load s.design split name) ≡ true)
-      right Early name named = (early_is name named, sym (ap is_within (early_is name named)) ∙ fine_e)
-      right Late name named = (late_is name named, sym (ap is_within (late_is name named)) ∙ fine_l)
+pub plain_load : (s : Stored) (net : ℕ) (load : NetLoad)
+    → option_map (net_load s.design Early) (name_at s.nets net) ≡ Some load.early.0 → option_map (net_load s.design Late) (name_at s.nets net) ≡ Some load.late.0
+    → is_within load.early.0 ≡ true → is_within load.late.0 ≡ true → IsNetLoad s net load
+plain_load s net load early late fine_e fine_l = record { is = told; within = λ split name named. sym (ap is_within (told split name named)) ∙ fine split }
+  where
+    told : (split : Split) (name : List ℕ) → name_at s.nets net ≡ Some name → split_load split load ≡ net_load s.design split name
+    told Early name named = sym (some_is (sym (ap (option_map (net_load s.design Early)) named) ∙ early))
+    told Late name named = sym (some_is (sym (ap (option_map (net_load s.design Late)) named) ∙ late))
+
+    fine : (split : Split) → is_within (split_load split load) ≡ true
+    fine Early = fine_e
+    fine Late = fine_l
 
 -- a net without resistors is large by its loads alone
 all_true : {X : Type 0} (p : X → Bool) → ((x : X) → p x ≡ true) → (xs : List X) → list_all p xs ≡ true

@@ -56,7 +56,7 @@ distinct_filter keep (x ∷ xs) h =
       | inr k ↦ rw k (distinct_filter keep xs parts.1)
     ]
 
-on_net : (net : List ℕ) (o : Option (List ℕ)) → option_map_or (bytes_eq net) o false ≡ true → o ≡ Some net
+pub on_net : (net : List ℕ) (o : Option (List ℕ)) → option_map_or (bytes_eq net) o false ≡ true → o ≡ Some net
 on_net net None e = absurd (false≢true e)
 on_net net (Some n) e = ap Some (sym (same_is net n e))
 

@@ -85,19 +85,19 @@ sink_told net root caps told is name n low at wire d i =
         omega (arith, a, b, c, low)
 
 -- reads of a list after a write
-get_same : {X : Type 0} (xs : List X) (i : ℕ) (x : X) → i < length xs → slice_get (set xs i x) i ≡ Some x
+pub get_same : {X : Type 0} (xs : List X) (i : ℕ) (x : X) → i < length xs → slice_get (set xs i x) i ≡ Some x
 get_same [] i x low = absurd (omega arith)
 get_same (y ∷ ys) zero x low = refl
 get_same (y ∷ ys) (suc i) x low = get_same ys i x (omega arith)
 
-get_other : {X : Type 0} (xs : List X) (i k : ℕ) (x : X) → (k ≡ i → ⊥) → slice_get (set xs i x) k ≡ slice_get xs k
+pub get_other : {X : Type 0} (xs : List X) (i k : ℕ) (x : X) → (k ≡ i → ⊥) → slice_get (set xs i x) k ≡ slice_get xs k
 get_other [] i k x apart = refl
 get_other (y ∷ ys) zero zero x apart = absurd (apart refl)
 get_other (y ∷ ys) zero (suc k) x apart = refl
 get_other (y ∷ ys) (suc i) zero x apart = refl
 get_other (y ∷ ys) (suc i) (suc k) x apart = get_other ys i k x (λ e. apart (ap suc e))
 
-wire_kept : (wires : List (Option PinWire)) (pin other : ℕ) (wire : Option PinWire) → nat_eq other pin ≡ false → wire_at (slice_set wires pin wire) other ≡ wire_at wires other
+pub wire_kept : (wires : List (Option PinWire)) (pin other : ℕ) (wire : Option PinWire) → nat_eq other pin ≡ false → wire_at (slice_set wires pin wire) other ≡ wire_at wires other
 wire_kept wires pin other wire apart =
     ap (option_and_then (λ (w : Option PinWire). w)) (get_other wires pin other wire (λ e. absurd (false≢true (sym apart ∙ eq-eqb other pin e))))
 

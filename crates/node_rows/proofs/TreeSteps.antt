@@ -1,6 +1,6 @@
--- The tables of wires, as a net with resistors comes.
+-- What is found of a net with resistors.
 
-use Rattle.std.proofs.Common.{◌≡◌, ℕ, ◌+◌, Bool, true, false, not, ◌||◌, List, [], ◌∷◌, ◌++◌, map, length, get_or, Option, None, Some, refl, sym, ap, subst, ◌∙◌}
+use Rattle.std.proofs.Common.{◌≡◌, ℕ, Bool, true, false, not, ◌||◌, List, [], ◌∷◌, map, length, get_or, Option, None, Some, refl, sym, ap, subst, ◌∙◌}
 use Rattle.std.specs.Prelude.{nat_eq, find, ◌&&◌, if◌then◌else◌, option_and_then, All, Contains}
 use Rattle.std.specs.List.{list_any}
 use Rattle.std.specs.Option.{option_map_or, unwrap_or}
@@ -23,17 +23,16 @@ use Rattle.rc_tree.specs.Trees.{Told, is_node, is_out_of_range, IsTreeOf}
 use Rattle.rc_tree.proofs.Routes.{same_rc_self}
 use Rattle.node_rows.specs.declared.pin_wires.NetLoad.{NetLoad}
 use Rattle.node_rows.specs.declared.pin_wires.PinWire.{PinWire}
-use Rattle.node_rows.specs.declared.pin_wires.Wires.{Wires}
 use Rattle.node_rows.specs.declared.net_trees.NetTrees.{NetTrees}
 use Rattle.node_rows.specs.NetPins.{IsOnNet, drives_at, pin_cap_at}
-use Rattle.node_rows.specs.NetTrees.{IsSoundNets, IsTreeNet, AreTrees, AreUpTo, HasWire, is_wide_net, late_of, pin_word}
+use Rattle.node_rows.specs.NetTrees.{IsSoundNets, IsTreeNet, AreTrees, HasWire, is_wide_net, late_of, pin_word}
 use Rattle.node_rows.specs.WireTables.{IsWire, split_load, wire_at}
+use Rattle.node_rows.specs.FoundNets.{AreNetWires, IsNetLoad}
 use Rattle.node_rows.proofs.Members.{some_is, later_in, any_in, any_back, found_in, found_passes, found_some, in_filter}
 use Rattle.node_rows.proofs.NetFaults.{has_driver}
 use Rattle.node_rows.proofs.PinLaws.{pin_of_number}
 use Rattle.node_rows.proofs.PinSums.{number, numbered, net_told, on_number, number_on}
 use Rattle.node_rows.proofs.TreeNets.{counted_in, counted_on, rc_in, rc_name, pin_named_there, tree_list_is, load_is, early_origin, late_origin, wired_to}
-use Rattle.node_rows.proofs.UpToLaws.{more_nets}
 
 -- the net of parasitics that are told by a number
 pub named_by : (d : Design) (o : Option (List ℕ)) (rc : NetRc) → option_and_then (rc_of d) o ≡ Some rc → o ≡ Some rc.net
@@ -113,49 +112,42 @@ module _ (s : Stored) (num : IsNumbered s) (linked : IsLinked s.design) (rc : Ne
       false_from_ne_true (is_out_of_range rc (pin_word s root) (map (pin_cap_at s Late) items))
       (λ h. false≢true (sym fine ∙ late_origin s num linked rc root items t h))
 
-  pub tree_more : (net : ℕ) → option_and_then (rc_of s.design) (name_at s.nets net) ≡ Some rc → IsOnNet s net items
-      → (trees : NetTrees) → AreTrees s rc root items trees → is_net_origin s.design rc.net ≡ false
-      → (w next : Wires) (load : NetLoad) → AreUpTo s w net → next.loads ≡ w.loads ++ load ∷ [] → length next.pins ≡ length w.pins
-      → load.early.0 ≡ trees.early.load → load.late.0 ≡ (late_of trees).load
-      → ((pin : ℕ) → Contains items pin → HasWire s rc (pin_word s root) (λ split. map (pin_cap_at s split) items) next.pins pin)
-      → ((other : ℕ) → list_any (nat_eq other) items ≡ false → wire_at next.pins other ≡ wire_at w.pins other)
-      → AreUpTo s next (net + 1)
-  tree_more net its each trees are fine w next load had pushed len early late put kept =
-      more_nets s w next net load had pushed len right wired others
-    where
-      named : name_at s.nets net ≡ Some rc.net
-      named = named_by s.design (name_at s.nets net) rc its
+  module _ (net : ℕ) (its : option_and_then (rc_of s.design) (name_at s.nets net) ≡ Some rc) (each : IsOnNet s net items)
+      (trees : NetTrees) (are : AreTrees s rc root items trees) (fine : is_net_origin s.design rc.net ≡ false) where
+    its_name : name_at s.nets net ≡ Some rc.net
+    its_name = named_by s.design (name_at s.nets net) rc its
 
-      right : (split : Split) (name : List ℕ) → name_at s.nets net ≡ Some name → (split_load split load ≡ net_load s.design split name) × (is_within (net_load s.design split name) ≡ true)
-      right Early name e =
-          let same : rc.net ≡ name = some_is (sym named ∙ e) in (
-            early ∙ are.early.load ∙ load_is s num linked rc root items t Early ∙ ap (net_load s.design Early) same,
-            ap (λ n. is_within (net_load s.design Early n)) (sym same) ∙ load_fine s.design rc.net fine Early,
-          )
-      right Late name e =
-          let same : rc.net ≡ name = some_is (sym named ∙ e) in (
-            late ∙ are.late.load ∙ load_is s num linked rc root items t Late ∙ ap (net_load s.design Late) same,
-            ap (λ n. is_within (net_load s.design Late n)) (sym same) ∙ load_fine s.design rc.net fine Late,
-          )
+    pub tree_load : (load : NetLoad) → load.early.0 ≡ trees.early.load → load.late.0 ≡ (late_of trees).load → IsNetLoad s net load
+    tree_load load early late = record { is = told; within = λ split name e. ap (λ n. is_within (net_load s.design split n)) (some_is (sym e ∙ its_name)) ∙ load_fine s.design rc.net fine split }
+      where
+        told : (split : Split) (name : List ℕ) → name_at s.nets net ≡ Some name → split_load split load ≡ net_load s.design split name
+        told Early name e = early ∙ are.early.load ∙ load_is s num linked rc root items t Early ∙ ap (net_load s.design Early) (some_is (sym its_name ∙ e))
+        told Late name e = late ∙ are.late.load ∙ load_is s num linked rc root items t Late ∙ ap (net_load s.design Late) (some_is (sym its_name ∙ e))
 
-      among : (pin : ℕ) → net_number s pin ≡ Some net → Contains items pin
-      among pin on =
-          let sits : is_on_number s net pin ≡ true = ap (λ o. option_map_or (nat_eq net) o false) on ∙ eq-eqb net net refl in
-          counted_in pin items (each pin ∙ ap (λ b. if b then 1 else 0) sits)
+    pub tree_wires : (old wires : List (Option PinWire)) → length wires ≡ length old
+        → ((pin : ℕ) → Contains items pin → HasWire s rc (pin_word s root) (λ split. map (pin_cap_at s split) items) wires pin)
+        → ((other : ℕ) → list_any (nat_eq other) items ≡ false → wire_at wires other ≡ wire_at old other)
+        → AreNetWires s net old wires
+    tree_wires old wires len put kept = record { len = len; wired = λ bare. wired; kept = others }
+      where
+        among : (pin : ℕ) → net_number s pin ≡ Some net → Contains items pin
+        among pin on =
+            let sits : is_on_number s net pin ≡ true = ap (λ o. option_map_or (nat_eq net) o false) on ∙ eq-eqb net net refl in
+            counted_in pin items (each pin ∙ ap (λ b. if b then 1 else 0) sits)
 
-      wired : (pin : ℕ) (to from : Pin) → pin_numbered s pin ≡ Some to → net_number s pin ≡ Some net → is_driver to ≡ false → Contains (driver_on s.design (net_of to)) from
-          → IsWire s.design from to (wire_at next.pins pin)
-      wired pin to from told on sinks led =
-          let k = net_told s pin net to told on in
-          let sits : net_of to ≡ Some rc.net = k.on ∙ sym k.told ∙ named in
-          let h = put pin (among pin on) in
-          subst (λ (o : Option PinWire). IsWire s.design from to o) (sym h.there)
-          (wired_to s num linked rc root items t h.wire to from pin (pin_of_number s num linked pin to told) sits led h.sinks (in_range fine))
+        wired : (pin : ℕ) (to from : Pin) → pin_numbered s pin ≡ Some to → net_number s pin ≡ Some net → is_driver to ≡ false → Contains (driver_on s.design (net_of to)) from
+            → IsWire s.design from to (wire_at wires pin)
+        wired pin to from told on sinks led =
+            let k = net_told s pin net to told on in
+            let sits : net_of to ≡ Some rc.net = k.on ∙ sym k.told ∙ its_name in
+            let h = put pin (among pin on) in
+            subst (λ (o : Option PinWire). IsWire s.design from to o) (sym h.there)
+            (wired_to s num linked rc root items t h.wire to from pin (pin_of_number s num linked pin to told) sits led h.sinks (in_range fine))
 
-      others : (pin n : ℕ) → net_number s pin ≡ Some n → (n ≡ net → ⊥) → wire_at next.pins pin ≡ wire_at w.pins pin
-      others pin n on apart =
-          kept pin (false_from_ne_true (list_any (nat_eq pin) items)
-          (λ h.
-          let r = any_back (nat_eq pin) items h in
-          let sits : is_on_number s net pin ≡ true = ap (is_on_number s net) (eqb-true pin r.item r.passes) ∙ counted_on s net items each r.item r.within in
-          apart (sym (eqb-true net n (sym (ap (λ o. option_map_or (nat_eq net) o false) on) ∙ sits)))))
+        others : (pin n : ℕ) → net_number s pin ≡ Some n → (n ≡ net → ⊥) → wire_at wires pin ≡ wire_at old pin
+        others pin n on apart =
+            kept pin (false_from_ne_true (list_any (nat_eq pin) items)
+            (λ h.
+            let r = any_back (nat_eq pin) items h in
+            let sits : is_on_number s net pin ≡ true = ap (is_on_number s net) (eqb-true pin r.item r.passes) ∙ counted_on s net items each r.item r.within in
+            apart (sym (eqb-true net n (sym (ap (λ o. option_map_or (nat_eq net) o false) on) ∙ sits)))))

@@ -18,8 +18,8 @@ use Rattle.node_rows.specs.declared.pin_wires.Wires.{Wires}
 use Rattle.node_rows.specs.WireTables.{split_load, load_told, wire_at, IsWire, AreWires}
 use Rattle.node_rows.specs.NetTrees.{AreUpTo, is_wide_net}
 use Rattle.node_rows.proofs.Members.{none_in}
-use Rattle.node_rows.proofs.PinLaws.{told_at, below_bound, pin_of_number, there as some_there}
-use Rattle.node_rows.proofs.PinSums.{net_listed}
+use Rattle.node_rows.proofs.PinLaws.{below_bound, pin_of_number, there as some_there}
+use Rattle.node_rows.proofs.PinSums.{net_told, net_listed}
 
 get_left : {X : Type 0} (xs : List X) (x : X) (n : ℕ) → n < length xs → slice_get (xs ++ x ∷ []) n ≡ slice_get xs n
 get_left [] x n low = absurd (omega arith)
@@ -71,6 +71,18 @@ module _ (s : Stored) where
           later = λ pin net low on. kept pin net on (λ e. omega (arith, e, low)) ∙ had.later pin net (omega (arith, low)) on;
         }
 
+  -- a pin to which a driver's net leads has the number of its net
+  pub led_net : IsNumbered s → IsLinked s.design → (pin : ℕ) (to from : Pin) → pin_numbered s pin ≡ Some to → Contains (driver_on s.design (net_of to)) from
+      → (n : ℕ) × (net_number s pin ≡ Some n)
+  led_net num linked pin to from told drives = by (net_of to) refl
+    where
+      by : (o : Option (List ℕ)) → net_of to ≡ o → (n : ℕ) × (net_number s pin ≡ Some n)
+      by None e = absurd (none_in from (subst (λ (o : Option (List ℕ)). Contains (driver_on s.design o) from) e drives))
+      by (Some name) e =
+          let there = pin_of_number s num linked pin to told in
+          let n = some_there (number_of s.nets name) (num.net_names name ∙ net_listed s.design linked to name there.within e) in
+          (n.0, ap (λ o. option_and_then (number_of s.nets) (option_and_then net_of o)) told ∙ ap (option_and_then (number_of s.nets)) e ∙ n.1)
+
   -- all nets
   pub all_nets : IsNumbered s → IsLinked s.design → (w : Wires) → AreUpTo s w (length s.nets) → AreWires s w
   all_nets num linked w had =
@@ -79,19 +91,11 @@ module _ (s : Stored) where
         pins = had.pins;
         loads = λ split net name named. had.loads split net name (below_bound s.nets name net named) named;
         within = λ split net name named. had.within split net name (below_bound s.nets name net named) named;
-        wires = λ pin to from told sinks drives. on_some pin to from told sinks drives (net_of to) refl;
+        wires = λ pin to from told sinks drives.
+            (let n = led_net num linked pin to from told drives in
+            let k = net_told s pin n.0 to told n.1 in
+            had.wires pin n.0 to from (below_bound s.nets k.name n.0 k.told) told n.1 sinks drives);
       }
-    where
-      on_some : (pin : ℕ) (to from : Pin) → pin_numbered s pin ≡ Some to → is_driver to ≡ false → Contains (driver_on s.design (net_of to)) from
-          → (o : Option (List ℕ)) → net_of to ≡ o → IsWire s.design from to (wire_at w.pins pin)
-      on_some pin to from told sinks drives None e =
-          absurd (none_in from (subst (λ (o : Option (List ℕ)). Contains (driver_on s.design o) from) e drives))
-      on_some pin to from told sinks drives (Some name) e =
-          let there = pin_of_number s num linked pin to told in
-          let n = some_there (number_of s.nets name) (num.net_names name ∙ net_listed s.design linked to name there.within e) in
-          let on : net_number s pin ≡ Some n.0 =
-          ap (λ o. option_and_then (number_of s.nets) (option_and_then net_of o)) told ∙ ap (option_and_then (number_of s.nets)) e ∙ n.1 in
-          had.wires pin n.0 to from (below_bound s.nets name n.0 (told_at s.nets name n.0 n.1)) told on sinks drives
 
 -- the nets below a number are in the tables, and none of them is too large
 pub record AreFine (s : Stored) (w : Wires) (bound : ℕ) : Type 0 where

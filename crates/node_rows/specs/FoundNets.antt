@@ -1,22 +1,26 @@
 -- What is found of nets, each by itself, before it is put into the tables of wires.
 
-use Rattle.std.specs.Prelude.{ℕ, ◌≡◌, ◌<◌, ◌+◌, ◌++◌, nat_eq, false, List, [], ◌∷◌, length, slice_set, All, Contains, Option, Some, Result, Ok, Err}
+use Rattle.std.specs.Prelude.{ℕ, ◌≡◌, ◌<◌, nat_eq, true, false, List, [], ◌∷◌, length, slice_set, All, Contains, Option, Some, None, Result, Ok, Err}
 use Rattle.std.specs.List.{list_any}
+use Rattle.sta_units.specs.Numbers.{is_within}
 use Rattle.timing_defs.specs.declared.kinds.Split.{Split}
 use Rattle.timing_defs.specs.declared.kinds.Split.TheVariants.{Early, Late}
 use Rattle.timing_defs.specs.declared.parasitics.NetRc.{NetRc}
 use Rattle.timing_defs.specs.declared.rows.PinCap.{PinCap}
-use Rattle.netlist_store.specs.Numbering.{Stored}
+use Rattle.timing_defs.specs.Netlist.{Pin, net_of, is_driver}
+use Rattle.timing_defs.specs.Wires.{net_load}
+use Rattle.timing_defs.specs.Clocking.{driver_on}
+use Rattle.netlist_store.specs.Numbering.{Stored, name_at, pin_numbered, net_number}
 use Rattle.rc_tree.specs.Trees.{IsTreeOf}
 use Rattle.node_rows.specs.declared.pin_wires.PinWire.{PinWire}
-use Rattle.node_rows.specs.declared.pin_wires.Wires.{Wires}
+use Rattle.node_rows.specs.declared.pin_wires.NetLoad.{NetLoad}
 use Rattle.node_rows.specs.declared.net_trees.NetTrees.{NetTrees}
 use Rattle.node_rows.specs.declared.found_nets.WireTo.{WireTo}
 use Rattle.node_rows.specs.declared.found_nets.FoundNet.{FoundNet}
 use Rattle.node_rows.specs.declared.unfit.Unfit.{Unfit}
 use Rattle.node_rows.specs.Evaluation.{IsUnfit}
-use Rattle.node_rows.specs.WireTables.{wire_at}
-use Rattle.node_rows.specs.NetTrees.{HasWire, AreUpTo, is_wide_net, late_of}
+use Rattle.node_rows.specs.WireTables.{split_load, wire_at, IsWire}
+use Rattle.node_rows.specs.NetTrees.{HasWire, is_wide_net, late_of}
 
 -- a table of wires, once these are put into it one after another
 abbrev pub with_wires : List (Option PinWire) → List WireTo → List (Option PinWire)
@@ -35,10 +39,23 @@ pub record AreWiresTo (s : Stored) (trees : NetTrees) (pins : List ℕ) (found :
   pub within : All (λ to. to.pin < length s.pins) found
   pub put : (old : List (Option PinWire)) → length old ≡ length s.pins → ArePut s trees old (with_wires old found) pins
 
--- what is found of a number, once it is put into tables of the nets below, gives tables of its net too
+-- a table of wires has those to the pins of a net, where it had none of them; those to the pins of other nets are as before
+pub record AreNetWires (s : Stored) (net : ℕ) (old wires : List (Option PinWire)) : Type 0 where
+  pub len : length wires ≡ length old
+  pub wired : ((pin : ℕ) → net_number s pin ≡ Some net → wire_at old pin ≡ None) → (pin : ℕ) (to from : Pin) → pin_numbered s pin ≡ Some to → net_number s pin ≡ Some net
+      → is_driver to ≡ false → Contains (driver_on s.design (net_of to)) from → IsWire s.design from to (wire_at wires pin)
+  pub kept : (pin other : ℕ) → net_number s pin ≡ Some other → (other ≡ net → ⊥) → wire_at wires pin ≡ wire_at old pin
+
+-- the load of the net of a number
+pub record IsNetLoad (s : Stored) (net : ℕ) (load : NetLoad) : Type 0 where
+  pub is : (split : Split) (name : List ℕ) → name_at s.nets net ≡ Some name → split_load split load ≡ net_load s.design split name
+  pub within : (split : Split) (name : List ℕ) → name_at s.nets net ≡ Some name → is_within (net_load s.design split name) ≡ true
+
+-- what is found of a number: the load of its net, and what gives any table the wires to its pins
 pub record IsFoundNet (s : Stored) (net : ℕ) (found : FoundNet) : Type 0 where
   pub within : All (λ to. to.pin < length s.pins) found.wires
-  pub more : (w next : Wires) → AreUpTo s w net → next.loads ≡ w.loads ++ found.load ∷ [] → next.pins ≡ with_wires w.pins found.wires → AreUpTo s next (net + 1)
+  pub load : IsNetLoad s net found.load
+  pub wires : (old : List (Option PinWire)) → length old ≡ length s.pins → AreNetWires s net old (with_wires old found.wires)
   pub fine : is_wide_net s net ≡ false
 
 -- what is answered for a number: what is found of it, or why nothing is

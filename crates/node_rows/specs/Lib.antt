@@ -5,4 +5,5 @@ pub mod FoundNets
 pub mod NetPins
 pub mod NetTrees
 pub mod PortTables
+pub mod RenewedNets
 pub mod WireTables

@@ -25,7 +25,10 @@ pub(crate) struct FoundNet {
 }
 
 /// Puts wires into a table.
-fn put_wires(table: &mut CowTable<Option<PinWire>>, wires: &[WireTo]) -> Result<(), Memory>
+pub(crate) fn put_wires(
+    table: &mut CowTable<Option<PinWire>>,
+    wires: &[WireTo],
+) -> Result<(), Memory>
     requires { All (λ to. to.pin < length table.old) wires.now }
     ensures { OnOk result (table.new ≡ with_wires table.old wires.now) }
 {

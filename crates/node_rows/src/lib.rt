@@ -19,6 +19,7 @@ mod settings;
 mod unfit;
 mod values;
 mod wire_tables;
+mod wire_updates;
 
 pub use arcs::{ArcEnds, ArcValues, arc_values, outer_some, same_tran};
 pub use delays::BothDelays;

@@ -285,7 +285,12 @@ fn found_gap(alloc: Global, store: &Store, net: u32) -> FoundNet
 }
 
 /// What is found of a number. `Range` exactly where a quantity of its net leaves its limit.
-fn found_net(alloc: Global, store: &Store, ports: &Ports, net: u32) -> Result<FoundNet, Unfit>
+pub(crate) fn found_net(
+    alloc: Global,
+    store: &Store,
+    ports: &Ports,
+    net: u32,
+) -> Result<FoundNet, Unfit>
     requires sound { IsSoundNets store.now }
     requires ports { ArePorts store.now.design.constraints ports.now }
     ensures found { IfOk result (IsFoundNet store.now net) }
@@ -370,7 +375,7 @@ fn no_wires<H: Threads + Sync>(
 }
 
 /// The fault of a net: it is too large, or memory is wanting.
-fn fault_of(alloc: Global, store: &Store, net: u32, unfit: Unfit) -> Fault
+pub(crate) fn fault_of(alloc: Global, store: &Store, net: u32, unfit: Unfit) -> Fault
     requires { IsUnfit (is_wide_net store.now net) unfit }
     ensures { IsLarge store.now.design result }
 {

@@ -1,8 +1,8 @@
 -- The fan-in cone of end nodes, from the arcs of the graph: each arc leads from a higher level, and an
 -- arc between two nodes of the graph is one of the design.
 
-use Rattle.std.proofs.Common.{◌≡◌, ◌⊎◌, ℕ, zero, suc, ◌+◌, ◌-◌, ◌^◌, ◌<◌, ◌≤◌, ℤ, Bool, true, false, if◌then◌else◌, max, List, [], ◌∷◌, map, length, get_or, Option, None, Some, refl, sym, ap, subst, ◌∙◌, inl, inr, arith}
-use Rattle.std.specs.Prelude.{nat_eq, All, Contains, slice_index, option_map, option_and_then, pos, ◌-ℤ◌, IfSome}
+use Rattle.std.proofs.Common.{◌≡◌, ◌⊎◌, ℕ, zero, suc, ◌+◌, ◌-◌, ◌^◌, ◌<◌, ◌≤◌, ℤ, Bool, true, false, if◌then◌else◌, max, List, [], ◌∷◌, map, length, get_or, Option, None, Some, Result, Ok, Err, refl, sym, ap, subst, ◌∙◌, inl, inr, arith}
+use Rattle.std.specs.Prelude.{nat_eq, All, Contains, slice_index, option_map, option_and_then, pos, ◌-ℤ◌, IfOk, IfSome}
 use Rattle.std.specs.List.{list_any, filter_map, range_with_len}
 use Rattle.std.specs.List.Sorted.{IsNonDecreasingBy}
 use Rattle.std.proofs.lemmas.Bool.{cases_Bool, cases_lt, eqb-true, eq-eqb, false≢true, and_parts, and_from, lt-ltb}
@@ -12,6 +12,7 @@ use Rattle.std.proofs.lemmas.List.Folds.{list_any_at}
 use Rattle.std.proofs.lemmas.List.FromFn.{length-range_with_len}
 use Rattle.std.proofs.lemmas.Int.{ints}
 use Rattle.std.proofs.Math.Nat.{le-max_left, le-max_right, max-eq_left, max-eq_right}
+use Rattle.sta_units.specs.declared.units.Memory.{Memory}
 use Rattle.sta_units.specs.Numbers.{Within}
 use Rattle.timing_defs.specs.declared.kinds.Kind.{Kind}
 use Rattle.timing_defs.specs.declared.kinds.Kind.TheVariants.{Setup, Hold}
@@ -278,6 +279,14 @@ cone_there g s kind ends nodes starts arcs f same num linked is table found fits
     (all_parts g (subst (λ (x : Stored). IsNumbered x) (sym same) num) (subst (λ (x : Stored). IsLinked x.design) (sym same) linked) is
     table (subst (λ (x : Stored). AreDelays x table) (sym same) found)
     kind fits ends nodes order.reached order.once order.falling starts arcs parts)
+
+-- the same of what may want memory
+pub cone_told : (g : Graphed) (s : Stored) (kind : Kind) (ends nodes starts : List ℕ) (arcs : List WalkArc) (r : Result FanIn Memory) → g.stored ≡ s → IsNumbered s → IsLinked s.design
+    → IsGraph g → (table : List (List ArcDelay)) → AreDelays s table → node_bound g.stored < 2 ^ 32 → AreOrdered g ends nodes
+    → AreParts (length nodes) (arcs_placed g kind nodes) starts arcs → IfOk r (λ f. f ≡ record { nodes = nodes; starts = starts; arcs = arcs }) → IfOk r (IsFanIn g kind ends)
+cone_told g s kind ends nodes starts arcs (Ok f) same num linked is table found fits order parts e =
+    cone_there g s kind ends nodes starts arcs f same num linked is table found fits order parts e
+cone_told g s kind ends nodes starts arcs (Err wanting) same num linked is table found fits order parts e = tt
 
 -- each node of a cone is below the bound
 pub ordered_low : (g : Graphed) (ends nodes : List ℕ) → AreOrdered g ends nodes → All (λ n. n < node_bound g.stored) nodes

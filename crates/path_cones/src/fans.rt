@@ -29,13 +29,6 @@ pub struct FanIn {
     pub arcs: Items<WalkArc>,
 }
 
-/// The fan-in cones of an endpoint for tests of both kinds.
-#[derive(Drop)]
-pub struct FanIns {
-    pub setup: FanIn,
-    pub hold: FanIn,
-}
-
 /// The numbers of a graph's nodes fit.
 fn bounded(graph: &Graph)
     ensures { node_bound graph.now.stored < 2 ^ 32 }
@@ -64,37 +57,10 @@ fn joined(alloc: Global, nodes: &IndexSet<u32>, listed: Listed) -> Result<FanIn,
     })
 }
 
-/// The cones of some end nodes for tests of both kinds, each as `fan_in` has it. The nodes, which are the
-/// same in both, are searched, sorted and looked up once. Takes the time of the cone's arcs and of sorting
-/// its nodes. Fails for want of memory, and where there are `2^22` nodes, more than a sound design has, or
-/// `2^32` arcs.
-pub fn fan_ins(
-    alloc: Global,
-    store: &Store,
-    graph: &Graph,
-    delays: &ArcDelays,
-    ends: &[u32],
-) -> Result<FanIns, Memory>
-    requires graph { graph.now.stored ≡ store.now }
-    requires delays { AreDelays store.now delays.now }
-    requires ends { All (λ end. end < node_bound graph.now.stored) ends.now }
-    ensures setup { IfOk result (λ fans. IsFanIn graph.now Kind.Setup ends.now fans.setup) }
-    ensures hold { IfOk result (λ fans. IsFanIn graph.now Kind.Hold ends.now fans.hold) }
-{
-    store.laws();
-    graph.laws();
-    bounded(graph);
-    let sources = Sources { graph, delays };
-    let nodes = ordered(alloc, graph, ends)?;
-    let listed = list_arcs(alloc, &sources, &nodes)?;
-    let setup = joined(alloc, &nodes, listed.setup)?;
-    let hold = joined(alloc, &nodes, listed.hold)?;
-    Ok(FanIns { setup, hold })
-}
-
 /// The cone of some end nodes: each node from which a walk of arcs leads to one of them and whose nodes
-/// after the first are outside the clock network, and the arcs between these. Takes the time of `fan_ins`,
-/// and fails where it does.
+/// after the first are outside the clock network, and the arcs between these. Takes the time of the cone's
+/// arcs and of sorting its nodes. Fails for want of memory, and where there are `2^22` nodes, more than a
+/// sound design has, or `2^32` arcs.
 pub fn fan_in(
     alloc: Global,
     store: &Store,
@@ -108,9 +74,11 @@ pub fn fan_in(
     requires ends { All (λ end. end < node_bound graph.now.stored) ends.now }
     ensures { IfOk result (IsFanIn graph.now kind ends.now) }
 {
-    let FanIns { setup, hold } = fan_ins(alloc, store, graph, delays, ends)?;
-    match kind {
-        Kind::Setup => Ok(setup),
-        Kind::Hold => Ok(hold),
-    }
+    store.laws();
+    graph.laws();
+    bounded(graph);
+    let sources = Sources { graph, delays };
+    let nodes = ordered(alloc, graph, ends)?;
+    let listed = list_arcs(alloc, &sources, &nodes, kind)?;
+    joined(alloc, &nodes, listed)
 }

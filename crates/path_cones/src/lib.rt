@@ -14,5 +14,5 @@ mod leveling;
 mod listing;
 mod reaching;
 
-pub use fans::{FanIn, FanIns, fan_in, fan_ins};
+pub use fans::{FanIn, fan_in};
 pub use following::arcs_into;

@@ -68,27 +68,24 @@ pub(crate) fn add_arc(arcs: &mut Items<WalkArc>, arc: Option<WalkArc>) -> Result
     }
 }
 
-/// Adds these arcs, by the places of nodes, to those of each kind.
+/// Adds these arcs, by the places of nodes.
 #[tactic(auto, using(crate::proofs::PartLaws::walked_more))]
 fn add_arcs(
     sources: &Sources<'_>,
+    kind: Kind,
     nodes: &IndexSet<u32>,
-    setup: &mut Items<WalkArc>,
-    hold: &mut Items<WalkArc>,
+    arcs: &mut Items<WalkArc>,
     into: &[GraphArc],
 ) -> Result<(), Memory>
     requires delays { AreDelays sources.now.graph.now.stored sources.now.delays.now }
     requires few { length nodes.now.keys < 2 ^ 22 }
     requires into { All (IsArc sources.now.graph.now.stored) into.now }
-    ensures setup { OnOk result (setup.new ≡ setup.old ++ filter_map (walk_arc sources.now.graph.now.stored Kind.Setup nodes.now.keys) into.now) }
-    ensures hold { OnOk result (hold.new ≡ hold.old ++ filter_map (walk_arc sources.now.graph.now.stored Kind.Hold nodes.now.keys) into.now) }
+    ensures { OnOk result (arcs.new ≡ arcs.old ++ filter_map (walk_arc sources.now.graph.now.stored kind nodes.now.keys) into.now) }
 {
     for arc in into {
         let place = from_place(nodes, *arc);
-        let late = walk_arc(sources, Kind::Setup, nodes, *arc, place);
-        let early = walk_arc(sources, Kind::Hold, nodes, *arc, place);
-        add_arc(setup, late)?;
-        add_arc(hold, early)?;
+        let walked = walk_arc(sources, kind, nodes, *arc, place);
+        add_arc(arcs, walked)?;
     }
     Ok(())
 }
@@ -98,13 +95,6 @@ fn add_arcs(
 pub(crate) struct Listed {
     pub(crate) starts: Items<u32>,
     pub(crate) arcs: Items<WalkArc>,
-}
-
-/// The same for tests of both kinds.
-#[derive(Drop)]
-pub(crate) struct BothListed {
-    pub(crate) setup: Listed,
-    pub(crate) hold: Listed,
 }
 
 /// The number of arcs so far. Fails where it does not fit.
@@ -131,40 +121,27 @@ fn first_start(alloc: Global, count: usize) -> Result<Items<u32>, Memory>
     Ok(starts)
 }
 
-/// Lists the arcs into each node of a cone, in time of the arcs. The place of a node from which an arc
-/// leads is looked up once for both kinds. Fails for want of memory, and where there are `2^32` arcs or
-/// more.
+/// Lists the arcs into each node of a cone, in time of the arcs. Fails for want of memory, and where there
+/// are `2^32` arcs or more.
 pub(crate) fn list_arcs(
     alloc: Global,
     sources: &Sources<'_>,
     nodes: &IndexSet<u32>,
-) -> Result<BothListed, Memory>
+    kind: Kind,
+) -> Result<Listed, Memory>
     requires delays { AreDelays sources.now.graph.now.stored sources.now.delays.now }
     requires few { length nodes.now.keys < 2 ^ 22 }
     requires below { All (λ n. n < node_bound sources.now.graph.now.stored) nodes.now.keys }
-    ensures setup { IfOk result (λ l. AreParts (length nodes.now.keys) (arcs_placed sources.now.graph.now Kind.Setup nodes.now.keys) l.setup.starts l.setup.arcs) }
-    ensures hold { IfOk result (λ l. AreParts (length nodes.now.keys) (arcs_placed sources.now.graph.now Kind.Hold nodes.now.keys) l.hold.starts l.hold.arcs) }
+    ensures { IfOk result (λ l. AreParts (length nodes.now.keys) (arcs_placed sources.now.graph.now kind nodes.now.keys) l.starts l.arcs) }
 {
     sources.graph.laws();
     let count = nodes.len();
-    let mut late_starts = first_start(alloc, count)?;
-    let mut early_starts = first_start(alloc, count)?;
-    let mut late = Items::with_room(alloc, 2 * count)?;
-    let mut early = Items::with_room(alloc, 2 * count)?;
+    let mut starts = first_start(alloc, count)?;
+    let mut arcs = Items::with_room(alloc, 2 * count)?;
     for node in nodes.as_slice() {
         let into = followed(sources.graph, *node);
-        add_arcs(sources, nodes, &mut late, &mut early, into)?;
-        end_part(&mut late_starts, &late)?;
-        end_part(&mut early_starts, &early)?;
+        add_arcs(sources, kind, nodes, &mut arcs, into)?;
+        end_part(&mut starts, &arcs)?;
     }
-    Ok(BothListed {
-        setup: Listed {
-            starts: late_starts,
-            arcs: late,
-        },
-        hold: Listed {
-            starts: early_starts,
-            arcs: early,
-        },
-    })
+    Ok(Listed { starts, arcs })
 }

@@ -19,7 +19,7 @@ use Rattle.worst_walks.specs.declared.cones.Launch.{Launch}
 use Rattle.worst_walks.specs.declared.cones.WalkEnd.{WalkEnd}
 use Rattle.worst_walks.specs.declared.cones.Cone.{Cone}
 use Rattle.worst_walks.specs.declared.cones.Walk.{Walk}
-use Rattle.worst_walks.specs.Walks.{count_of, delay_between, walk_sum, whole_list, ranks_along, IsWalk, IsWorst, IsLeastSlack}
+use Rattle.worst_walks.specs.Walks.{count_of, delay_between, walk_sum, whole_list, ranks_along, IsWalk, IsWorst}
 use Rattle.worst_walks.proofs.Offers.{walked, joined, end_within}
 use Rattle.path_search.specs.Launches.{IsLaunched, IsCourse, IsLaunchSlack, begin_names, edge_of_launch, launch_slacks, signed}
 use Rattle.path_search.specs.Offers.{IsOffer}
@@ -28,6 +28,13 @@ use Rattle.pin_graph.proofs.Members.{first_in, none_in, in_map, in_map_back}
 use Rattle.path_search.proofs.RankLaws.{Each, each_more, each_append, lists_agree}
 use Rattle.path_search.proofs.Shifts.{less, slacks_shift}
 use Rattle.path_search.proofs.ConeTails.{AreNodes, IsPlace, tail_of, walk_of}
+
+-- the least slack of all walks; None: there is no walk
+abbrev pub IsLeastSlack : Cone → Option ℤ → Type 0
+IsLeastSlack cone None = (walk : Walk) → IsWalk cone walk → ⊥
+IsLeastSlack cone (Some s) =
+    ((walk : Walk) × (IsWalk cone walk × (walk.slack ≡ s)))
+    × ((walk : Walk) → IsWalk cone walk → s ≤ℤ walk.slack)
 
 -- a launch of paths to an end node, at a place of the cone
 pub record IsLaunchPlace (d : Design) (kind : Kind) (cone : Cone) (Near : ℕ → Type 0) (name : ℕ → Named) (end : Named) (launch : Launch) : Type 0 where

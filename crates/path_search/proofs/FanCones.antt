@@ -36,7 +36,7 @@ use Rattle.worst_walks.specs.declared.cones.Launch.{Launch}
 use Rattle.worst_walks.specs.declared.cones.WalkEnd.{WalkEnd}
 use Rattle.worst_walks.specs.declared.cones.Cone.{Cone}
 use Rattle.worst_walks.specs.declared.cones.Walk.{Walk}
-use Rattle.worst_walks.specs.Walks.{arcs_into, delay_in, delay_between, is_first, is_launched, listed_into, IsCone, IsEnd, IsLaunch, IsOrdered, IsWalk, IsWorst, IsLeastSlack}
+use Rattle.worst_walks.specs.Walks.{arcs_into, delay_in, delay_between, is_first, is_launched, listed_into, IsCone, IsEnd, IsLaunch, IsOrdered, IsWalk, IsWorst}
 use Rattle.path_cones.specs.declared.fans.FanIn.{FanIn}
 use Rattle.path_cones.specs.Delays.{arc_numbered, followed_delay, signed as turned}
 use Rattle.path_cones.specs.FanIns.{IsFanIn, IsFromAbove, part_at}
@@ -51,7 +51,7 @@ use Rattle.path_search.proofs.NumberNames.{name_here, node_of_place, node_of_mor
 use Rattle.path_search.proofs.ClimbNames.{launch_alone, launch_names, climb_known}
 use Rattle.path_search.proofs.RankLaws.{Each}
 use Rattle.path_search.proofs.ConeTails.{IsStep, IsBack}
-use Rattle.path_search.proofs.ConeCourses.{IsPinEnd, IsEndAt, IsPinCone, IsWalkCourse, IsNaming, course_of, slack_told as course_slack, first_told}
+use Rattle.path_search.proofs.ConeCourses.{IsPinEnd, IsEndAt, IsPinCone, IsWalkCourse, IsNaming, IsLeastSlack, course_of, slack_told as course_slack, first_told}
 use Rattle.path_search.proofs.Endings.{slack_over, shown_over}
 use Rattle.path_cones.proofs.ConeLaws.{among_at}
 

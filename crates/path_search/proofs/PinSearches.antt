@@ -1,17 +1,14 @@
 -- What a search of a pin's cone finds is the pin's.
 
-use Rattle.std.proofs.Common.{◌≡◌, ℕ, ℤ, List, Option, refl, sym, subst}
+use Rattle.std.proofs.Common.{◌≡◌, ℕ, List, refl, sym, subst}
 use Rattle.timing_defs.specs.declared.kinds.Kind.{Kind}
-use Rattle.timing_defs.specs.Paths.{IsSlack}
 use Rattle.netlist_store.specs.Linked.{IsLinked}
 use Rattle.netlist_store.specs.Numbering.{IsNumbered}
 use Rattle.pin_graph.specs.Graphs.{Graphed, IsGraph}
-use Rattle.worst_walks.specs.declared.cones.Cone.{Cone}
-use Rattle.worst_walks.specs.Walks.{IsLeastSlack}
 use Rattle.path_search.specs.declared.cones.PinCone.{PinCone}
 use Rattle.path_search.specs.PinCones.{cone_of, IsPinCone, IsSearchFine}
 use Rattle.path_search.proofs.Setting.{timed}
-use Rattle.path_search.proofs.FanCones.{cone_told, ordered, slack_told}
+use Rattle.path_search.proofs.FanCones.{cone_told, ordered}
 use Rattle.path_search.proofs.PinEnds.{fan_below}
 
 -- a pin's cone is that of its fan-in
@@ -30,7 +27,3 @@ module _ (g : Graphed) (num : IsNumbered g.stored) (linked : IsLinked g.stored.d
     below = fan_below g kind h.ends h.f h.fan;
     ordered = ordered g num linked is (timed g num linked is) kind h.ends h.f h.fan pin h.rise h.fall h.made;
   })
-
-  pub pin_slack : (o : Option ℤ) → IsLeastSlack c.cone o → IsSlack g.stored.design kind pin o
-  pin_slack o least =
-      slack_told g num linked is (timed g num linked is) kind h.ends h.f h.fan pin h.rise h.fall h.made o (subst (λ (x : Cone). IsLeastSlack x o) h.cone least)

@@ -1,19 +1,19 @@
 -- The laws of a pin's cone in the forms in which the search has them.
 
-use Rattle.std.proofs.Common.{◌≡◌, ℕ, ℤ, List, [], ◌∷◌, ◌++◌, map, Option, Some, None, sym, ap, subst, ◌∙◌, append_assoc}
+use Rattle.std.proofs.Common.{◌≡◌, ℕ, ℤ, List, [], ◌∷◌, ◌++◌, map, Some, None, sym, ap, subst, ◌∙◌, append_assoc}
 use Rattle.timing_defs.specs.declared.kinds.Kind.{Kind}
 use Rattle.timing_defs.specs.declared.kinds.Split.{Split}
 use Rattle.timing_defs.specs.declared.rows.Path.{Path}
 use Rattle.timing_defs.specs.declared.rows.PathNode.{PathNode}
 use Rattle.timing_defs.specs.Netlist.{Node}
 use Rattle.timing_defs.specs.Tests.{data_split}
-use Rattle.timing_defs.specs.Paths.{Named, named, IsShown, IsSlack}
+use Rattle.timing_defs.specs.Paths.{Named, named, IsShown}
 use Rattle.netlist_store.specs.Linked.{IsLinked}
 use Rattle.netlist_store.specs.Numbering.{Stored, IsNumbered}
 use Rattle.pin_graph.specs.Nodes.{node_at}
 use Rattle.pin_graph.specs.Graphs.{Graphed, IsGraph}
 use Rattle.worst_walks.specs.declared.cones.Walk.{Walk}
-use Rattle.worst_walks.specs.Walks.{IsLeastSlack, IsWalk, IsWorst}
+use Rattle.worst_walks.specs.Walks.{IsWalk, IsWorst}
 use Rattle.path_search.specs.declared.cones.PinCone.{PinCone}
 use Rattle.path_search.specs.declared.counted.Counted.{Counted}
 use Rattle.path_search.specs.declared.shown.Ends.{Ends}
@@ -22,7 +22,7 @@ use Rattle.path_search.specs.Ranks.{climb, place_rank, places_before}
 use Rattle.path_search.specs.WalkTimes.{times_after}
 use Rattle.path_search.specs.PinCones.{capture_edge, capture_part, launch_part, name_part, name_told, place_name, time_part, time_numbered, AreEndsFine, AreEndsOf, AreNodesOf, IsPinCone, IsSearchFine, IsWalkFine, IsWalkPath}
 use Rattle.path_search.proofs.Setting.{timed}
-use Rattle.path_search.proofs.PinSearches.{cone_is, pin_slack, search_fine}
+use Rattle.path_search.proofs.PinSearches.{cone_is, search_fine}
 use Rattle.path_search.proofs.PinPaths.{ends_fine, none_told, path_told, shown_told, walk_fine}
 
 module _ (g : Graphed) (s : Stored) (same : g.stored ≡ s) (num : IsNumbered s) (linked : IsLinked s.design) (is : IsGraph g) (kind : Kind) (pin : List ℕ) (c : PinCone) (h : IsPinCone g kind pin c) where
@@ -34,9 +34,6 @@ module _ (g : Graphed) (s : Stored) (same : g.stored ≡ s) (num : IsNumbered s)
 
   pub search_as : IsSearchFine s g c
   search_as = subst (λ (x : Stored). IsSearchFine x g c) same (search_fine g num_in linked_in is kind pin c h)
-
-  pub slack_as : (o : Option ℤ) → IsLeastSlack c.cone o → IsSlack s.design kind pin o
-  slack_as o least = subst (λ (x : Stored). IsSlack x.design kind pin o) same (pin_slack g num_in linked_in is kind pin c h o least)
 
   pub walk_as : (walk : Walk) → IsWalk c.cone walk → IsWalkFine s c walk
   walk_as =

@@ -3,7 +3,7 @@
 use Rattle.std.proofs.Common.{◌≡◌, ℕ, ◌+◌, ◌<◌, ◌==◌, Bool, List, map, filter, length, get_or, Option, None, Some, sym, ap, subst, ◌∙◌}
 use Rattle.std.specs.Prelude.{All}
 use Rattle.std.proofs.lemmas.List.Elements.{Contains-get_or}
-use Rattle.timing_defs.specs.Checks.{net_fault, clock_not_tree, HasNoLoop}
+use Rattle.timing_defs.specs.Checks.{net_fault}
 use Rattle.netlist_store.specs.Linked.{IsLinked}
 use Rattle.netlist_store.specs.Numbering.{Stored, number_of, IsNumbered}
 use Rattle.levelizer.specs.Levels.{greatest, AreLevels}
@@ -11,15 +11,13 @@ use Rattle.pin_graph.specs.declared.arcs.GraphArc.{GraphArc}
 use Rattle.pin_graph.specs.declared.fans.End.TheVariants.{From, To}
 use Rattle.pin_graph.specs.declared.graphs.NodeGraph.{NodeGraph}
 use Rattle.pin_graph.specs.declared.pin_arcs.PinArc.{PinArc}
-use Rattle.pin_graph.specs.declared.pins.PinGraph.{PinGraph}
 use Rattle.pin_graph.specs.Fans.{IsFanOf}
-use Rattle.pin_graph.specs.Graphs.{fan_at, from_of, to_of, AreArcs, AreNodeLevels, IsGraph}
+use Rattle.pin_graph.specs.Graphs.{fan_at, from_of, to_of, AreArcs, AreNodeLevels}
 use Rattle.pin_graph.specs.Joins.{before, pin_arcs}
 use Rattle.pin_graph.specs.Networks.{clock_ports, IsNetwork}
 use Rattle.pin_graph.specs.NodeArcs.{node_arcs, node_link, AreNodes, AreMerged}
-use Rattle.pin_graph.specs.NodeGraphs.{graphed, IsNodeGraph}
+use Rattle.pin_graph.specs.NodeGraphs.{graphed, IsFound, IsNodeGraph}
 use Rattle.pin_graph.specs.Nodes.{node_bound}
-use Rattle.pin_graph.specs.PinGraphs.{IsPinGraph}
 use Rattle.pin_graph.specs.Placing.{ArePlaced}
 use Rattle.pin_graph.proofs.PinLaws.{told_at, below_bound}
 use Rattle.pin_graph.proofs.FanLaws.{room_holds, is_fan}
@@ -66,10 +64,12 @@ module _ (s : Stored) (num : IsNumbered s) (linked : IsLinked s.design) where
             ∙ ap (map (λ (arc : GraphArc). get_or nodes.levels arc.from 0 + 1)) (sym (ins_is node low)));
       }
 
-      pub node_graph_is : (fault : net_fault s.design ≡ None) (nodes : NodeGraph) → IsFanOf (node_bound s) To arcs nodes.ins → IsFanOf (node_bound s) From arcs nodes.outs
-          → AreLevels (node_bound s) (map node_link arcs) nodes.levels → ArePlaced (node_bound s) network (clock_ports s) arcs nodes.levels nodes.places
-          → IsNodeGraph s network nodes
-      node_graph_is fault nodes ins outs are placed =
+      pub node_graph_is : (fault : net_fault s.design ≡ None) (nodes : NodeGraph) → IsFound s network arcs nodes → IsNodeGraph s network nodes
+      node_graph_is fault nodes found =
+          let ins = found.ins in
+          let outs = found.outs in
+          let are = found.leveled in
+          let placed = found.placed in
           let ins_is : (t : ℕ) → t < node_bound s → fan_at nodes.ins t ≡ filter (λ arc. arc.to == t) arcs = λ t low. room_holds To (node_bound s) arcs nodes.ins ins t low in
           let outs_is : (t : ℕ) → t < node_bound s → fan_at nodes.outs t ≡ filter (λ arc. arc.from == t) arcs = λ t low. room_holds From (node_bound s) arcs nodes.outs outs t low in
           record {
@@ -82,17 +82,20 @@ module _ (s : Stored) (num : IsNumbered s) (linked : IsLinked s.design) where
           }
 
       -- as the calls have it
-      pub node_graph_as : (fault : net_fault s.design ≡ None) (nodes : NodeGraph) (n : ℕ) (network2 : List Bool) (ports ports2 levels2 : List ℕ) → n ≡ node_bound s
+      pub found_as : (nodes : NodeGraph) (n : ℕ) (network2 : List Bool) (ports ports2 levels2 : List ℕ) → n ≡ node_bound s
           → network2 ≡ network → ports ≡ clock_ports s → ports2 ≡ ports → levels2 ≡ nodes.levels
           → IsFanOf n To arcs nodes.ins → IsFanOf n From arcs nodes.outs → AreLevels n (map node_link arcs) nodes.levels → ArePlaced n network2 ports2 arcs levels2 nodes.places
-          → IsNodeGraph s network nodes
-      node_graph_as fault nodes n network2 ports ports2 levels2 long a b c e ins outs are placed =
-          node_graph_is fault nodes (subst (λ (m : ℕ). IsFanOf m To arcs nodes.ins) long ins) (subst (λ (m : ℕ). IsFanOf m From arcs nodes.outs) long outs)
-          (subst (λ (m : ℕ). AreLevels m (map node_link arcs) nodes.levels) long are)
-          (subst (λ (ls : List ℕ). ArePlaced (node_bound s) network (clock_ports s) arcs ls nodes.places) e
-          (subst (λ (ps : List ℕ). ArePlaced (node_bound s) network ps arcs levels2 nodes.places) (c ∙ b)
-          (subst (λ (ns : List Bool). ArePlaced (node_bound s) ns ports2 arcs levels2 nodes.places) a
-          (subst (λ (m : ℕ). ArePlaced m network2 ports2 arcs levels2 nodes.places) long placed))))
+          → IsFound s network arcs nodes
+      found_as nodes n network2 ports ports2 levels2 long a b c e ins outs are placed = record {
+        ins = subst (λ (m : ℕ). IsFanOf m To arcs nodes.ins) long ins;
+        outs = subst (λ (m : ℕ). IsFanOf m From arcs nodes.outs) long outs;
+        leveled = subst (λ (m : ℕ). AreLevels m (map node_link arcs) nodes.levels) long are;
+        placed =
+            subst (λ (ls : List ℕ). ArePlaced (node_bound s) network (clock_ports s) arcs ls nodes.places) e
+            (subst (λ (ps : List ℕ). ArePlaced (node_bound s) network ps arcs levels2 nodes.places) (c ∙ b)
+            (subst (λ (ns : List Bool). ArePlaced (node_bound s) ns ports2 arcs levels2 nodes.places) a
+            (subst (λ (m : ℕ). ArePlaced m network2 ports2 arcs levels2 nodes.places) long placed)));
+      }
 
 pub number_low : (names : List (Option (List ℕ))) (name : List ℕ) (n : ℕ) → Some n ≡ number_of names name → n < length names
 number_low names name n e = below_bound names name n (told_at names name n (sym e))
@@ -101,19 +104,3 @@ pub ports_as : (s : Stored) (network network2 : List Bool) (ports ports2 : List 
     → ports ≡ clock_ports s → ports2 ≡ ports → All (λ q. q < length network2) ports2
 ports_as s network network2 ports ports2 within long a b c =
     subst (λ (ps : List ℕ). All (λ q. q < length network2) ps) (sym (c ∙ b)) (subst (λ (n : ℕ). All (λ q. q < n) (clock_ports s)) (sym (ap length a ∙ long)) within)
-
-pub graph_is : (s s2 : Stored) (pins : PinGraph) (nodes : NodeGraph) → s2 ≡ s → HasNoLoop s.design → clock_not_tree s.design ≡ None → IsPinGraph s pins → IsNodeGraph s pins.network nodes
-    → IsGraph (record { stored = s2; ins = nodes.ins; outs = nodes.outs; network = pins.network; levels = nodes.levels; places = nodes.places })
-graph_is s s2 pins nodes same no_loop tree are n =
-    subst (λ (t : Stored). IsGraph (record { stored = t; ins = nodes.ins; outs = nodes.outs; network = pins.network; levels = nodes.levels; places = nodes.places })) (sym same)
-    (record {
-      in_fan = n.in_fan;
-      out_fan = n.out_fan;
-      ins = n.ins;
-      outs = n.outs;
-      network = record { count = are.marked.count; each = are.marked.each };
-      levels = n.levels;
-      places = n.places;
-      no_loop = no_loop;
-      tree = tree;
-    })

@@ -1,10 +1,9 @@
 -- The nodes of a graph by its levels: levels rise along arcs, and are below the number of nodes.
 
-use Rattle.std.proofs.Common.{◌≡◌, ◌⊎◌, ℕ, zero, suc, ◌+◌, ◌<◌, ◌≤◌, Bool, true, false, List, [], ◌∷◌, map, length, Option, None, Some, refl, sym, ap, subst, ◌∙◌, inl, inr, arith}
-use Rattle.std.specs.Prelude.{Contains, max, nat_eq, nat_lt, ◌-◌, find, filter, not, ◌&&◌, ◌||◌, is_some, option_map, option_and_then, if◌then◌else◌}
+use Rattle.std.proofs.Common.{◌≡◌, ◌⊎◌, ℕ, zero, suc, ◌+◌, ◌<◌, ◌≤◌, true, List, [], ◌∷◌, map, length, Option, None, Some, refl, sym, ap, subst, ◌∙◌, inl, inr, arith}
+use Rattle.std.specs.Prelude.{Contains, max, nat_lt, ◌-◌, not, ◌&&◌, ◌||◌, option_map}
 use Rattle.std.specs.List.{list_any, flat_map}
 use Rattle.std.specs.Option.{option_map_or, option_to_list}
-use Rattle.std.specs.Str.{bytes_eq}
 use Rattle.std.proofs.Math.Nat.{le-max_left, le-max_right, max-eq_left, max-eq_right}
 use Rattle.std.proofs.lemmas.Bool.{cases_Bool, cases_lt, false≢true, and_parts}
 use Rattle.std.proofs.lemmas.Slice.Eq.{bytes_eq-Decides}
@@ -16,19 +15,19 @@ use Rattle.timing_defs.specs.declared.kinds.Tran.TheVariants.{Rise, Fall}
 use Rattle.timing_defs.specs.Netlist.{Pin, Node, name_of, net_of, pins, nodes, both_nodes, inst_pins, is_driver, is_on, driver, same_node, same_pin, same_tran, pin_named}
 use Rattle.timing_defs.specs.Clocking.{is_network, driver_on}
 use Rattle.timing_defs.specs.Required.{arcs_out}
-use Rattle.timing_defs.specs.Rows.{arcs_in, all_arcs_in, net_arcs_in, cell_arcs_in, library_arcs}
+use Rattle.timing_defs.specs.Rows.{arcs_in, all_arcs_in, cell_arcs_in, library_arcs}
 use Rattle.timing_defs.specs.Cones.{has_register_arc}
 use Rattle.netlist_store.specs.Linked.{IsLinked}
-use Rattle.netlist_store.specs.Numbering.{Stored, IsNumbered}
+use Rattle.netlist_store.specs.Numbering.{IsNumbered}
 use Rattle.levelizer.specs.Levels.{greatest}
 use Rattle.pin_graph.specs.declared.arcs.GraphArc.{GraphArc}
-use Rattle.pin_graph.specs.Nodes.{node_at, node_number, node_bound, number_at}
-use Rattle.pin_graph.specs.Graphs.{Graphed, IsGraph, IsArc, AreArcs, to_of, from_of, fan_at, level_at, kind_between}
-use Rattle.pin_graph.proofs.Members.{some_is, first_in, later_in, none_in, in_map, in_map_back, in_flat_map, in_flat_map_back, kept_in, passes_in, any_back, found_in, found_passes}
-use Rattle.pin_graph.proofs.PinLaws.{HasNumber, IsOwn, pin_found, pin_told, own_in, own_back, own_pins}
+use Rattle.pin_graph.specs.Nodes.{node_number, number_at}
+use Rattle.pin_graph.specs.Graphs.{Graphed, IsGraph, IsArc, fan_at, level_at, kind_between}
+use Rattle.pin_graph.proofs.Members.{some_is, none_in, in_map, in_map_back, in_flat_map, in_flat_map_back, kept_in, passes_in, any_back, found_in}
+use Rattle.pin_graph.proofs.PinLaws.{pin_found, pin_told, own_in, own_back, own_pins}
 use Rattle.timing_defs.proofs.RowLaws.{ArePlacedNodes, AreHighNodes}
 use Rattle.pin_graph.proofs.LevelBound.{level_low}
-use Rattle.pin_graph.proofs.NodeLaws.{HasNode, node_told, node_below, has_node, one_number}
+use Rattle.pin_graph.proofs.NodeLaws.{HasNode, node_told, node_below, has_node}
 
 -- the greatest of a list
 greatest_over : (xs : List ℕ) (x : ℕ) → Contains xs x → x ≤ greatest xs

@@ -1,6 +1,6 @@
 -- Levels are no more than the nodes: below each level stands a node of every lower one.
 
-use Rattle.std.proofs.Common.{◌≡◌, ℕ, zero, suc, ◌+◌, ◌<◌, ◌≤◌, Bool, true, false, List, [], ◌∷◌, map, length, cond, get_or, refl, sym, ap, subst, ◌∙◌, inl, inr, arith, lt-ltb, le-ltb}
+use Rattle.std.proofs.Common.{◌≡◌, ℕ, zero, suc, ◌+◌, ◌<◌, ◌≤◌, Bool, true, false, List, [], ◌∷◌, map, length, cond, refl, sym, ap, subst, ◌∙◌, inl, inr, arith, lt-ltb, le-ltb}
 use Rattle.std.specs.Prelude.{Contains, nat_eq, nat_lt, count_by}
 use Rattle.std.proofs.lemmas.Bool.{cases_lt, cases_eq, eq-eqb, ne_eqb}
 use Rattle.std.proofs.lemmas.List.{length-map}
@@ -43,7 +43,7 @@ more_below k (x ∷ xs) =
     let rest = more_below k xs in
     omega (arith, a, b, c, one, rest)
 
-in_counted : (k : ℕ) (xs : List ℕ) → Contains xs k → 1 ≤ count_by (nat_eq k) xs
+pub in_counted : (k : ℕ) (xs : List ℕ) → Contains xs k → 1 ≤ count_by (nat_eq k) xs
 in_counted k [] (i, low, is) = absurd (omega (arith, low))
 in_counted k (x ∷ xs) (zero, low, is) =
     let a = counted (nat_eq k) x xs in

@@ -1,3 +1,5 @@
+pub mod AlikeAfter
+pub mod AlikeLaws
 pub mod ArcLaws
 pub mod DriverLaws
 pub mod FanLaws
@@ -6,6 +8,7 @@ pub mod GraphOf
 pub mod GraphPlaces
 pub mod GraphRows
 pub mod JoinLaws
+pub mod KeptLaws
 pub mod LevelBound
 pub mod LevelLaws
 pub mod LoopLaws
@@ -17,6 +20,10 @@ pub mod OwnLaws
 pub mod PinLaws
 pub mod PinNames
 pub mod PlaceLaws
+pub mod SeedLaws
+pub mod SeedPins
 pub mod StartLaws
 pub mod TreeLaws
 pub mod WalkLaws
+pub mod NodeCounts
+pub mod GonePins

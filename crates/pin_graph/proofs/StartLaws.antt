@@ -15,7 +15,7 @@ use Rattle.timing_defs.specs.Clocking.{cell_tests}
 use Rattle.timing_defs.specs.Rows.{is_input_port}
 use Rattle.netlist_store.specs.Numbering.{Stored, name_at, number_of, is_number, inst_numbered}
 use Rattle.pin_graph.specs.Joins.{own_number}
-use Rattle.pin_graph.specs.Networks.{inst_tests, tests_of, IsNetwork}
+use Rattle.pin_graph.specs.Networks.{inst_tests, tests_of}
 use Rattle.pin_graph.proofs.Members.{some_is}
 use Rattle.pin_graph.proofs.PinLaws.{told_at}
 
@@ -80,10 +80,10 @@ both_more a b marks marks2 i here had is put = record {
 }
 
 -- what two clauses of one answer say together
-pub network_ok : {E : Type 0} (s : Stored) (r : Result (List Bool) E) (a b : List Bool)
-    → ((marks : List Bool) → length marks ≡ length a → ((m : ℕ) → m < length a → get_or marks m false ≡ (get_or a m false && get_or b m false)) → IsNetwork s marks)
+pub marks_ok : {E : Type 0} (P : List Bool → Type 0) (r : Result (List Bool) E) (a b : List Bool)
+    → ((marks : List Bool) → length marks ≡ length a → ((m : ℕ) → m < length a → get_or marks m false ≡ (get_or a m false && get_or b m false)) → P marks)
     → IfOk r (λ marks. length marks ≡ length a)
     → IfOk r (λ marks. (m : ℕ) → m < length a → get_or marks m false ≡ (get_or a m false && get_or b m false))
-    → IfOk r (IsNetwork s)
-network_ok s (Ok marks) a b f h k = f marks h k
-network_ok s (Err e) a b f h k = tt
+    → IfOk r P
+marks_ok P (Ok marks) a b f h k = f marks h k
+marks_ok P (Err e) a b f h k = tt

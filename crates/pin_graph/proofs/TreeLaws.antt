@@ -560,7 +560,7 @@ module _ (s : Stored) (num : IsNumbered s) (linked : IsLinked s.design) (fault :
       (omega (arith, p.from_number.below, net.count), omega (arith, p.to_number.below, net.count))
 
   -- a pin that is entered in different ways is there
-  pin_of : (m : ℕ) → AreApart marks (pin_arcs s) m → (p : Pin) × HasNumber s p m
+  pub pin_of : (m : ℕ) → AreApart marks (pin_arcs s) m → (p : Pin) × HasNumber s p m
   pin_of m a =
       let k = placed_back s num linked a.one a.one_in in
       (cell_pin k.inst k.to, moved s (cell_pin k.inst k.to) a.one.to m a.one_to k.to_number)

@@ -1,6 +1,8 @@
+pub mod Alike
 pub mod Fans
 pub mod Graphs
 pub mod Joins
+pub mod Kept
 pub mod Loops
 pub mod Networks
 pub mod NodeArcs
@@ -9,5 +11,6 @@ pub mod Nodes
 pub mod PinGraphs
 pub mod Placing
 pub mod Refusals
+pub mod Seeds
 pub mod Trees
 pub mod RowTables

@@ -1,7 +1,7 @@
 -- The clock network by the numbers of pins: the arcs along which clocks go, the clocks' ports and the
 -- registers' clock pins.
 
-use Rattle.std.specs.Prelude.{ℕ, ◌≡◌, ◌<◌, ◌++◌, List, [], Bool, true, false, Contains, length, if◌then◌else◌, slice_index_or, Option, Some, None, option_and_then}
+use Rattle.std.specs.Prelude.{ℕ, ◌≡◌, ◌<◌, ◌++◌, List, [], Bool, true, false, ◌&&◌, Contains, map, length, if◌then◌else◌, slice_index_or, Option, Some, None, option_and_then}
 use Rattle.std.specs.List.{filter_map, flat_map, range_with_len}
 use Rattle.std.specs.Option.{option_map_or}
 use Rattle.timing_defs.specs.declared.kinds.Split.TheVariants.{Late}
@@ -13,6 +13,7 @@ use Rattle.timing_defs.specs.Checks.{network_before}
 use Rattle.timing_defs.specs.Rows.{is_input_port}
 use Rattle.netlist_store.specs.Numbering.{Stored, number_of, inst_numbered, pin_numbered}
 use Rattle.levelizer.specs.declared.links.Link.{Link}
+use Rattle.levelizer.specs.Reaching.{has_mark, AreReached}
 use Rattle.pin_graph.specs.declared.pin_arcs.PinArc.{PinArc}
 use Rattle.pin_graph.specs.Joins.{own_number, link_of, net_links, pin_arcs}
 
@@ -62,3 +63,12 @@ pub record IsNetwork (s : Stored) (marks : List Bool) : Type 0 where
   pub each : (pin : ℕ) → pin < length s.pins → slice_index_or marks pin false ≡ option_map_or (is_network s.design) (pin_numbered s pin) false
   pub entered : (pin : Pin) → Contains (pins s.design) pin → is_network s.design pin ≡ true → is_clock_port s.design pin ≡ false
       → 0 < length (network_before s.design pin)
+
+-- the marked numbers are those that the clocks' ports reach and that reach registers' clock pins
+pub record AreClockMarks (s : Stored) (marks : List Bool) : Type 0 where
+  pub from : List Bool
+  pub to : List Bool
+  pub forth : AreReached (length s.pins) (network_links s) (clock_ports s) from
+  pub back : AreReached (length s.pins) (map turned (network_links s)) (clock_pins s) to
+  pub count : length marks ≡ length s.pins
+  pub each : (pin : ℕ) → pin < length s.pins → has_mark marks pin ≡ (has_mark from pin && has_mark to pin)

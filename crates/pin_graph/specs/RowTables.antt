@@ -1,6 +1,6 @@
 -- Tables of rows by the numbers of a graph's nodes, and designs in which no quantity leaves its limit.
 
-use Rattle.std.specs.Prelude.{ℕ, ◌<◌, ◌≡◌, ⊤, Bool, true, false, List, length, slice_get, Contains, Some}
+use Rattle.std.specs.Prelude.{ℕ, ◌<◌, ◌≡◌, ⊤, true, false, List, length, slice_get, Contains, Some}
 use Rattle.std.specs.Option.{option_map_or}
 use Rattle.timing_defs.specs.declared.kinds.Split.{Split}
 use Rattle.timing_defs.specs.declared.design.Design.{Design}

@@ -2,16 +2,20 @@
 
 ghost use Rattle.std.specs.Prelude.{◌≡◌, ◌<◌, None, Some, if◌then◌else◌, IfOk, IfErr, IfSome};
 ghost use Rattle.timing_defs.specs.Checks.{net_fault, clock_not_tree, HasNoLoop};
-ghost use Rattle.netlist_store.specs.Numbering.{is_number};
+ghost use Rattle.netlist_store.specs.Linked.{IsLinked};
+ghost use Rattle.netlist_store.specs.Numbering.{is_number, IsNumbered};
 ghost use Rattle.pin_graph.specs.Refusals.{IsGraphRefused};
 ghost use Rattle.pin_graph.specs.Nodes.{node_bound, number_at, pin_under, tran_under};
 ghost use Rattle.pin_graph.specs.NodeArcs.{node_arcs, AreMerged};
-ghost use Rattle.pin_graph.specs.NodeGraphs.{IsNodeGraph};
+ghost use Rattle.pin_graph.specs.NodeGraphs.{IsFound};
+ghost use Rattle.pin_graph.specs.Kept.{graph_in, IsKept, HaveSameLinks};
+ghost use Rattle.netlist_store.specs.Applying.{IsEditOf};
 ghost use Rattle.pin_graph.specs.PinGraphs.{IsPinGraph};
 ghost use Rattle.pin_graph.specs.Graphs.{fan_at, network_at, level_at, place_at, IsGraph};
 
 use crate::arcs::GraphArc;
 use crate::fans::{End, Fan};
+use crate::keeping::keeps_links;
 use crate::merging::merged;
 use crate::networks::clock_ports;
 use crate::node_arcs::node_arcs;
@@ -20,6 +24,7 @@ use crate::nodes::{node_number, pin_under, tran_under};
 use crate::pins::{PinGraph, pin_graph};
 use crate::places::places;
 use crate::trees::check_tree;
+use cow_table::Held;
 use netlist_store::{Store, Touched};
 use sta_units::Memory;
 use std::alloc::Global;
@@ -32,21 +37,28 @@ use timing_defs::{Fault, Items, Name, Tran};
 #[derive(Drop)]
 pub struct Graph {
     store: Store,
-    ins: Fan,
-    outs: Fan,
-    network: Items<bool>,
-    levels: Items<u32>,
-    places: Items<Option<u32>>,
+    tables: Held<Tables>,
 }
 
 impl Model for Graph {
-    ghost use Rattle.pin_graph.specs.Graphs.{Graphed, IsGraph};
+    ghost use Rattle.pin_graph.specs.Graphs.{Graphed};
+    ghost use Rattle.pin_graph.specs.Kept.{IsKept};
 
     ghost Value = { Graphed };
 
-    ghost view = { λ g. record { stored = g.store; ins = g.ins; outs = g.outs; network = g.network; levels = g.levels; places = g.places } };
+    ghost view = { λ g. record { stored = g.store; ins = g.tables.ins; outs = g.tables.outs; network = g.tables.network; levels = g.tables.levels; places = g.tables.places } };
 
-    ghost invariant = { λ g. IsGraph (record { stored = g.store; ins = g.ins; outs = g.outs; network = g.network; levels = g.levels; places = g.places }) };
+    ghost invariant = { λ g. IsKept (record { stored = g.store; ins = g.tables.ins; outs = g.tables.outs; network = g.tables.network; levels = g.tables.levels; places = g.tables.places }) };
+}
+
+/// What is known of nodes and pins. Graphs of stores with the same links share it.
+#[derive(Drop)]
+pub(crate) struct Tables {
+    pub(crate) ins: Fan,
+    pub(crate) outs: Fan,
+    pub(crate) network: Items<bool>,
+    pub(crate) levels: Items<u32>,
+    pub(crate) places: Items<Option<u32>>,
 }
 
 /// What is found of nodes.
@@ -84,7 +96,7 @@ fn node_graph(
     requires fault { net_fault store.now.design ≡ None }
     requires pins { IsPinGraph store.now pins.now }
     requires arcs { AreMerged (node_bound store.now) (node_arcs store.now pins.now.network) arcs.now }
-    ensures { IfOk result (IsNodeGraph store.now pins.now.network) }
+    ensures { IfOk result (IsFound store.now pins.now.network arcs.now) }
 {
     store.laws();
     let n = 2 * store.pin_bound();
@@ -116,17 +128,38 @@ fn graph_of(alloc: Global, store: &Store, pins: PinGraph) -> Result<Graph, Memor
     requires pins { IsPinGraph store.now pins }
     ensures { IfOk result (λ graph. graph.stored ≡ store.now) }
 {
+    store.laws();
     let arcs = merged_arcs(alloc, store, &pins)?;
     let nodes = node_graph(alloc, store, &pins, arcs.as_slice())?;
-    let store = store.copy()?;
-    Ok(Graph {
-        store,
+    let tables = Held::of(alloc, tables_of(pins.network, nodes))?;
+    with_tables(store, tables)
+}
+
+/// The tables of nodes and of pins.
+fn tables_of(network: Items<bool>, nodes: NodeGraph) -> Tables
+    ensures { result ≡ record { ins = nodes.ins; outs = nodes.outs; network = network; levels = nodes.levels; places = nodes.places } }
+{
+    Tables {
         ins: nodes.ins,
         outs: nodes.outs,
-        network: pins.network,
+        network,
         levels: nodes.levels,
         places: nodes.places,
-    })
+    }
+}
+
+/// The graph of a store with its tables.
+fn with_tables(store: &Store, tables: Held<Tables>) -> Result<Graph, Memory>
+    requires { IsKept (graph_in store.now tables) }
+    ensures { IfOk result (λ graph. graph.stored ≡ store.now) }
+{
+    match store.copy() {
+        Ok(store) => Ok(Graph { store, tables }),
+        Err(wanting) => {
+            tables.discard();
+            Err(wanting)
+        }
+    }
 }
 
 impl Graph {
@@ -144,28 +177,71 @@ impl Graph {
         Ok(graph_of(alloc, store, pins)?)
     }
 
+    /// The graph of another store with the same links, which shares this one's tables.
+    #[tactic(auto, using(crate::proofs::KeptLaws::kept_held))]
+    fn shared(&self, store: &Store) -> Result<Graph, Memory>
+        requires fault { net_fault store.now.design ≡ None }
+        requires links { HaveSameLinks self.now.stored store.now }
+        ensures { IfOk result (λ graph. graph.stored ≡ store.now) }
+    {
+        store.laws();
+        let tables = self.tables.share()?;
+        with_tables(store, tables)
+    }
+
     /// The graph of the store that an ECO made of this graph's store, as `of` has it; `touched` is what the
-    /// ECO touched. It is found anew, in the time of `of`.
+    /// ECO touched. Where the ECO left all links (it sets parasitics, or gives instances cells with the same
+    /// pins, arcs and tests, in one order) the tables are shared, in the time of the change; else the graph
+    /// is found anew, in the time of `of`.
     pub fn update(&self, alloc: Global, store: &Store, touched: &Touched) -> Result<Graph, Fault>
-        requires { net_fault store.now.design ≡ None }
+        requires fault { net_fault store.now.design ≡ None }
+        requires made { IsEditOf self.now.stored (record { insts = touched.now.insts; nets = touched.now.nets }) store.now }
         ensures graph { IfOk result (λ graph. graph.stored ≡ store.now) }
         ensures refused { IfErr result (IsGraphRefused store.now.design) }
     {
-        let _ = &self.levels;
-        let _ = touched;
-        Graph::of(alloc, store)
+        if keeps_links(&self.store, store, touched) {
+            Ok(self.shared(store)?)
+        } else {
+            Graph::of(alloc, store)
+        }
     }
 
     /// Gives the graph up.
     pub fn discard(self) {
-        self.store.discard();
+        let Graph { store, tables } = self;
+        store.discard();
+        tables.discard();
     }
 
     /// What every graph keeps, told to the proofs of callers; the call does nothing.
     pub fn laws(&self)
         ensures { IsGraph self.now }
     {
-        let _ = &self.levels;
+        let _ = &self.tables;
+    }
+
+    /// The same, and how the graph was found, told to the proofs of this crate; the call does nothing.
+    pub(crate) fn kept(&self)
+        ensures kept { IsKept self.now }
+        ensures numbered { IsNumbered self.now.stored }
+        ensures linked { IsLinked self.now.stored.design }
+    {
+        self.store.laws();
+        let _ = &self.tables;
+    }
+
+    /// The store.
+    pub fn store(&self) -> &Store
+        ensures { result.now ≡ self.now.stored }
+    {
+        &self.store
+    }
+
+    /// Whether a number is that of a node.
+    pub(crate) fn has(&self, node: u32) -> bool
+        ensures { result ≡ is_number self.now.stored.pins (pin_under node) }
+    {
+        self.store.has_pin(pin_under(node))
     }
 
     /// A number above that of every node.
@@ -212,7 +288,7 @@ impl Graph {
         requires { node < node_bound self.now.stored }
         ensures { result.now ≡ fan_at self.now.ins node }
     {
-        self.ins.at(node)
+        self.tables.get().ins.at(node)
     }
 
     /// The arcs out of a node; none of a number that is of no node. Takes no memory.
@@ -220,7 +296,7 @@ impl Graph {
         requires { node < node_bound self.now.stored }
         ensures { result.now ≡ fan_at self.now.outs node }
     {
-        self.outs.at(node)
+        self.tables.get().outs.at(node)
     }
 
     /// Whether a node is of the clock network.
@@ -228,7 +304,7 @@ impl Graph {
         requires { node < node_bound self.now.stored }
         ensures { result ≡ network_at self.now node }
     {
-        self.network.as_slice()[pin_under(node) as usize]
+        self.tables.get().network.as_slice()[pin_under(node) as usize]
     }
 
     /// The level of a node: 0 without arcs in, else one more than its greatest predecessor's.
@@ -236,7 +312,7 @@ impl Graph {
         requires { node < node_bound self.now.stored }
         ensures { result ≡ level_at self.now node }
     {
-        self.levels.as_slice()[node as usize]
+        self.tables.get().levels.as_slice()[node as usize]
     }
 
     /// The place of a node in the clock network, lower than those of the nodes behind it; none exactly
@@ -245,6 +321,6 @@ impl Graph {
         requires { node < node_bound self.now.stored }
         ensures { result ≡ place_at self.now node }
     {
-        self.places.as_slice()[node as usize]
+        self.tables.get().places.as_slice()[node as usize]
     }
 }

@@ -6,13 +6,16 @@
 //! pins' levels (`loops`), the clock network (`networks`) and its tree (`trees`). From these come the
 //! arcs between nodes that stand (`node_arcs`), one for several between the same two nodes (`merging`),
 //! side by side by their ends (`fans`), the nodes' levels (`node_levels`) and the places of the clock
-//! network's nodes (`places`). A `Graph` keeps a copy of its store, which shares the store's tables.
+//! network's nodes (`places`). A `Graph` keeps a copy of its store, which shares the store's tables. Where
+//! an ECO left all links (`keeping`) the graph after it shares the tables of that before it; `seeding` finds
+//! the nodes at which an update of an analysis begins.
 #![tactic(auto)]
 
 mod arcs;
 mod drivers;
 mod fans;
 mod graphs;
+mod keeping;
 mod loops;
 mod merging;
 mod networks;
@@ -23,7 +26,9 @@ mod pin_arcs;
 mod pin_links;
 mod pins;
 mod places;
+mod seeding;
 mod trees;
 
 pub use arcs::{GraphArc, GraphKind};
 pub use graphs::Graph;
+pub use seeding::{gone_pins, seeds};

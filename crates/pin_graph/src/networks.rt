@@ -20,7 +20,7 @@ use std::alloc::Global;
 use timing_defs::{ArcKind, Cell, Clock, Inst, Items, Name, Split};
 
 /// Adds a number, where it is there.
-fn add_number(numbers: &mut Items<u32>, number: Option<u32>) -> Result<(), Memory>
+pub(crate) fn add_number(numbers: &mut Items<u32>, number: Option<u32>) -> Result<(), Memory>
     ensures { OnOk result (numbers.new ≡ numbers.old ++ option_to_list number) }
 {
     match number {

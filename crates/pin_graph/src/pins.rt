@@ -5,7 +5,7 @@ ghost use Rattle.timing_defs.specs.Checks.{net_fault, HasNoLoop};
 ghost use Rattle.levelizer.specs.Levels.{AreLevels};
 ghost use Rattle.pin_graph.specs.Refusals.{IsGraphRefused};
 ghost use Rattle.pin_graph.specs.Joins.{befores, pin_arcs, pin_links};
-ghost use Rattle.pin_graph.specs.Networks.{IsNetwork};
+ghost use Rattle.pin_graph.specs.Networks.{IsNetwork, AreClockMarks};
 ghost use Rattle.pin_graph.specs.PinGraphs.{IsPinGraph};
 
 use crate::drivers::befores;
@@ -61,7 +61,8 @@ fn network_of(
     requires table { table.now ≡ befores store.now }
     requires arcs { arcs.now ≡ pin_arcs store.now }
     requires levels { AreLevels (length store.now.pins) (pin_links store.now) levels.now }
-    ensures { IfOk result (IsNetwork store.now) }
+    ensures network { IfOk result (IsNetwork store.now) }
+    ensures clocked { IfOk result (AreClockMarks store.now) }
 {
     store.laws();
     let reach = reach(alloc, store, table, arcs)?;

@@ -1,11 +1,17 @@
 mod AfterLaws
+mod BackCone
+mod BackCount
 mod BackLaws
+mod BackPass
 mod CarriedLaws
 mod ClockLaws
 mod EndLaws
+mod FineBacks
+mod FirstLaws
 mod ForwardLaws
 mod ListingLaws
 mod PassLaws
+mod PutBacks
 mod SplitLaws
 mod TestLaws
 mod TimeLaws

@@ -2,7 +2,7 @@
 -- all rows are.
 
 use Rattle.std.proofs.Common.{◌≡◌, ◌≢◌, ◌⊎◌, ℕ, zero, suc, ◌+◌, ◌-◌, ◌<◌, ◌≤◌, Bool, true, List, [], ◌∷◌, map, length, Option, None, Some, Result, Ok, Err, refl, sym, ap, subst, ◌∙◌, inl, inr, arith}
-use Rattle.std.specs.Prelude.{All, Contains, slice_get, slice_set, IfOk, IfErr, IsOk, is_ok, if◌then◌else◌, nat_le}
+use Rattle.std.specs.Prelude.{All, Contains, slice_get, slice_set, IfOk, IfErr, IsOk, if◌then◌else◌, nat_le}
 use Rattle.std.proofs.Math.Nat.{le-max_left, le-max_right}
 use Rattle.std.specs.List.{list_all}
 use Rattle.std.specs.Option.{option_map_or}

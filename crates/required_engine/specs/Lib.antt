@@ -1,3 +1,4 @@
 pub mod Leveled
 pub mod Behinds
 pub mod Worked
+pub mod Updated

@@ -48,7 +48,7 @@ fn level_answer<A: Rows + Delayed>(
 }
 
 /// The required times of the nodes of a level, in their order, by several threads.
-fn level_rows<H: Threads + Sync, A: Rows + Delayed + Sync, G: Gate>(
+pub(crate) fn level_rows<H: Threads + Sync, A: Rows + Delayed + Sync, G: Gate>(
     rt: &H,
     alloc: Global,
     store: &Store,

@@ -54,7 +54,11 @@ fn first_rows(
 }
 
 /// That many rows: a copy of those that are there, then empty ones.
-fn sized(alloc: Global, rows: &CowTable<BackRow>, count: usize) -> Result<CowTable<BackRow>, Memory>
+pub(crate) fn sized(
+    alloc: Global,
+    rows: &CowTable<BackRow>,
+    count: usize,
+) -> Result<CowTable<BackRow>, Memory>
     ensures { IfOk result (λ more. more ≡ sized_rows rows.now count) }
 {
     if count < rows.len() {

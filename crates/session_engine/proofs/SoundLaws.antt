@@ -3,7 +3,8 @@
 use Rattle.std.proofs.Common.{◌≡◌, ℕ, List, Option, None, Some, Result, Ok, Err, IfErr, OnOk, length, refl, sym, subst, ◌∙◌, inl, inr, true, false}
 use Rattle.std.specs.Prelude.{option_map, Bool, nat_lt, if◌then◌else◌}
 use Rattle.std.proofs.lemmas.Bool.{true≢false, ltb-false}
-use Rattle.netlist_store.specs.Applying.{IsChecked}
+use Rattle.netlist_store.specs.Applying.{IsChecked, IsEditOf}
+use Rattle.netlist_store.specs.Numbering.{Stored}
 use Rattle.netlist_store.specs.Linked.{IsSized}
 use Rattle.timing_defs.specs.Netlist.{pins}
 use Rattle.timing_defs.specs.declared.design.Design.{Design}
@@ -13,6 +14,7 @@ use Rattle.timing_defs.specs.declared.faults.Large.{Large}
 use Rattle.timing_defs.specs.declared.faults.Large.TheVariants.{Pins, Insts, Nets, Net as large_net}
 use Rattle.timing_defs.specs.declared.faults.Fault.TheVariants.{ManyDrivers, ConstraintDangling, RcNotTree, RcPinsDiffer, Loop, OutOfRange, TooLarge, Memory}
 use Rattle.timing_defs.specs.Edits.{edited}
+use Rattle.timing_defs.specs.Cones.{Touch}
 use Rattle.timing_defs.specs.Range.{NoOrigin}
 use Rattle.timing_defs.specs.Checks.{most, least, nets_where, is_large_net, many_drivers, net_fault, data_fault, clock_not_tree, dangling, rc_not_tree, rc_pins_differ, first_of_two, Standing, IsGraphFault, HasNoLoop, IsSound, Faulty}
 use Rattle.pin_graph.specs.RowTables.{IsRangeFault}
@@ -117,3 +119,7 @@ sound_sized d sound =
     counted (nat_lt most (length (pins d))) (nat_lt most (length d.insts)) (nat_lt most (length d.nets))
     (option_map large_net (least (nets_where (is_large_net d) d))) (option_map ManyDrivers (many_drivers d)) sound.0 in
     record { insts = ltb-false most (length d.insts) few.0; nets = ltb-false most (length d.nets) few.1 }
+
+-- an edit of an analysis's store is one of its graph's
+pub edit_of_graph : (base graph after : Stored) (touch : Touch) → graph ≡ base → IsEditOf base touch after → IsEditOf graph touch after
+edit_of_graph base graph after touch same made = subst (λ (s : Stored). IsEditOf s touch after) (sym same) made

@@ -7,6 +7,8 @@ use Rattle.timing_defs.specs.declared.edits.Entry.{Entry}
 use Rattle.timing_defs.specs.Documents.{is_eco}
 use Rattle.timing_defs.specs.Checks.{Accepts, IsSound}
 use Rattle.timing_defs.specs.Sessions.{DesignAfter}
+use Rattle.timing_defs.specs.Cones.{Touch}
+use Rattle.netlist_store.specs.Applying.{IsApplied, IsEditOf}
 use Rattle.netlist_store.specs.Numbering.{Stored}
 use Rattle.netlist_store.specs.Linked.{IsSized}
 use Rattle.design_link.specs.After.{IsMadeOf}
@@ -26,6 +28,10 @@ module _ (v : Versioned) (is : IsVersion v) where
 
   pub version_edit : (eco : Eco) (nets : List (List ℕ)) (d : Design) → IsMadeOf v.stored.design eco nets d → IsSoundEdit nets d
   version_edit eco nets d made = record { base = v.stored.design; eco = eco; made = made; sound = version_sound }
+
+  -- what an ECO makes of the version's store it makes of the analysis's
+  pub version_applied : (eco : Eco) (touch : Touch) (after : Stored) → IsApplied v.stored eco after touch → (base : Stored) → base ≡ v.analysed.stored → IsEditOf base touch after
+  version_applied eco touch after made base same = (eco, subst (λ (s : Stored). IsApplied s eco after touch) (sym (same ∙ is.analysed)) made)
 
 -- an ECO whose design is analysed is accepted
 pub analysed_accepted : (base : Design) (eco : Eco) (nets : List (List ℕ)) (stored : Stored) (a : Analysed)

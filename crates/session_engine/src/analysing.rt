@@ -2,6 +2,7 @@
 
 ghost use Rattle.std.specs.Prelude.{◌≡◌, ◌≤◌, IfOk, IfErr};
 ghost use Rattle.std.specs.Arc.{arc_value};
+ghost use Rattle.netlist_store.specs.Applying.{IsEditOf};
 ghost use Rattle.session_engine.specs.Soundness.{IsUnsound, IsSoundEdit};
 
 use crate::owners::shared;
@@ -56,7 +57,7 @@ pub(crate) fn analysed<H: Threads + Sync, G: Gate>(
 
 /// The analysis of a store that an ECO made, from that of its base; or the first fault that stands in the
 /// design after the ECO.
-#[tactic(auto, using(crate::proofs::SoundLaws::range_refused))]
+#[tactic(auto, using(crate::proofs::SoundLaws::range_refused, crate::proofs::SoundLaws::edit_of_graph))]
 fn edited_analysis<H: Threads + Sync, G: Gate, L>(
     rt: &H,
     alloc: Global,
@@ -70,6 +71,7 @@ fn edited_analysis<H: Threads + Sync, G: Gate, L>(
     requires some { 1 ≤ workers }
     requires most { workers ≤ 32 }
     requires edit { IsSoundEdit touched.now.nets store.now.design }
+    requires applied { IsEditOf base.now.stored (record { insts = touched.now.insts; nets = touched.now.nets }) store.now }
     ensures analysis { IfOk result (λ a. a.stored ≡ store.now) }
     ensures refused { IfErr result (IsUnsound store.now.design) }
 {
@@ -94,6 +96,7 @@ pub(crate) fn analysed_edited<H: Threads + Sync, G: Gate, L>(
     requires some { 1 ≤ workers }
     requires most { workers ≤ 32 }
     requires edit { IsSoundEdit touched.now.nets store.now.design }
+    requires applied { IsEditOf base.now.stored (record { insts = touched.now.insts; nets = touched.now.nets }) store.now }
     ensures analysis { IfOk result (λ a. (arc_value a).stored ≡ store.now) }
     ensures refused { IfErr result (IsUnsound store.now.design) }
 {

@@ -7,7 +7,7 @@ ghost use Rattle.timing_defs.specs.declared.design.Design.{Design};
 ghost use Rattle.timing_defs.specs.declared.faults.Fault.{Fault};
 ghost use Rattle.timing_defs.specs.Checks.{Accepts, Refuses};
 ghost use Rattle.design_link.specs.After.{IsMadeOf};
-ghost use Rattle.netlist_store.specs.Applying.{IsRefused};
+ghost use Rattle.netlist_store.specs.Applying.{IsApplied, IsRefused};
 ghost use Rattle.session_engine.specs.Versions.{IsNext, IsRefusal};
 
 use crate::analysing::analysed_edited;
@@ -26,6 +26,7 @@ use timing_defs::{Eco, Fault};
 fn edited(alloc: Global, base: &Version, eco: &Eco) -> Result<(Store, Touched), Fault>
     requires { is_eco eco.now ≡ true }
     ensures made { IfOk result (λ made. IsMadeOf base.now.stored.design eco.now made.1.nets made.0.design) }
+    ensures applied { IfOk result (λ made. IsApplied base.now.stored eco.now made.0 (record { insts = made.1.insts; nets = made.1.nets })) }
     ensures refused { IfErr result (IsRefused base.now.stored.design eco.now) }
 {
     base.laws();
@@ -50,7 +51,7 @@ fn shared_edit(
 }
 
 /// The next version, of the store after an ECO.
-#[tactic(auto, using(crate::proofs::VersionLaws::version_edit, crate::proofs::VersionLaws::analysed_accepted, crate::proofs::SoundLaws::unsound_refused))]
+#[tactic(auto, using(crate::proofs::VersionLaws::version_edit, crate::proofs::VersionLaws::version_applied, crate::proofs::VersionLaws::analysed_accepted, crate::proofs::SoundLaws::unsound_refused))]
 fn prepared<H: Threads + Sync, G: Gate, L>(
     rt: &H,
     alloc: Global,
@@ -66,6 +67,7 @@ fn prepared<H: Threads + Sync, G: Gate, L>(
     requires some { 1 ≤ workers }
     requires most { workers ≤ 32 }
     requires made { IsMadeOf base.now.stored.design eco.now touched.now.nets (arc_value store).design }
+    requires applied { IsApplied base.now.stored eco.now (arc_value store) (record { insts = touched.now.insts; nets = touched.now.nets }) }
     ensures next { IfOk result (λ v. IsNext base.now who eco.now (arc_value v)) }
     ensures refused { IfErr result (IsRefusal base.now.stored.design eco.now) }
 {
@@ -103,7 +105,8 @@ pub fn exclusion(eco: &Eco)
 /// (`E1` to `E9`), or else by the first that stands in the design after them, in the order too large
 /// (`E17`), two drivers (`E10`), a loop (`E11`), a clock network that is no tree (`E12`), a constraint on
 /// nothing (`E13`), parasitics that are no tree (`E14`) or of other pins (`E15`), a quantity out of its
-/// range (`E16`). The checks of nets and data look at what the ECO touched; graph and analysis are found anew.
+/// range (`E16`). The checks of nets and data look at what the ECO touched, and so does the graph where it left all
+/// links; the analysis is found anew.
 pub fn prepare<H: Threads + Sync, G: Gate, L>(
     rt: &H,
     alloc: Global,

@@ -3,6 +3,7 @@
 ghost use Rattle.std.specs.Prelude.{◌≡◌, None, IfOk, IfErr, OnOk};
 ghost use Rattle.timing_defs.specs.Checks.{IsSound, net_fault, clock_not_tree, HasNoLoop};
 ghost use Rattle.netlist_store.specs.Linked.{IsSized};
+ghost use Rattle.netlist_store.specs.Applying.{IsEditOf};
 ghost use Rattle.session_engine.specs.Soundness.{IsUnsound, IsSoundEdit};
 
 use design_link::{check_data, check_data_after, check_nets, check_nets_after};
@@ -72,7 +73,8 @@ pub(crate) fn sound_graph_edited(
     store: &Store,
     touched: &Touched,
 ) -> Result<Graph, Fault>
-    requires { IsSoundEdit touched.now.nets store.now.design }
+    requires edit { IsSoundEdit touched.now.nets store.now.design }
+    requires applied { IsEditOf base.now.stored (record { insts = touched.now.insts; nets = touched.now.nets }) store.now }
     ensures graph { IfOk result (λ graph. graph.stored ≡ store.now) }
     ensures sound { OnOk result (IsSound store.now.design) }
     ensures refused { IfErr result (IsUnsound store.now.design) }

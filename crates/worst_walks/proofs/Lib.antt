@@ -1,5 +1,4 @@
 pub mod BestLaws
-pub mod Callers
 pub mod Comparing
 pub mod Filling
 pub mod Knowing

@@ -13,9 +13,9 @@ use Rattle.worst_walks.specs.declared.cones.Cone.{Cone}
 use Rattle.worst_walks.specs.declared.cones.Walk.{Walk}
 use Rattle.worst_walks.specs.declared.tables.Entry.{Entry}
 use Rattle.worst_walks.specs.Best.{BestOf, better}
-use Rattle.worst_walks.specs.Walks.{count_of, delay_between, walk_sum, launch_slack, IsWalk, AreRanked, IsCone, IsEnd, IsLaunch, IsLeastSlack}
+use Rattle.worst_walks.specs.Walks.{count_of, delay_between, walk_sum, launch_slack, IsWalk, AreRanked, IsCone, IsEnd, IsLaunch}
 use Rattle.worst_walks.specs.Tables.{row_in, offered, least_from, IsBounded, IsTable}
-use Rattle.worst_walks.specs.Searches.{IsTo, IsSlackTo, IsSlackBefore, IsFalling}
+use Rattle.worst_walks.specs.Searches.{IsTo, IsSlackTo, IsFalling}
 use Rattle.worst_walks.proofs.BestLaws.{best_alike, best_one, best_both}
 use Rattle.worst_walks.proofs.Filling.{bounded_more}
 use Rattle.worst_walks.proofs.Optimal.{next_there, found, traced, least}
@@ -226,37 +226,8 @@ pub to_best_as : (rank : ℕ → ℕ) (cone : Cone) (place : ℕ) (end : WalkEnd
 to_best_as rank cone place end rows o good ranked there h e =
     subst (BestOf int_lt (IsSlackTo cone place)) (sym e) (to_best rank cone place end rows good ranked there h)
 
--- one end more
-pub slack_none : (cone : Cone) → BestOf int_lt (IsSlackBefore cone 0) None
-slack_none cone = λ s w. let low = w.1.0.1 in omega arith
-
-before_more : (cone : Cone) (i : ℕ) (s : ℤ) → IsSlackBefore cone i s ⊎ IsSlackTo cone i s → IsSlackBefore cone (i + 1) s
-before_more cone i s (inl w) = let low = w.1.0.1 in (w.0, ((w.1.0.0, omega arith), w.1.1))
-before_more cone i s (inr w) = let at = w.1.0.1 in (w.0, ((w.1.0.0, omega arith), w.1.1))
-
-before_less : (cone : Cone) (i : ℕ) (s : ℤ) → IsSlackBefore cone (i + 1) s → IsSlackBefore cone i s ⊎ IsSlackTo cone i s
-before_less cone i s w = let low = w.1.0.1 in elim (cases_eq w.0.end i) [
-  | inl at ↦ inr (w.0, ((w.1.0.0, at), w.1.1))
-  | inr other ↦ inl (w.0, ((w.1.0.0, omega arith), w.1.1))
-]
-
-pub slack_more : (cone : Cone) (i : ℕ) (o p q : Option ℤ) → BestOf int_lt (IsSlackBefore cone i) o → BestOf int_lt (IsSlackTo cone i) p
-    → q ≡ better int_lt o p → BestOf int_lt (IsSlackBefore cone (i + 1)) q
-slack_more cone i o p q b c e =
-    subst (BestOf int_lt (IsSlackBefore cone (i + 1))) (sym e)
-    (best_alike int_lt (λ s. IsSlackBefore cone i s ⊎ IsSlackTo cone i s) (IsSlackBefore cone (i + 1)) (better int_lt o p) (before_more cone i) (before_less cone i)
-    (best_both int_lt (IsSlackBefore cone i) (IsSlackTo cone i) o p slacks b c))
-
+-- the end of a walk is there
 pub end_within : (cone : Cone) (walk : Walk) → IsWalk cone walk → walk.end < length cone.ends
 end_within cone walk is =
     option_and_then_some (λ (end : WalkEnd). option_and_then (λ (launch : Launch). launch_slack cone end.node launch walk.nodes) (slice_get end.launches walk.launch))
     (slice_get cone.ends walk.end) walk.slack is (λ end at rest. slice_get_within cone.ends walk.end end at)
-
-pub slack_all : (cone : Cone) (n : ℕ) (o : Option ℤ) → n ≡ length cone.ends → BestOf int_lt (IsSlackBefore cone n) o → IsLeastSlack cone o
-slack_all cone n None e best = λ walk is. let low = end_within cone walk is in best walk.slack (walk, ((is, omega arith), refl))
-slack_all cone n (Some s) e best = (
-  (best.0.0, (best.0.1.0.0, best.0.1.1)),
-  λ walk is. let low = end_within cone walk is in
-      let off = best.1 walk.slack (walk, ((is, omega arith), refl)) in
-      grind (arith, ints),
-)

@@ -18,9 +18,6 @@ IsBefore cone place walk = IsWalk cone walk × (walk.end < place)
 abbrev pub IsSlackTo : Cone → ℕ → ℤ → Type 0
 IsSlackTo cone place s = (walk : Walk) × (IsTo cone place walk × (walk.slack ≡ s))
 
-abbrev pub IsSlackBefore : Cone → ℕ → ℤ → Type 0
-IsSlackBefore cone place s = (walk : Walk) × (IsBefore cone place walk × (walk.slack ≡ s))
-
 -- a walk of this slack from the launch at a place; from a launch before a place
 abbrev pub IsTied : Cone → ℕ → ℤ → ℕ → Walk → Type 0
 IsTied cone place s launch walk = IsTo cone place walk × (walk.slack ≡ s) × (walk.launch ≡ launch)

@@ -85,13 +85,6 @@ abbrev pub IsWorst : (ℕ → ℕ) → (ℕ → List ℕ) → Cone → Option Wa
 IsWorst rank before cone None = (walk : Walk) → IsWalk cone walk → ⊥
 IsWorst rank before cone (Some worst) = IsWalk cone worst × ((walk : Walk) → IsWalk cone walk → IsAtMost rank before worst walk)
 
--- the least slack of all walks; None: there is no walk
-abbrev pub IsLeastSlack : Cone → Option ℤ → Type 0
-IsLeastSlack cone None = (walk : Walk) → IsWalk cone walk → ⊥
-IsLeastSlack cone (Some s) =
-    ((walk : Walk) × (IsWalk cone walk × (walk.slack ≡ s)))
-    × ((walk : Walk) → IsWalk cone walk → s ≤ℤ walk.slack)
-
 -- a walk comes before another: by slack, then by the ranks
 abbrev pub comes_before : (ℕ → ℕ) → (ℕ → List ℕ) → Walk → Walk → Bool
 comes_before rank before a b =

@@ -13,4 +13,3 @@ mod tracing;
 pub use cones::{Cone, Launch, Walk, WalkArc, WalkEnd};
 pub use orders::WalkOrder;
 pub use searching::worst_walk;
-pub use slacks::least_slack;

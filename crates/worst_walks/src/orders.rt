@@ -1,7 +1,5 @@
 //! Orders of nodes, asked only where walks tie.
 
-ghost use Rattle.std.specs.Prelude.{◌^◌, []};
-
 use sta_units::Memory;
 use std::alloc::Global;
 use timing_defs::Items;
@@ -31,24 +29,4 @@ pub trait WalkOrder {
         requires { launch < count self.now }
         ensures value { IfOk result (λ nodes. nodes ≡ before self.now launch) }
         ensures known { IfOk result (λ nodes. All (λ n. n < count self.now) nodes) };
-}
-
-/// The order of nodes by their numbers.
-#[derive(Clone, Copy, Drop)]
-pub(crate) struct ByNumber;
-
-impl WalkOrder for ByNumber {
-    ghost count = { λ _. 2 ^ 32 };
-
-    ghost rank = { λ _ n. n };
-
-    ghost before = { λ _ _. [] };
-
-    fn comes_first(&self, one: u32, other: u32) -> bool {
-        one < other
-    }
-
-    fn nodes_before(&self, alloc: Global, _launch: u32) -> Result<Items<u32>, Memory> {
-        Ok(Items::new(alloc))
-    }
 }

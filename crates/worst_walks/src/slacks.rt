@@ -1,17 +1,12 @@
-//! The least slack of the walks to the end nodes of a cone.
+//! The least slack of the walks to an end node of a cone.
 
-ghost use Rattle.std.specs.Prelude.{◌≡◌, ℕ, ◌^◌, ◌<◌, ◌≤◌, unsigned_abs, int_lt, length, IfOk, None};
-ghost use Rattle.worst_walks.specs.Best.{BestOf, better};
-ghost use Rattle.worst_walks.specs.Walks.{IsCone, IsEnd, IsLeastSlack};
-ghost use Rattle.worst_walks.specs.Tables.{row_in, offered, least_from, IsBounded, AreFirst};
-ghost use Rattle.worst_walks.specs.Searches.{IsSlackTo};
+ghost use Rattle.std.specs.Prelude.{◌≡◌, ℕ, ◌^◌, ◌≤◌, unsigned_abs, int_lt, None};
+ghost use Rattle.worst_walks.specs.Best.{better};
+ghost use Rattle.worst_walks.specs.Walks.{IsEnd};
+ghost use Rattle.worst_walks.specs.Tables.{row_in, offered, least_from, IsBounded};
 
 use crate::cones::{Cone, Launch, WalkEnd};
-use crate::firsts::first_nodes;
-use crate::orders::ByNumber;
-use crate::tables::{Entry, row_at, table_to};
-use sta_units::Memory;
-use std::alloc::Global;
+use crate::tables::{Entry, row_at};
 
 /// The least slack of the walks from a launch, in fs.
 pub(crate) fn slack_at(rows: &[Option<Entry>], launch: &Launch) -> Option<i64>
@@ -47,34 +42,4 @@ pub(crate) fn least_offer(cone: &Cone, end: &WalkEnd, rows: &[Option<Entry>]) ->
         least = lesser(least, slack_at(rows, launch));
     }
     least
-}
-
-/// The least slack of the walks to the end node at a place.
-#[tactic(auto, using(crate::proofs::Offers::to_best_as, crate::proofs::Offers::bounded_there))]
-fn least_to(alloc: Global, cone: &Cone, marks: &[bool], place: u32) -> Result<Option<i64>, Memory>
-    requires cone { IsCone cone.now }
-    requires marks { AreFirst cone.now marks.now }
-    requires place { place < length cone.now.ends }
-    ensures { IfOk result (BestOf int_lt (IsSlackTo cone.now place)) }
-{
-    let end = cone.end_at(place);
-    let rows = table_to(alloc, cone, &ByNumber, marks, end.node)?;
-    Ok(least_offer(cone, end, rows.as_slice()))
-}
-
-/// The least slack of all walks of a cone in fs, as that of its worst walk; none where there is no
-/// walk. Takes a step for each node, arc and launch of the cone, for each end node. The one error is
-/// want of memory; the memory taken is a table of the nodes.
-#[tactic(auto, using(crate::proofs::Offers::slack_none, crate::proofs::Offers::slack_more, crate::proofs::Offers::slack_all))]
-pub fn least_slack(alloc: Global, cone: &Cone) -> Result<Option<i64>, Memory>
-    requires { IsCone cone.now }
-    ensures { IfOk result (IsLeastSlack cone.now) }
-{
-    let marks = first_nodes(alloc, cone)?;
-    let mut least = None;
-    for place in 0..cone.ends.len() {
-        let slack = least_to(alloc, cone, &marks, place as u32)?;
-        least = lesser(least, slack);
-    }
-    Ok(least)
 }

@@ -7,10 +7,10 @@ use Rattle.arrival_engine.specs.Analysed.{IsBefore, IsNodeFault}
 use Rattle.arrival_engine.proofs.BeforeLaws.{arcs_there, befores_told, none_into, as_many, delays_given, row_given, fault_given}
 use Rattle.arrival_engine.proofs.nodes.evaluated.Goals as goal
 
-pub returns-in-None-clause-delays : goal.returns-in-None-clause-delays
-returns-in-None-clause-delays c =
+pub returns-in_ok-no_answer-in-None-clause-delays : goal.returns-in_ok-no_answer-in-None-clause-delays
+returns-in_ok-no_answer-in-None-clause-delays c =
     none_into c.args.graph.now c.args.setting.now.store.now c.requires.plan.same c.laws.ensures.numbered c.laws.ensures.linked c.laws-2.ensures
-    c.args.rows.now c.args.node c.requires.node c.requires.ready (sym c.place_of.ensures ∙ c.in-None.is) c.no_answer.result.delays c.no_answer.ensures.delays
+    c.args.rows.now c.args.node c.requires.node c.requires.ready (sym c.place_of.ensures ∙ c.in-None.is) c.in_ok-no_answer-in-None.field-0.delays c.in_ok-no_answer-in-None.ensures.delays
 
 pub befores-requires-clause-arcs : goal.befores-requires-clause-arcs
 befores-requires-clause-arcs c =

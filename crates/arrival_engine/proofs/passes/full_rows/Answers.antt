@@ -1,16 +1,13 @@
-use Rattle.std.proofs.Common.{ℕ, List, sym, subst, ap, ◌∙◌}
-use Rattle.arc_delays.specs.declared.tables.ArcDelay.{ArcDelay}
-use Rattle.arc_delays.specs.Delays.{AreAllInto}
+use Rattle.std.proofs.Common.{ℕ, List, sym, subst}
 use Rattle.arrival_engine.specs.Leveled.{AreLevels}
 use Rattle.arrival_engine.proofs.PassLaws.{full_told, full_delays, full_within}
 use Rattle.arrival_engine.proofs.passes.full_rows.Goals as goal
 
 pub returns-clause-delays : goal.returns-clause-delays
 returns-clause-delays g c =
-    subst (λ (ds : List (List ArcDelay)). AreAllInto c.args.graph.now ds) (sym c.from_vec-delays.ensures)
-    (full_delays c.args.graph.now c.all_levels.new.delays.items c.as_slice-nodes.result.now
+    full_delays c.args.graph.now c.all_levels.new.delays c.as_slice-nodes.result.now
     (subst (λ (xs : List (List ℕ)). AreLevels c.args.graph.now xs) (sym c.as_slice-nodes.ensures.value) c.in_ok-levels.ensures.levels)
-    c.in_ok-all_levels.ensures.delayed)
+    c.in_ok-all_levels.ensures.delayed
 
 pub returns-clause-fine : goal.returns-clause-fine
 returns-clause-fine g c =

@@ -15,7 +15,7 @@ loop-answer-init c =
     let many = map_length (IsLevelAnswer c.args.graph.now c.args.level) c.args.nodes.now c.args.answers c.requires.answers in (
       omega (arith, long, many),
       subst (λ (rs : List (Result NodeAnswer Fault)). IsMap (IsLevelAnswer c.args.graph.now c.args.level) c.args.nodes.now rs) (sym items) c.requires.answers,
-      none_put c.args.graph.now c.args.level c.args.nodes.now c.requires.nodes c.args.rows.now c.args.delays.now.items c.requires.rows c.requires.delays,
+      none_put c.args.graph.now c.args.level c.args.nodes.now c.requires.nodes c.args.rows.now c.args.delays.now c.requires.rows c.requires.delays,
       search rules,
     )
 
@@ -57,7 +57,7 @@ loop-answer-preserved c =
     let put =
     next_put c.args.graph.now c.args.level c.args.nodes.now c.requires.nodes c.loop-answer.at (slice_index_or c.args.nodes.now c.loop-answer.at 0) c.in-Some.answer
     c.loop-answer.answer-iterator.rest.items c.next.new.self.rest.items c.in-Some.ensures.steps.0 low (get_or_default c.args.nodes.now c.loop-answer.at 0 _ low)
-    c.loop-answer.invariant.1 c.in-Ok.answer c.in-Ok.is c.loop-answer.rows c.put_answer.new.rows c.loop-answer.delays.items c.put_answer.new.delays.items
+    c.loop-answer.invariant.1 c.in-Ok.answer c.in-Ok.is c.loop-answer.rows c.put_answer.new.rows c.loop-answer.delays c.put_answer.new.delays
     c.in_ok-put_answer-in-Ok.ensures.rows c.in_ok-put_answer-in-Ok.ensures.delays c.loop-answer.invariant.2 in
     let was = c.loop-answer.invariant.3 in
     let gone = c.in-Some.ensures.steps.1 in
@@ -68,11 +68,11 @@ returns-clause-rows c =
     let was = c.loop-answer.invariant.3 in
     let none = c.in-None.ensures.steps.0 in
     let past : length c.args.nodes.now ≤ c.loop-answer.at = omega (arith, c.loop-answer.invariant.0, was, none) in
-    (all_put c.args.graph.now c.args.level c.args.nodes.now c.requires.nodes c.loop-answer.at c.loop-answer.rows c.loop-answer.delays.items past c.loop-answer.invariant.2).0
+    (all_put c.args.graph.now c.args.level c.args.nodes.now c.requires.nodes c.loop-answer.at c.loop-answer.rows c.loop-answer.delays past c.loop-answer.invariant.2).0
 
 pub returns-clause-delays : goal.returns-clause-delays
 returns-clause-delays c =
     let was = c.loop-answer.invariant.3 in
     let none = c.in-None.ensures.steps.0 in
     let past : length c.args.nodes.now ≤ c.loop-answer.at = omega (arith, c.loop-answer.invariant.0, was, none) in
-    (all_put c.args.graph.now c.args.level c.args.nodes.now c.requires.nodes c.loop-answer.at c.loop-answer.rows c.loop-answer.delays.items past c.loop-answer.invariant.2).1
+    (all_put c.args.graph.now c.args.level c.args.nodes.now c.requires.nodes c.loop-answer.at c.loop-answer.rows c.loop-answer.delays past c.loop-answer.invariant.2).1

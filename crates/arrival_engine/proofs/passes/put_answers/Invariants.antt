@@ -9,5 +9,5 @@ abbrev pub invariant-loop-answer : goal.invariant-loop-answer
 invariant-loop-answer l =
     (l.at + length (into_iter_items l.answer-iterator) ≡ length l.nodes)
     × IsMap (IsLevelAnswer l.graph l.level) (drop l.at l.nodes) (into_iter_items l.answer-iterator)
-    × AreDoneBut l.graph l.level (drop l.at l.nodes) l.rows l.delays.items
+    × AreDoneBut l.graph l.level (drop l.at l.nodes) l.rows l.delays
     × (into_iter_len l.answer-iterator ≡ length (into_iter_items l.answer-iterator))

@@ -1,5 +1,5 @@
 use Rattle.std.proofs.Common.{◌*◌, ap}
-use Rattle.pin_graph.proofs.GraphOf.{node_graph_as, ports_as}
+use Rattle.pin_graph.proofs.GraphOf.{found_as, ports_as}
 use Rattle.pin_graph.proofs.LevelLaws.{no_cycle}
 use Rattle.pin_graph.proofs.NetworkLaws.{ports_within}
 use Rattle.pin_graph.proofs.graphs.node_graph.Goals as goal
@@ -16,7 +16,7 @@ places-requires-clause-ports c =
 
 pub returns : goal.returns
 returns c =
-    node_graph_as c.args.store.now c.laws.ensures.numbered c.laws.ensures.linked c.args.pins.now.network c.requires.pins.marked c.args.arcs.now c.requires.arcs c.requires.fault
+    found_as c.args.store.now c.laws.ensures.numbered c.laws.ensures.linked c.args.pins.now.network c.requires.pins.marked c.args.arcs.now c.requires.arcs
     (record { ins = c.in_ok-ins.ins; outs = c.in_ok-outs.outs; levels = c.in_ok-levels.levels; places = c.in_ok-places.places })
     (2 * c.pin_bound-n.result) c.as_slice.result.now c.in_ok-ports.ports c.as_slice-2.result.now c.as_slice-3.result.now
     (ap (λ n. 2 * n) c.pin_bound-n.ensures.bound) c.as_slice.ensures c.in_ok-ports.ensures c.as_slice-2.ensures c.as_slice-3.ensures

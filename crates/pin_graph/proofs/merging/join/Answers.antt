@@ -1,4 +1,4 @@
-use Rattle.std.proofs.Common.{◌≡◌, ◌∙◌, get_or, sym}
+use Rattle.std.proofs.Common.{◌∙◌, sym}
 use Rattle.std.proofs.lemmas.List.{get_or_default}
 use Rattle.pin_graph.specs.NodeArcs.{none_arc}
 use Rattle.pin_graph.proofs.MergeLaws.{ok_map, joined_at, added_at}

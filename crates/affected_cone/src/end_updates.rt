@@ -1,0 +1,217 @@
+//! The slacks of endpoints after an ECO: those to which the edit leads are searched for, the others keep
+//! theirs.
+
+ghost use Rattle.std.specs.Prelude.{◌≡◌, ◌++◌, true, All, map, IfOk, OnOk};
+ghost use Rattle.std.specs.List.{filter_map};
+ghost use Rattle.std.specs.List.Sorted.{IsNonDecreasingBy, IsPermutation};
+ghost use Rattle.std.specs.Option.{option_to_list};
+ghost use Rattle.netlist_store.specs.Numbering.{IsNumbered};
+ghost use Rattle.netlist_store.specs.Applying.{IsEditOf};
+ghost use Rattle.level_workers.specs.Mapped.{IsMap};
+ghost use Rattle.edit_reach.specs.Reach.{HasSeeds, AreBehind};
+ghost use Rattle.affected_cone.specs.Analysed.{is_end, ends_of, IsEnd, IsSearch};
+ghost use Rattle.affected_cone.specs.Renewed.{stays, kept_end, end_number, pin_of, AreKeptEnds};
+
+use crate::ends::{EndSlacks, Search, end_slacks, is_end, slacks_of};
+use edit_reach::dirty_pins;
+use indexmap::IndexSet;
+use netlist_store::{Store, Touched};
+use pin_graph::Graph;
+use sta_units::Memory;
+use std::alloc::Global;
+use std::thread::Threads;
+use timing_defs::Items;
+
+/// Whether a pin is there, and the edit does not lead to it.
+fn stays(store: &Store, dirty: &IndexSet<u32>, pin: u32) -> bool
+    ensures { result ≡ stays store.now dirty.now.keys pin }
+{
+    store.has_pin(pin) && !dirty.contains(&pin)
+}
+
+/// An endpoint, where it keeps its slacks.
+fn kept_end(store: &Store, dirty: &IndexSet<u32>, end: EndSlacks) -> Option<EndSlacks>
+    ensures { result ≡ kept_end store.now dirty.now.keys end }
+{
+    if stays(store, dirty, end.pin) {
+        Some(end)
+    } else {
+        None
+    }
+}
+
+/// Adds a number, where it is there.
+fn add_number(numbers: &mut Items<u32>, number: Option<u32>) -> Result<(), Memory>
+    ensures { OnOk result (numbers.new ≡ numbers.old ++ option_to_list number) }
+{
+    match number {
+        Some(number) => numbers.push(number),
+        None => Ok(()),
+    }
+}
+
+/// Adds an endpoint, where it is there.
+fn add_end(ends: &mut Items<EndSlacks>, end: Option<EndSlacks>) -> Result<(), Memory>
+    ensures { OnOk result (ends.new ≡ ends.old ++ option_to_list end) }
+{
+    match end {
+        Some(end) => ends.push(end),
+        None => Ok(()),
+    }
+}
+
+/// The endpoints that keep their slacks.
+fn kept_ends(
+    alloc: Global,
+    store: &Store,
+    dirty: &IndexSet<u32>,
+    ends: &[EndSlacks],
+) -> Result<Items<EndSlacks>, Memory>
+    ensures { IfOk result (λ kept. kept ≡ filter_map (kept_end store.now dirty.now.keys) ends.now) }
+{
+    let mut kept = Items::new(alloc);
+    for end in ends {
+        add_end(&mut kept, kept_end(store, dirty, *end))?;
+    }
+    Ok(kept)
+}
+
+/// A pin, where it is an endpoint.
+fn end_number(store: &Store, pin: u32) -> Option<u32>
+    ensures { result ≡ end_number store.now pin }
+{
+    if is_end(store, pin) { Some(pin) } else { None }
+}
+
+/// The endpoints among pins.
+fn ends_among(alloc: Global, store: &Store, pins: &[u32]) -> Result<Items<u32>, Memory>
+    ensures { IfOk result (λ ends. ends ≡ filter_map (end_number store.now) pins.now) }
+{
+    let mut ends = Items::new(alloc);
+    for pin in pins {
+        add_number(&mut ends, end_number(store, *pin))?;
+    }
+    Ok(ends)
+}
+
+/// So many endpoints are searched for by the calling thread alone.
+const FEW: usize = 64;
+
+/// The slacks of endpoints, one after another.
+fn each_slacks(alloc: Global, search: &Search<'_>, ends: &[u32]) -> Result<Items<EndSlacks>, Memory>
+    requires search { IsSearch search.now }
+    requires ends { All (λ pin. is_end search.now.store.now pin ≡ true) ends.now }
+    ensures { IfOk result (IsMap (IsEnd search.now.store.now) ends.now) }
+{
+    let mut found = Items::with_room(alloc, ends.len())?;
+    for pin in ends {
+        found.push(end_slacks(alloc, search, *pin)?)?;
+    }
+    Ok(found)
+}
+
+/// The slacks of endpoints, many shared between threads.
+fn searched<H: Threads + Sync>(
+    rt: &H,
+    alloc: Global,
+    search: &Search<'_>,
+    ends: &[u32],
+) -> Result<Items<EndSlacks>, Memory>
+    requires search { IsSearch search.now }
+    requires ends { All (λ pin. is_end search.now.store.now pin ≡ true) ends.now }
+    ensures { IfOk result (IsMap (IsEnd search.now.store.now) ends.now) }
+{
+    if ends.len() < FEW {
+        each_slacks(alloc, search, ends)
+    } else {
+        slacks_of(rt, alloc, search, ends)
+    }
+}
+
+/// Adds endpoints.
+fn add_ends(ends: &mut Items<EndSlacks>, more: &[EndSlacks]) -> Result<(), Memory>
+    ensures { OnOk result (ends.new ≡ ends.old ++ more.now) }
+{
+    for end in more {
+        ends.push(*end)?;
+    }
+    Ok(())
+}
+
+/// Puts endpoints in the order of their numbers.
+fn sort_ends(ends: &mut Vec<EndSlacks>)
+    ensures same { IsPermutation ends.old.items ends.new.items }
+    ensures rising { IsNonDecreasingBy pin_of ends.new.items }
+{
+    ends.sort_unstable_by_key(
+        |end: &EndSlacks| -> u32
+            ensures { result ≡ pin_of end.now }
+        { end.pin },
+    );
+}
+
+/// Endpoints in the order of their numbers.
+fn in_order(ends: Items<EndSlacks>) -> Items<EndSlacks>
+    ensures same { IsPermutation ends result }
+    ensures rising { IsNonDecreasingBy pin_of result }
+{
+    let mut ends = ends.into_vec();
+    sort_ends(&mut ends);
+    Items::from_vec(ends)
+}
+
+/// The slacks of all endpoints of an edited store, by those of the base and the pins to which the edit
+/// leads.
+fn renewed<H: Threads + Sync>(
+    rt: &H,
+    alloc: Global,
+    base: &Graph,
+    ends: &[EndSlacks],
+    search: &Search<'_>,
+    dirty: &IndexSet<u32>,
+) -> Result<Items<EndSlacks>, Memory>
+    requires search { IsSearch search.now }
+    requires ends { IsMap (IsEnd base.now.stored) (ends_of base.now.stored) ends.now }
+    requires kept { AreKeptEnds base.now.stored search.now.store.now dirty.now.keys }
+    ensures { IfOk result (IsMap (IsEnd search.now.store.now) (ends_of search.now.store.now)) }
+{
+    // The base's graph is asked for by the contract alone.
+    let _ = base;
+    let mut all = kept_ends(alloc, search.store, dirty, ends)?;
+    let again = ends_among(alloc, search.store, dirty.as_slice())?;
+    let found = searched(rt, alloc, search, again.as_slice())?;
+    add_ends(&mut all, found.as_slice())?;
+    Ok(in_order(all))
+}
+
+/// The slacks of all endpoints of the store that an ECO made of a base, by those of the base's. `seeds` are
+/// the nodes at which the ECO begins to change paths, and `nodes` these and all behind them. An endpoint is
+/// searched for where one of `nodes` is of it or of another pin of its instance; every other one keeps its
+/// slacks. Takes time of these nodes and searches, and of the number of endpoints.
+pub(crate) fn ends_after<H: Threads + Sync>(
+    rt: &H,
+    alloc: Global,
+    base: &Graph,
+    ends: &[EndSlacks],
+    search: &Search<'_>,
+    touched: &Touched,
+    seeds: &[u32],
+    nodes: &[u32],
+) -> Result<Items<EndSlacks>, Memory>
+    requires numbered { IsNumbered base.now.stored }
+    requires ends { IsMap (IsEnd base.now.stored) (ends_of base.now.stored) ends.now }
+    requires search { IsSearch search.now }
+    requires made { IsEditOf base.now.stored (record { insts = touched.now.insts; nets = touched.now.nets }) search.now.store.now }
+    requires seeds { HasSeeds base.now.stored search.now.store.now (record { insts = touched.now.insts; nets = touched.now.nets }) seeds.now }
+    requires behind { AreBehind search.now.graph.now seeds.now nodes.now }
+    ensures { IfOk result (IsMap (IsEnd search.now.store.now) (ends_of search.now.store.now)) }
+{
+    // What was touched and the seeds are asked for by the contract alone.
+    let _ = touched;
+    let _ = seeds;
+    base.laws();
+    search.graph.laws();
+    search.store.laws();
+    let dirty = dirty_pins(alloc, search.store, nodes)?;
+    renewed(rt, alloc, base, ends, search, &dirty)
+}

@@ -1,0 +1,124 @@
+-- The loops of a turn of an update: what is told of nodes, what they mark, and what is put.
+
+use Rattle.std.proofs.Common.{◌≡◌, ℕ, suc, ◌+◌, ◌<◌, Bool, true, false, ◌||◌, List, [], ◌∷◌, ◌++◌, map, take, drop, length, get_or, Result, Ok, Err, refl, sym, ap, subst, ◌∙◌, arith}
+use Rattle.std.specs.Prelude.{All, OnOk, slice_set}
+use Rattle.std.specs.List.{list_any}
+use Rattle.std.proofs.lemmas.List.{drop_more, get_or_default, get_or-map, length-map}
+use Rattle.std.proofs.lemmas.List.Folds.{list_any_more}
+use Rattle.timing_defs.specs.declared.faults.Fault.{Fault}
+use Rattle.timing_defs.specs.declared.rows.NodeRow.{NodeRow}
+use Rattle.level_workers.specs.Mapped.{IsMap}
+use Rattle.level_workers.proofs.Joins.{map-more}
+use Rattle.level_cone.specs.Cone.{put_all}
+use Rattle.pin_graph.specs.declared.arcs.GraphArc.{GraphArc}
+use Rattle.pin_graph.specs.Nodes.{node_bound}
+use Rattle.pin_graph.specs.Graphs.{Graphed, level_at}
+use Rattle.pin_graph.specs.RowTables.{row_numbered, IsRangeFault}
+use Rattle.arrival_engine.specs.declared.nodes.NodeAnswer.{NodeAnswer}
+use Rattle.arrival_engine.specs.Analysed.{IsNodeAnswer, IsAnswer, IsLevelAnswer}
+use Rattle.arrival_engine.specs.Updated.{rows_told}
+
+-- the first answer that is left is told
+module _ (g : Graphed) (level : ℕ) (nodes : List ℕ) (all : All (λ n. (n < node_bound g.stored) × (level_at g n ≡ level)) nodes)
+    (found : List NodeAnswer) (items rest : List (Result NodeAnswer Fault)) (answer : Result NodeAnswer Fault)
+    (many : length found + length items ≡ length nodes) (left : IsMap (IsLevelAnswer g level) (drop (length found) nodes) items)
+    (done : IsMap (IsNodeAnswer g) (take (length found) nodes) found) (e : items ≡ answer ∷ rest) where
+  low : length found < length nodes
+  low = let size = ap length e in omega (arith, size, many)
+
+  n : ℕ
+  n = get_or nodes (length found) 0
+
+  both : IsMap (IsLevelAnswer g level) (get_or nodes (length found) 0 ∷ drop (length found + 1) nodes) (answer ∷ rest)
+  both =
+      subst (λ (xs : List ℕ). IsMap (IsLevelAnswer g level) xs (answer ∷ rest)) (drop_more nodes (length found) 0 low)
+      (subst (λ (rs : List (Result NodeAnswer Fault)). IsMap (IsLevelAnswer g level) (drop (length found) nodes) rs) e left)
+
+  here : IsAnswer g (get_or nodes (length found) 0) answer
+  here = let at = all (length found) 0 low in both.0 at.0 at.1
+
+  pub told_fails : (f : Fault) → answer ≡ Err f → IsRangeFault g.stored.design f
+  told_fails f err = subst (λ (r : Result NodeAnswer Fault). IsAnswer g (get_or nodes (length found) 0) r) err here
+
+  module _ (a : NodeAnswer) (ok : answer ≡ Ok a) (found' : List NodeAnswer) (pushed : found' ≡ found ++ a ∷ []) where
+    longer : length found' ≡ length found + 1
+    longer = ap length pushed ∙ one found
+      where
+        one : (xs : List NodeAnswer) → length (xs ++ a ∷ []) ≡ length xs + 1
+        one [] = refl
+        one (x ∷ xs) = let more = one xs in omega (arith, more)
+
+    pub told_many : length found' + length rest ≡ length nodes
+    told_many = let size = ap length e in omega (arith, size, many, longer)
+
+    pub told_left : IsMap (IsLevelAnswer g level) (drop (length found') nodes) rest
+    told_left = subst (λ (k : ℕ). IsMap (IsLevelAnswer g level) (drop k nodes) rest) (sym longer) both.1
+
+    pub told_done : IsMap (IsNodeAnswer g) (take (length found') nodes) found'
+    told_done =
+        subst (λ (k : ℕ). IsMap (IsNodeAnswer g) (take k nodes) found') (sym longer)
+        (map-more (IsNodeAnswer g) nodes (length found) (get_or nodes (length found) 0) found found' a low
+        (get_or_default nodes (length found) 0 (get_or nodes (length found) 0) low) done
+        (subst (λ (r : Result NodeAnswer Fault). IsAnswer g (get_or nodes (length found) 0) r) ok here) pushed)
+
+-- answers that are told are as many as the nodes, and their rows those of the store
+pub told_rows : (g : Graphed) (nodes : List ℕ) (answers : List NodeAnswer) → IsMap (IsNodeAnswer g) nodes answers → rows_told answers ≡ map (row_numbered g.stored) nodes
+told_rows g [] [] m = refl
+told_rows g [] (a ∷ more) m = absurd m
+told_rows g (n ∷ nodes) [] m = absurd m
+told_rows g (n ∷ nodes) (a ∷ more) m = λ k. m.0.row.row k ∷ told_rows g nodes more m.1 k
+
+pub told_length : (g : Graphed) (nodes : List ℕ) (answers : List NodeAnswer) → IsMap (IsNodeAnswer g) nodes answers → length answers ≡ length nodes
+told_length g [] [] m = refl
+told_length g [] (a ∷ more) m = absurd m
+told_length g (n ∷ nodes) [] m = absurd m
+told_length g (n ∷ nodes) (a ∷ more) m = ap suc (told_length g nodes more m.1)
+
+-- the row that is told of a node
+pub row_here : (f : ℕ → NodeRow) (nodes : List ℕ) (answers : List NodeAnswer) (i d : ℕ) (e : NodeAnswer) → rows_told answers ≡ map f nodes → i < length nodes
+    → (get_or answers i e).row ≡ f (get_or nodes i d)
+row_here f nodes answers i d e same low =
+    let long : length answers ≡ length nodes = sym (length-map answers (λ (a : NodeAnswer). a.row)) ∙ ap length same ∙ length-map nodes f in
+    sym (get_or-map (λ (a : NodeAnswer). a.row) answers i e (e.row) (omega (arith, low, long)))
+    ∙ ap (λ (xs : List NodeRow). get_or xs i (e.row)) same ∙ get_or-map f nodes i d (e.row) low
+
+-- what one node more marks
+pub marks_more : (p : ℕ → Bool) (old mid : Bool) (xs : List ℕ) (i d : ℕ) → i < length xs → mid ≡ (old || list_any p (take i xs))
+    → (mid || p (get_or xs i d)) ≡ (old || list_any p (take (i + 1) xs))
+marks_more p old mid xs i d low e =
+    ap (λ b. b || p (get_or xs i d)) e ∙ apart old ∙ ap (λ b. old || b) (sym (list_any_more p xs i d low))
+  where
+    apart : (b : Bool) → ((b || list_any p (take i xs)) || p (get_or xs i d)) ≡ (b || (list_any p (take i xs) || p (get_or xs i d)))
+    apart true = refl
+    apart false = refl
+
+pub on_ok : {X Y P Q : Type 0} (r : Result X Y) → (P → Q) → OnOk r P → OnOk r Q
+on_ok (Ok x) f p = f p
+on_ok (Err e) f p = p
+
+-- the nodes to which arcs lead
+pub any_heads : (p : ℕ → Bool) (arcs : List GraphArc) → list_any (λ (a : GraphArc). p a.to) arcs ≡ list_any p (map (λ (a : GraphArc). a.to) arcs)
+any_heads p [] = refl
+any_heads p (a ∷ arcs) = ap (λ b. p a.to || b) (any_heads p arcs)
+
+pub heads_within : (bound : ℕ) (arcs : List GraphArc) → All (λ n. n < bound) (map (λ (a : GraphArc). a.to) arcs) → All (λ (a : GraphArc). a.to < bound) arcs
+heads_within bound arcs all i d low =
+    subst (λ (n : ℕ). n < bound) (get_or-map (λ (a : GraphArc). a.to) arcs i d (d.to) low)
+    (all i (d.to) (omega (arith, low, length-map arcs (λ (a : GraphArc). a.to))))
+
+-- one answer more is put
+pub put_next : {X : Type 0} (f : NodeAnswer → X) (table table' : List X) (nodes : List ℕ) (i d : ℕ) (items rest : List NodeAnswer) (a : NodeAnswer) (goal : List X)
+    → i < length nodes → items ≡ a ∷ rest → table' ≡ slice_set table (get_or nodes i d) (f a) → put_all table (drop i nodes) (map f items) ≡ goal
+    → put_all table' (drop (i + 1) nodes) (map f rest) ≡ goal
+put_next f table table' nodes i d items rest a goal low e put was =
+    ap (λ t. put_all t (drop (i + 1) nodes) (map f rest)) put
+    ∙ sym (ap (λ xs. put_all table xs (f a ∷ map f rest)) (drop_more nodes i d low))
+    ∙ sym (ap (λ xs. put_all table (drop i nodes) (map f xs)) e)
+    ∙ was
+
+-- where no answer is left
+pub put_done : {X : Type 0} (f : NodeAnswer → X) (table : List X) (nodes : List ℕ) (items : List NodeAnswer) (goal : List X) → length items ≡ 0
+    → put_all table nodes (map f items) ≡ goal → table ≡ goal
+put_done f table [] items goal none was = was
+put_done f table (n ∷ nodes) [] goal none was = was
+put_done f table (n ∷ nodes) (a ∷ items) goal none was = absurd (omega (arith, none))

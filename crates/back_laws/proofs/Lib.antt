@@ -1,0 +1,4 @@
+pub mod Backward
+pub mod ClockEdges
+pub mod GraphPlaces
+pub mod TestsKept

@@ -1,0 +1,2 @@
+//! What an ECO leaves of a design: definitions and laws alone, for the crates that update an analysis.
+#![tactic(auto)]

@@ -1,0 +1,105 @@
+-- The pins of nodes and of their instances are all that are beside the nodes.
+
+use Rattle.std.proofs.Common.{◌≡◌, ℕ, ◌+◌, ◌<◌, true, false, List, [], ◌∷◌, ◌++◌, map, length, get_or, take, append_assoc, Option, Some, None, refl, sym, ap, subst, ◌∙◌, inl, inr}
+use Rattle.std.specs.Prelude.{nat_eq, Contains, is_some, option_and_then}
+use Rattle.std.specs.List.{filter_map, flat_map}
+use Rattle.std.specs.Option.{option_map_or}
+use Rattle.std.proofs.lemmas.Bool.{false≢true, eqb-true}
+use Rattle.std.proofs.lemmas.List.{append-nil, take_more}
+use Rattle.std.proofs.lemmas.List.Concat.{flat_map-append}
+use Rattle.std.proofs.lemmas.List.Elements.{All-contains, Contains-append_left, Contains-append_right}
+use Rattle.indexmap.specs.IndexSet.{insert_all}
+use Rattle.timing_defs.specs.declared.kinds.Split.TheVariants.{Late}
+use Rattle.timing_defs.specs.declared.library.Cell.{Cell}
+use Rattle.timing_defs.specs.declared.library.CellPin.{CellPin}
+use Rattle.timing_defs.specs.declared.netlist.Inst.{Inst}
+use Rattle.timing_defs.specs.Netlist.{Pin, name_of, pin_named, cell_of, cell_pins}
+use Rattle.timing_defs.specs.Edits.{inst_named}
+use Rattle.netlist_store.specs.Linked.{IsLinked}
+use Rattle.netlist_store.specs.Numbering.{Stored, name_at, number_of, is_number, inst_numbered, owner_number, IsNumbered}
+use Rattle.pin_graph.specs.Joins.{own_number}
+use Rattle.pin_graph.specs.Nodes.{pin_under}
+use Rattle.pin_graph.proofs.Members.{some_is, any_back, in_map, in_filter_map, in_flat_map}
+use Rattle.pin_graph.proofs.PinLaws.{HasNumber, pin_at_number, inst_told, own_back}
+use Rattle.edit_reach.proofs.Insertions.{grown}
+use Rattle.edit_reach.specs.Reach.{is_in, IsBeside, HasDirty}
+use Rattle.edit_reach.specs.Besides.{inst_under, pins_of_cell, inst_pins_at}
+
+-- what is put into a set is in it, and what is in a list stands there
+pub put_in : (xs new : List ℕ) → new ≡ insert_all nat_eq [] xs → (x : ℕ) → Contains xs x → is_in new x ≡ true
+put_in xs new e x c =
+    subst (λ ns. is_in ns x ≡ true) (sym e)
+    (All-contains (λ y. is_in (insert_all nat_eq [] xs) y ≡ true) xs x (grown (λ y. Unit {0}) xs [] (λ i d l. tt)).there c)
+
+pub stands_in : (xs : List ℕ) (x : ℕ) → is_in xs x ≡ true → Contains xs x
+stands_in xs x h = let r = any_back (nat_eq x) xs h in subst (Contains xs) (sym (eqb-true x r.item r.passes)) r.within
+
+-- a gap has no instance
+pub gap_owner : (s : Stored) (pin : ℕ) → is_number s.pins pin ≡ false → owner_number s pin ≡ None
+gap_owner s pin gap = by (name_at s.pins pin) refl
+  where
+    by : (o : Option (List ℕ)) → name_at s.pins pin ≡ o → owner_number s pin ≡ None
+    by None h =
+        ap (λ o. option_and_then (λ (inst : Inst). number_of s.insts inst.name) (option_and_then (λ (p : Pin). p.owner) (option_and_then (pin_named s.design) o))) h
+    by (Some name) h = absurd (false≢true (sym gap ∙ ap is_some h))
+
+pub gap_pins : (s : Stored) (n : ℕ) (pins : List ℕ) → is_number s.insts n ≡ false → pins ≡ pins ++ inst_pins_at s n
+gap_pins s n pins gap = by (name_at s.insts n) refl
+  where
+    by : (o : Option (List ℕ)) → name_at s.insts n ≡ o → pins ≡ pins ++ inst_pins_at s n
+    by None h =
+        let none : inst_numbered s n ≡ None = ap (option_and_then (inst_named s.design.insts)) h in
+        sym (ap (λ o. pins ++ option_map_or (λ inst. pins_of_cell s inst (cell_pins (cell_of s.design Late inst))) o []) none ∙ append-nil pins)
+    by (Some name) h = absurd (false≢true (sym gap ∙ ap is_some h))
+
+pub pins_put : (s : Stored) (n : ℕ) (inst : Inst) (cell : Cell) (old new : List ℕ) → inst_numbered s n ≡ Some inst
+    → option_and_then (cell_of s.design Late) (inst_numbered s n) ≡ Some cell → new ≡ old ++ pins_of_cell s inst cell.pins → new ≡ old ++ inst_pins_at s n
+pins_put s n inst cell old new e f put =
+    let g : cell_of s.design Late inst ≡ Some cell = sym (ap (option_and_then (cell_of s.design Late)) e) ∙ f in
+    put ∙ ap (λ ks. old ++ ks)
+    (sym (ap (λ o. option_map_or (λ inst. pins_of_cell s inst (cell_pins (cell_of s.design Late inst))) o []) e ∙ ap (λ o. pins_of_cell s inst (cell_pins o)) g))
+
+pub flat_more : {X Y : Type 0} (f : X → List Y) (base ys ys' : List Y) (xs : List X) (i : ℕ) (x : X) → i < length xs → x ≡ get_or xs i x
+    → ys ≡ base ++ flat_map f (take i xs) → ys' ≡ ys ++ f x → ys' ≡ base ++ flat_map f (take (i + 1) xs)
+flat_more {X} f base ys ys' xs i x low here had put =
+    let more : flat_map f (take (i + 1) xs) ≡ flat_map f (take i xs) ++ f x =
+    ap (flat_map f) (take_more xs i x low) ∙ flat_map-append f (take i xs) (get_or xs i x ∷ [])
+    ∙ ap (λ (z : X). flat_map f (take i xs) ++ flat_map f (z ∷ [])) (sym here)
+    ∙ ap (λ zs. flat_map f (take i xs) ++ zs) (append-nil (f x)) in
+    put ∙ ap (λ zs. zs ++ f x) had ∙ append_assoc base (flat_map f (take i xs)) (f x) ∙ ap (λ zs. base ++ zs) (sym more)
+
+module _ (s : Stored) (num : IsNumbered s) (linked : IsLinked s.design) where
+  -- a pin is among those of its instance
+  own_pins_at : (pin inst : ℕ) → is_number s.pins pin ≡ true → owner_number s pin ≡ Some inst → Contains (inst_pins_at s inst) pin
+  own_pins_at pin inst there owner =
+      let p = pin_at_number s num linked pin there in
+      by p.0 p.1 p.0.owner refl (sym (ap (λ o. option_and_then (λ (i : Inst). number_of s.insts i.name) (option_and_then (λ (x : Pin). x.owner) o)) p.1.pin) ∙ owner)
+    where
+      by : (p : Pin) → HasNumber s p pin → (o : Option Inst) → p.owner ≡ o → option_and_then (λ (i : Inst). number_of s.insts i.name) p.owner ≡ Some inst
+          → Contains (inst_pins_at s inst) pin
+      by p has None e f = let g : None ≡ Some inst = sym (ap (option_and_then (λ (i : Inst). number_of s.insts i.name)) e) ∙ f in absurd (cc)
+      by p has (Some i) e f =
+          let own = own_back s.design linked p i has.within e in
+          let t = inst_told s num linked i own.inst in
+          let same : t.0 ≡ inst = some_is (sym t.1.number ∙ sym (ap (option_and_then (λ (j : Inst). number_of s.insts j.name)) e) ∙ f) in
+          let at : inst_numbered s inst ≡ Some i = sym (ap (inst_numbered s) same) ∙ t.1.inst in
+          let told : own_number s i own.pin.name ≡ Some pin = sym (ap (λ (q : Pin). number_of s.pins (name_of q)) own.same) ∙ has.number in
+          subst (λ (xs : List ℕ). Contains xs pin) (sym (ap (λ o. option_map_or (λ inst. pins_of_cell s inst (cell_pins (cell_of s.design Late inst))) o []) at))
+          (in_filter_map (λ (q : CellPin). own_number s i q.name) (cell_pins (cell_of s.design Late i)) own.pin pin own.within told)
+
+  pub all_beside : (nodes insts pins dirty : List ℕ) → insts ≡ insert_all nat_eq [] (filter_map (inst_under s) nodes) → pins ≡ map pin_under nodes ++ flat_map (inst_pins_at s) insts
+      → dirty ≡ insert_all nat_eq [] pins → HasDirty s nodes dirty
+  all_beside nodes insts pins dirty e f g = record { each = each }
+    where
+      each : (n pin : ℕ) → is_in nodes n ≡ true → is_number s.pins pin ≡ true → IsBeside s (pin_under n) pin → is_in dirty pin ≡ true
+      each n pin h there (inl same) =
+          put_in pins dirty g pin
+          (subst (λ (xs : List ℕ). Contains xs pin) (sym f)
+          (Contains-append_left (map pin_under nodes) (flat_map (inst_pins_at s) insts) pin
+          (subst (Contains (map pin_under nodes)) same (in_map pin_under nodes n (stands_in nodes n h)))))
+      each n pin h there (inr (inst, a, b)) =
+          let c = stands_in insts inst (put_in (filter_map (inst_under s) nodes) insts e inst (in_filter_map (inst_under s) nodes n inst (stands_in nodes n h) a)) in
+          put_in pins dirty g pin
+          (subst (λ (xs : List ℕ). Contains xs pin) (sym f)
+          (Contains-append_right (map pin_under nodes) (flat_map (inst_pins_at s) insts) pin
+          (in_flat_map (inst_pins_at s) insts inst pin c (own_pins_at pin inst there b))))

@@ -1,0 +1,7 @@
+use Rattle.std.proofs.Common.{◌≡◌, ◌++◌, take}
+use Rattle.std.specs.List.{filter_map}
+use Rattle.pin_graph.specs.Joins.{own_number}
+use Rattle.edit_reach.proofs.dirty.add_cell_pins.Given as goal
+
+abbrev pub invariant-loop-pin : goal.invariant-loop-pin
+invariant-loop-pin l = l.pins ≡ l.initial.pins ++ filter_map (λ pin. own_number l.store l.inst pin.name) (take l.pin-index l.pin-items)

@@ -1,0 +1,130 @@
+//! The pins to which an edit leads, with those of their instances.
+
+ghost use Rattle.std.specs.Prelude.{◌≡◌, ◌++◌, map, IfOk, OnOk};
+ghost use Rattle.std.specs.List.{filter_map, flat_map};
+ghost use Rattle.std.specs.Option.{option_to_list};
+ghost use Rattle.pin_graph.specs.Joins.{own_number};
+ghost use Rattle.pin_graph.specs.Nodes.{pin_under};
+ghost use Rattle.edit_reach.specs.Reach.{HasDirty};
+ghost use Rattle.edit_reach.specs.Besides.{inst_under, pins_of_cell, inst_pins_at};
+
+use crate::behind::number_set;
+use indexmap::IndexSet;
+use netlist_store::{Store, full_name};
+use sta_units::Memory;
+use std::alloc::Global;
+use timing_defs::{Cell, Inst, Items, Name, Split};
+
+/// Adds a number, where it is there.
+fn add_number(numbers: &mut Items<u32>, number: Option<u32>) -> Result<(), Memory>
+    ensures { OnOk result (numbers.new ≡ numbers.old ++ option_to_list number) }
+{
+    match number {
+        Some(number) => numbers.push(number),
+        None => Ok(()),
+    }
+}
+
+/// The number of the instance of a node's pin; none of a port's, and of a gap.
+#[tactic(auto, using(crate::proofs::Beside::gap_owner))]
+fn inst_under(store: &Store, node: u32) -> Option<u32>
+    ensures { result ≡ inst_under store.now node }
+{
+    let pin = node / 2;
+    if !store.has_pin(pin) {
+        return None;
+    }
+    store.inst_of(pin)
+}
+
+/// The instances of the pins of nodes.
+fn insts_under(alloc: Global, store: &Store, nodes: &[u32]) -> Result<Items<u32>, Memory>
+    ensures { IfOk result (λ insts. insts ≡ filter_map (inst_under store.now) nodes.now) }
+{
+    let mut insts = Items::new(alloc);
+    for node in nodes {
+        add_number(&mut insts, inst_under(store, *node))?;
+    }
+    Ok(insts)
+}
+
+/// The pins of nodes.
+fn pins_under(alloc: Global, nodes: &[u32]) -> Result<Items<u32>, Memory>
+    ensures { IfOk result (λ pins. pins ≡ map pin_under nodes.now) }
+{
+    let mut pins = Items::with_room(alloc, nodes.len())?;
+    for node in nodes {
+        pins.push(*node / 2)?;
+    }
+    Ok(pins)
+}
+
+/// The number of a pin of an instance, by its name in the cell.
+fn own_number(alloc: Global, store: &Store, inst: &Inst, own: &Name) -> Result<Option<u32>, Memory>
+    ensures { IfOk result (λ number. number ≡ own_number store.now inst.now own.now) }
+{
+    let name = full_name(alloc, &inst.name, own)?;
+    Ok(store.pin(&name))
+}
+
+/// Adds the pins of an instance by those of its cell.
+fn add_cell_pins(
+    alloc: Global,
+    store: &Store,
+    pins: &mut Items<u32>,
+    inst: &Inst,
+    cell: &Cell,
+) -> Result<(), Memory>
+    ensures { OnOk result (pins.new ≡ pins.old ++ pins_of_cell store.now inst.now cell.now.pins) }
+{
+    for pin in cell.pins.as_slice() {
+        let number = own_number(alloc, store, inst, &pin.name)?;
+        add_number(pins, number)?;
+    }
+    Ok(())
+}
+
+/// Adds the pins of the instance of a number; a gap has none.
+#[tactic(auto, using(crate::proofs::Beside::gap_pins, crate::proofs::Beside::pins_put))]
+fn add_inst_pins(
+    alloc: Global,
+    store: &Store,
+    pins: &mut Items<u32>,
+    inst: u32,
+) -> Result<(), Memory>
+    ensures { OnOk result (pins.new ≡ pins.old ++ inst_pins_at store.now inst) }
+{
+    if !store.has_inst(inst) {
+        return Ok(());
+    }
+    let cell = store.cell_at(inst, Split::Late);
+    add_cell_pins(alloc, store, pins, store.inst_at(inst), cell)
+}
+
+/// Adds the pins of instances.
+fn add_insts_pins(
+    alloc: Global,
+    store: &Store,
+    pins: &mut Items<u32>,
+    insts: &[u32],
+) -> Result<(), Memory>
+    ensures { OnOk result (pins.new ≡ pins.old ++ flat_map (inst_pins_at store.now) insts.now) }
+{
+    for inst in insts {
+        add_inst_pins(alloc, store, pins, *inst)?;
+    }
+    Ok(())
+}
+
+/// The pins of nodes of an edited store, with all other pins of their instances, each once. Of the nodes
+/// behind the seeds of an edit these are the pins that may differ from the base's.
+pub fn dirty_pins(alloc: Global, store: &Store, nodes: &[u32]) -> Result<IndexSet<u32>, Memory>
+    ensures { IfOk result (λ pins. HasDirty store.now nodes.now pins.keys) }
+{
+    store.laws();
+    let found = insts_under(alloc, store, nodes)?;
+    let insts = number_set(alloc, found.as_slice())?;
+    let mut pins = pins_under(alloc, nodes)?;
+    add_insts_pins(alloc, store, &mut pins, insts.as_slice())?;
+    number_set(alloc, pins.as_slice())
+}

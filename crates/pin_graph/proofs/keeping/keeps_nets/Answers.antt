@@ -1,0 +1,12 @@
+use Rattle.pin_graph.specs.Alike.{IsSameNet}
+use Rattle.pin_graph.proofs.AlikeAfter.{kept_more, kept_all}
+use Rattle.pin_graph.proofs.keeping.keeps_nets.Goals as goal
+
+pub loop-name-preserved : goal.loop-name-preserved
+loop-name-preserved c =
+    kept_more (λ name. IsSameNet c.args.base.now c.args.store.now name) c.args.names.now c.loop-name.name-index c.name-item.result c.loop-name.invariant
+    c.loop-name-test.true c.name-item.is (c.keeps_net.ensures c.if-not-keeps_net.false)
+
+pub returns : goal.returns
+returns c =
+    λ yes. kept_all (λ name. IsSameNet c.args.base.now c.args.store.now name) c.args.names.now c.loop-name.name-index c.loop-name.invariant c.loop-name-test.false

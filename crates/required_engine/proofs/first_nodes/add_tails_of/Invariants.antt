@@ -1,0 +1,6 @@
+use Rattle.std.proofs.Common.{ℕ, ◌≡◌, ◌||◌, take}
+use Rattle.required_engine.specs.Updated.{is_in, is_tail_of}
+use Rattle.required_engine.proofs.first_nodes.add_tails_of.Given as goal
+
+abbrev pub invariant-loop-node : goal.invariant-loop-node
+invariant-loop-node l = (n : ℕ) → is_in l.nodes n ≡ (is_in l.initial.nodes n || is_tail_of l.base l.graph.stored (take l.node-index l.others) n)
