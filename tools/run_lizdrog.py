@@ -5,6 +5,8 @@
       EARLY, LATE  two libraries (Liberty), or one of them twice   NETLIST  a module of gates (Verilog)
       SDC          constraints                                     SPEF     parasitics, or the word none
       WORKERS      1 to 32 threads                                 SCRIPT   questions and edits, one a line; 1 to 16, each a session
+  lizdrog generate NUMBER GATES EDITS
+      a design of GATES gates and four sessions with EDITS resizes in all, drawn from NUMBER; both are multiples of 4
   lizdrog --build    build the program without proof now, in minutes (`rt ci` proves it and builds it, in hours)
   lizdrog --version  the commit, the toolchain, and whether the program that would run is proved
   --proved           refuse to run a program that is not proved
@@ -234,7 +236,7 @@ def misfit(words):
 def doubts(words):
     """What is seen of words that the program took for no command."""
     if any(it.startswith("-") for it in words):
-        return "no name of a document begins with -: standard input is /dev/stdin"
+        return "a word that begins with - stands behind the word --, and no option is known; standard input is /dev/stdin"
     return f"run takes {MOST_SCRIPTS} scripts at most" if words[0] == "run" and len(words) > LEAST_WORDS["run"] + MOST_SCRIPTS else "these words are no command"
 
 
@@ -253,6 +255,8 @@ def serve(given, words):
     status, first = run(program, words)
     if status == 2:
         usage(doubts(words))
+    if "--" in words:
+        words = [*words[:words.index("--")], *words[words.index("--") + 1:]]
     for line in explain_fault.explain(status, first.decode("latin-1"), words):
         print(line, file=sys.stderr)
     return status

@@ -107,6 +107,7 @@ impl Analysis {
         requires made { IsEditOf self.now.stored (record { insts = touched.now.insts; nets = touched.now.nets }) store.now }
         ensures analysis { IfOk result (λ analysis. analysis.stored ≡ store.now) }
         ensures least { OnOk result (steps.old + forward_count self.now.stored.design store.now.design (record { insts = touched.now.insts; nets = touched.now.nets }) ≤ steps.new) }
+        ensures rises { steps.old ≤ steps.new }
         ensures most { steps.new ≤ steps.old + forward_count self.now.stored.design store.now.design (record { insts = touched.now.insts; nets = touched.now.nets }) + backward_count self.now.stored.design store.now.design (record { insts = touched.now.insts; nets = touched.now.nets }) }
         ensures refused { IfErr result (IsRangeFault store.now.design) }
     {

@@ -129,7 +129,7 @@ fn required_after<H: Threads + Sync, G: Gate, L>(
     requires reach { IsReach base.now.graph.now.stored graph.now (touch_of touched.now) reach.now }
     ensures required { IfOk result (λ required. AreRequired store.now required.rows) }
     ensures fine { OnOk result (NoOrigin store.now.design) }
-    ensures least { OnOk result (steps.old ≤ steps.new) }
+    ensures least { steps.old ≤ steps.new }
     ensures steps { steps.new ≤ steps.old + backward_count base.now.graph.now.stored.design store.now.design (touch_of touched.now) }
     ensures refused { IfErr result (IsRangeFault store.now.design) }
 {
@@ -268,7 +268,7 @@ fn with_arrivals<H: Threads + Sync, G: Gate, L>(
     requires arrivals { AreArrivals store.now arrivals }
     requires fine { AreRowsFine store.now.design }
     ensures found { IfOk result (IsFound store.now graph.now) }
-    ensures least { OnOk result (steps.old ≤ steps.new) }
+    ensures least { steps.old ≤ steps.new }
     ensures steps { steps.new ≤ steps.old + backward_count base.now.graph.now.stored.design store.now.design (touch_of touched.now) }
     ensures refused { IfErr result (IsRangeFault store.now.design) }
 {
@@ -302,6 +302,7 @@ pub(crate) fn find_after<H: Threads + Sync, G: Gate, L>(
     requires made { IsEditOf base.now.graph.now.stored (touch_of touched.now) store.now }
     ensures found { IfOk result (IsFound store.now graph.now) }
     ensures least { OnOk result (steps.old + forward_count base.now.graph.now.stored.design store.now.design (touch_of touched.now) ≤ steps.new) }
+    ensures rises { steps.old ≤ steps.new }
     ensures steps { steps.new ≤ steps.old + forward_count base.now.graph.now.stored.design store.now.design (touch_of touched.now) + backward_count base.now.graph.now.stored.design store.now.design (touch_of touched.now) }
     ensures refused { IfErr result (IsRangeFault store.now.design) }
 {

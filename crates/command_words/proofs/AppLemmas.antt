@@ -34,6 +34,7 @@ simple = refl
 -- what matches ask for is what the words do
 pub matched : (app : App) (words : List Text) (found : Option (Text × List Row)) → app ≡ lizdrog_app
     → fault_of app words ≡ [] → found ≡ subcommand_of app words → option_and_then asked_in found ≡ words_of words
+unfolding words_of
 matched app words found same none rows =
     let none_here : fault_of lizdrog_app words ≡ [] = ap (λ a. fault_of a words) (sym same) ∙ none in
     rw (none_here, rows, same) refl

@@ -93,4 +93,5 @@ generate_found n g e pn pg pe =
 pub plain_generate : (n g e : Text) → IsPlain n → IsPlain g → IsPlain e
     → words_of (codes "generate" ∷ n ∷ g ∷ e ∷ [])
     ≡ option_map generate (generate_with (within 0 18446744073709551615 n) (multiple_within 4 40000 g) (multiple_within 0 4000 e))
+unfolding words_of
 plain_generate n g e pn pg pe = rw (generate_taken n g e pn pg pe, generate_found n g e pn pg pe) refl

@@ -232,5 +232,6 @@ pub plain_run : (e l n c s w x : Text) (xs : List Text) → IsPlain e → IsPlai
     → length xs ≤ 100
     → words_of (codes "run" ∷ e ∷ l ∷ n ∷ c ∷ s ∷ w ∷ x ∷ xs)
     ≡ option_map run (run_with (Some (record { early = e; late = l; netlist = n; sdc = c; spef = s })) (within 1 32 w) (few_scripts (x ∷ xs)))
+unfolding words_of
 plain_run e l n c s w x xs pe pl pn pc ps pw px pxs few =
     rw (run_taken e l n c s w x xs pe pl pn pc ps pw px pxs few, run_found e l n c s w x xs pe pl pn pc ps pw px pxs) refl

@@ -1,5 +1,5 @@
--- What the words of a command line ask for, where they are plain: none is empty or begins with `-`.
-use Rattle.std.specs.Prelude.{ℕ, List, map}
+-- What the words of a command line ask for.
+use Rattle.std.specs.Prelude.{ℕ, List, map, length, ◌≡◌, ◌≤◌, ◌%◌}
 use Rattle.command_words.specs.declared.asked.Run.{Run}
 use Rattle.command_words.specs.declared.asked.Generate.{Generate}
 use Rattle.command_words.specs.declared.asked.Asked.{Asked}
@@ -43,3 +43,8 @@ generate_words g = record { number = g.number; gates = g.gates; edits = g.edits 
 abbrev pub words_of_asked : Asked → Words
 words_of_asked (run_asked r) = run (run_words r)
 words_of_asked (generate_asked g) = generate (generate_words g)
+
+-- the ranges of a command's numbers, and how many scripts it has
+abbrev pub IsInRange : Asked → Type 0
+IsInRange (run_asked r) = (1 ≤ r.workers) × (r.workers ≤ 32) × (1 ≤ length r.scripts.items) × (length r.scripts.items ≤ 16)
+IsInRange (generate_asked g) = (4 ≤ g.gates) × (g.gates ≤ 40000) × (g.gates % 4 ≡ 0) × (g.edits ≤ 4000) × (g.edits % 4 ≡ 0)

@@ -99,6 +99,6 @@ asked_in found =
 
 -- the command that the words give: none where `clap` refuses them, or they name no subcommand, or a number or a count is
 -- out of its range
-abbrev pub words_of : List Text → Option Words
+unfoldable pub words_of : List Text → Option Words
 words_of words =
     (if is_empty (fault_of lizdrog_app words) then option_and_then asked_in (subcommand_of lizdrog_app words) else None)

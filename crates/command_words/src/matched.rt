@@ -1,6 +1,6 @@
 //! What matches ask for.
 
-ghost use Rattle.std.specs.Prelude.{◌≡◌, ◌≤◌, IfOk, IfSome, option_map, option_and_then, map, codes};
+ghost use Rattle.std.specs.Prelude.{◌≡◌, ◌≤◌, IfOk, ◌%◌, IfSome, option_map, option_and_then, map, codes, length};
 ghost use Rattle.clap.specs.Matches.{found_of};
 ghost use Rattle.clap.specs.Walk.{rows_of, first_of, all_of};
 ghost use Rattle.command_words.specs.Numbers.{within, multiple_within};
@@ -45,6 +45,7 @@ fn number(matches: &ArgMatches<'_>, id: &str, low: u64, high: u64) -> Option<u64
 fn multiple(matches: &ArgMatches<'_>, id: &str, low: u64, high: u64) -> Option<u64>
     ensures value { result ≡ option_and_then (multiple_within low high) (first_of id.now (rows_of (found_of matches.now))) }
     ensures bounds { IfSome result (λ n. (low ≤ n) × (n ≤ high)) }
+    ensures fourth { IfSome result (λ n. n % 4 ≡ 0) }
 {
     match word(matches, id) {
         None => None,
@@ -68,7 +69,8 @@ fn names_of<'a>(matches: &ArgMatches<'a>) -> Option<Documents<'a>>
 /// Names, where they are 1 to 16.
 #[tactic(auto, using(crate::proofs::ByRows::lengths))]
 fn few<'a>(alloc: Global, names: &[&'a str]) -> Result<Option<Vec<&'a str>>, AllocError>
-    ensures { IfOk result (λ found. option_map (λ kept. map (λ s. s.now) kept.items) found ≡ few_scripts (map (λ s. s.now) names.now)) }
+    ensures names { IfOk result (λ found. option_map (λ kept. map (λ s. s.now) kept.items) found ≡ few_scripts (map (λ s. s.now) names.now)) }
+    ensures count { IfOk result (λ found. IfSome found (λ kept. (1 ≤ length kept.items) × (length kept.items ≤ 16))) }
 {
     if 1 <= names.len() && names.len() <= 16 {
         Ok(Some(Vec::from_slice(alloc, names)?))
@@ -80,7 +82,8 @@ fn few<'a>(alloc: Global, names: &[&'a str]) -> Result<Option<Vec<&'a str>>, All
 /// The names of the scripts, 1 to 16.
 #[tactic(auto, using(crate::proofs::ByRows::by_rows))]
 fn scripts<'a>(alloc: Global, matches: &ArgMatches<'a>) -> Result<Option<Vec<&'a str>>, AllocError>
-    ensures { IfOk result (λ found. option_map (λ kept. map (λ s. s.now) kept.items) found ≡ scripts_in (rows_of (found_of matches.now))) }
+    ensures names { IfOk result (λ found. option_map (λ kept. map (λ s. s.now) kept.items) found ≡ scripts_in (rows_of (found_of matches.now))) }
+    ensures count { IfOk result (λ found. IfSome found (λ kept. (1 ≤ length kept.items) × (length kept.items ≤ 16))) }
 {
     match matches.get_strs("SCRIPT") {
         None => Ok(None),
@@ -93,7 +96,9 @@ pub(crate) fn run_of<'a>(
     alloc: Global,
     matches: &ArgMatches<'a>,
 ) -> Result<Option<Run<'a>>, AllocError>
-    ensures { IfOk result (λ found. option_map run_words found ≡ run_in (rows_of (found_of matches.now))) }
+    ensures asked { IfOk result (λ found. option_map run_words found ≡ run_in (rows_of (found_of matches.now))) }
+    ensures workers { IfOk result (λ found. IfSome found (λ run. (1 ≤ run.workers) × (run.workers ≤ 32))) }
+    ensures scripts { IfOk result (λ found. IfSome found (λ run. (1 ≤ length run.scripts.items) × (length run.scripts.items ≤ 16))) }
 {
     match (names_of(matches), number(matches, "WORKERS", 1, 32)) {
         (Some(names), Some(workers)) => match scripts(alloc, matches)? {
@@ -114,7 +119,9 @@ pub(crate) fn run_of<'a>(
 
 /// The generated run that the matches of `generate` ask for.
 pub(crate) fn generate_of(matches: &ArgMatches<'_>) -> Option<Generate>
-    ensures { option_map generate_words result ≡ generate_in (rows_of (found_of matches.now)) }
+    ensures asked { option_map generate_words result ≡ generate_in (rows_of (found_of matches.now)) }
+    ensures gates { IfSome result (λ g. (4 ≤ g.gates) × (g.gates ≤ 40000) × (g.gates % 4 ≡ 0)) }
+    ensures edits { IfSome result (λ g. (g.edits ≤ 4000) × (g.edits % 4 ≡ 0)) }
 {
     let number = number(matches, "NUMBER", 0, u64::MAX)?;
     let gates = multiple(matches, "GATES", 4, 40_000)?;

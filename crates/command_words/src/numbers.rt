@@ -1,6 +1,6 @@
 //! Numbers of words.
 
-ghost use Rattle.std.specs.Prelude.{◌≡◌, ◌≤◌, ◌<◌, length, IfSome, MatchOption};
+ghost use Rattle.std.specs.Prelude.{◌≡◌, ◌≤◌, ◌<◌, ◌%◌, length, IfSome, MatchOption};
 ghost use Rattle.std.specs.Char.{is_ascii_digit};
 ghost use Rattle.std.specs.List.{list_all};
 ghost use Rattle.command_words.specs.Numbers.{number_behind, is_number, within, multiple_within};
@@ -52,6 +52,7 @@ pub(crate) fn number_within(text: &[u8], low: u64, high: u64) -> Option<u64>
 pub(crate) fn multiple_of_four(text: &[u8], low: u64, high: u64) -> Option<u64>
     ensures value { result ≡ multiple_within low high text.now }
     ensures bounds { IfSome result (λ n. (low ≤ n) × (n ≤ high)) }
+    ensures fourth { IfSome result (λ n. n % 4 ≡ 0) }
 {
     match number_within(text, low, high) {
         Some(number) if number % 4 == 0 => Some(number),

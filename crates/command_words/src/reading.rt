@@ -1,12 +1,12 @@
 //! The words of a command line.
 
-ghost use Rattle.std.specs.Prelude.{◌≡◌, IfOk, option_map, map};
+ghost use Rattle.std.specs.Prelude.{◌≡◌, IfOk, IfSome, option_map, map};
 ghost use Rattle.std.specs.String.{string_bytes};
 ghost use Rattle.std.specs.Prelude.{option_and_then};
 ghost use Rattle.clap.specs.Matches.{found_of};
 ghost use Rattle.clap.specs.Walk.{rows_of};
 ghost use Rattle.clap.specs.Simple.{subcommand_rows_of};
-ghost use Rattle.command_words.specs.Asked.{words_of_asked};
+ghost use Rattle.command_words.specs.Asked.{words_of_asked, IsInRange};
 ghost use Rattle.command_words.specs.Command.{asked_in, words_of};
 
 use crate::asked::Asked;
@@ -23,7 +23,8 @@ fn asked_by<'a>(
     name: &str,
     matches: &ArgMatches<'a>,
 ) -> Result<Option<Asked<'a>>, AllocError>
-    ensures { IfOk result (λ found. option_map words_of_asked found ≡ asked_in (name.now, rows_of (found_of matches.now))) }
+    ensures asked { IfOk result (λ found. option_map words_of_asked found ≡ asked_in (name.now, rows_of (found_of matches.now))) }
+    ensures ranges { IfOk result (λ found. IfSome found IsInRange) }
 {
     match name {
         "run" => match run_of(alloc, matches)? {
@@ -40,7 +41,8 @@ fn asked_by<'a>(
 
 /// What all matches ask for.
 fn asked_of<'a>(alloc: Global, matches: &ArgMatches<'a>) -> Result<Option<Asked<'a>>, AllocError>
-    ensures { IfOk result (λ found. option_map words_of_asked found ≡ option_and_then asked_in (subcommand_rows_of matches.now)) }
+    ensures asked { IfOk result (λ found. option_map words_of_asked found ≡ option_and_then asked_in (subcommand_rows_of matches.now)) }
+    ensures ranges { IfOk result (λ found. IfSome found IsInRange) }
 {
     match matches.subcommand() {
         None => Ok(None),
@@ -49,13 +51,16 @@ fn asked_of<'a>(alloc: Global, matches: &ArgMatches<'a>) -> Result<Option<Asked<
 }
 
 /// What the words after the program's name ask for: none exactly where the command refuses them, they
-/// name no subcommand, or a number or a count is out of its range.
+/// name no subcommand, or a number or a count is out of its range: 1 to 32 workers, 1 to 16 scripts, 4 to
+/// 40,000 gates and up to 4,000 edits, both a multiple of 4.
 ///
 /// # Errors
 ///
 /// Want of memory alone.
+#[tactic(auto, unfolding(crate::specs::Command::words_of))]
 pub fn read_words<'a>(alloc: Global, words: &'a [String]) -> Result<Option<Asked<'a>>, Memory>
-    ensures { IfOk result (λ found. option_map words_of_asked found ≡ words_of (map string_bytes words.entry.now)) }
+    ensures asked { IfOk result (λ found. option_map words_of_asked found ≡ words_of (map string_bytes words.entry.now)) }
+    ensures ranges { IfOk result (λ found. IfSome found IsInRange) }
 {
     let command = lizdrog(alloc)?;
     match command.try_get_matches_from(words) {

@@ -6,6 +6,8 @@ mod documents;
 #[cfg(test)]
 mod free;
 #[cfg(test)]
+mod generating;
+#[cfg(test)]
 mod holding;
 #[cfg(test)]
 mod looking;

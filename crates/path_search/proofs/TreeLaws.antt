@@ -1,13 +1,11 @@
 -- The clock tree of a graph, as its rows are made one by one.
 
-use Rattle.std.proofs.Common.{◌≡◌, ℕ, zero, suc, ◌+◌, ◌<◌, ◌≤◌, ℤ, pos, true, false, List, [], ◌∷◌, ◌++◌, length, get_or, set, Option, None, Some, refl, sym, ap, subst, ◌∙◌, inl, inr, arith}
-use Rattle.std.specs.List.{list_any, range_with_len}
-use Rattle.std.specs.Prelude.{Contains, IfSome, ◌&&◌, ◌||◌, is_some, slice_get, slice_index_or, option_map, option_and_then, unsigned_abs}
+use Rattle.std.proofs.Common.{◌≡◌, ℕ, zero, suc, ◌+◌, ◌<◌, ◌≤◌, ℤ, pos, true, false, List, [], ◌∷◌, ◌++◌, map, length, get_or, Option, None, Some, refl, sym, ap, subst, ◌∙◌, inl, inr, arith}
+use Rattle.std.specs.List.{list_any}
+use Rattle.std.specs.Prelude.{Contains, IfSome, ◌&&◌, ◌||◌, is_some, slice_get, slice_index, slice_index_or, option_map, option_and_then, unsigned_abs}
 use Rattle.std.specs.Option.{option_map_or}
 use Rattle.std.proofs.lemmas.Bool.{cases_eq, cases_lt, false≢true, and_parts, leb-true}
-use Rattle.std.proofs.lemmas.List.FromFn.{length-range_with_len}
-use Rattle.std.proofs.lemmas.List.Sums.{count_by-le-length}
-use Rattle.std.proofs.lemmas.List.{length-set, get_or-set_same, get_or-set_other, get_or_append_left, get_or_push, get_or_past}
+use Rattle.std.proofs.lemmas.List.{get_or_append_left, get_or_push, get_or_past}
 use Rattle.std.proofs.lemmas.Option.{slice_get_within}
 use Rattle.sta_units.specs.Numbers.{limit, Within, is_within}
 use Rattle.timing_defs.specs.declared.kinds.Split.TheVariants.{Early, Late}
@@ -23,7 +21,7 @@ use Rattle.netlist_store.specs.Numbering.{Stored, name_at, IsNumbered}
 use Rattle.netlist_store.specs.Linked.{IsLinked}
 use Rattle.pin_graph.specs.declared.arcs.GraphArc.{GraphArc}
 use Rattle.pin_graph.specs.Nodes.{node_at, node_bound, pin_under}
-use Rattle.pin_graph.specs.Graphs.{Graphed, IsGraph, fan_at, network_at, place_at, of_node}
+use Rattle.pin_graph.specs.Graphs.{Graphed, IsGraph, AreClockNodes, fan_at, place_at, of_node}
 use Rattle.pin_graph.specs.RowTables.{AreRows, AreRowsFine}
 use Rattle.pin_graph.proofs.Members.{some_is, first_in, found_in}
 use Rattle.pin_graph.proofs.NodeLaws.{has_node, same_node_at}
@@ -78,7 +76,26 @@ number_low s number node e =
     let c = slice_get_within s.pins (pin_under number) b.0 b.1 in
     omega (arith, c)
 
--- a list of nodes by places, with one node more
+-- an item of a list whose items are all there
+mapped_at : (xs : List ℕ) (k n : ℕ) → slice_index_or (map Some xs) k None ≡ Some n → (k < length xs) × (slice_index xs k ≡ n)
+mapped_at [] k n e = absurd (cc)
+mapped_at (x ∷ xs) zero n e = (omega arith, some_is e)
+mapped_at (x ∷ xs) (suc k) n e = let r = mapped_at xs k n e in let l = r.0 in (omega (arith, l), r.1)
+
+at_mapped : (xs : List ℕ) (k n : ℕ) → k < length xs → slice_index xs k ≡ n → slice_index_or (map Some xs) k None ≡ Some n
+at_mapped [] k n low e = absurd (omega (arith, low))
+at_mapped (x ∷ xs) zero n low e = ap Some e
+at_mapped (x ∷ xs) (suc k) n low e = at_mapped xs k n (omega (arith, low)) e
+
+-- the nodes of places, as the graph lists them
+pub place_nodes_are : (g : Graphed) (order : List ℕ) (nodes : List (Option ℕ)) → AreClockNodes g order → nodes ≡ map Some order → ArePlaceNodes g nodes
+place_nodes_are g order nodes are e = subst (λ (xs : List (Option ℕ)). ArePlaceNodes g xs) (sym e) (record {
+  told = λ place number at.
+      (let m = mapped_at order place number at in
+      subst (λ (n : ℕ). place_at g n ≡ Some place) m.1 (are.told place m.0).1);
+  there = λ number place at. (let m = are.there number place at in at_mapped order place number m.0 m.1);
+})
+
 module _ (g : Graphed) (is : IsGraph g) where
   pub place_low : (number place : ℕ) → place_at g number ≡ Some place → number < node_bound g.stored
   place_low number place e = elim (cases_lt number (node_bound g.stored)) [
@@ -88,61 +105,6 @@ module _ (g : Graphed) (is : IsGraph g) where
         let clash : None ≡ Some place = sym past ∙ e in
         absurd (cc)
   ]
-
-  pub nodes_start : (nodes : List (Option ℕ)) → length nodes ≡ node_bound g.stored → ((k : ℕ) → get_or nodes k None ≡ None) → ArePlaceNodes g 0 nodes
-  nodes_start nodes long none = record {
-    count = long;
-    told = λ place number e. let clash : None ≡ Some number = sym (none place) ∙ e in absurd (cc);
-    there = λ number place low e. absurd (omega (arith, low));
-  }
-
-  module _ (nodes longer : List (Option ℕ)) (done : ℕ) (had : ArePlaceNodes g done nodes) where
-    pub nodes_none : place_at g done ≡ None → longer ≡ nodes → ArePlaceNodes g (done + 1) longer
-    nodes_none none same = subst (λ (xs : List (Option ℕ)). ArePlaceNodes g (done + 1) xs) (sym same) (record {
-      count = had.count;
-      told = had.told;
-      there = λ number place low e. elim (cases_eq number done) [
-        | inl here ↦ let clash : None ≡ Some place = sym none ∙ ap (place_at g) (sym here) ∙ e in absurd (cc)
-        | inr other ↦ had.there number place (omega (arith, low, other)) e
-      ];
-    })
-
-    pub nodes_more : (p : ℕ) → place_at g done ≡ Some p → p < length nodes → longer ≡ set nodes p (Some done) → ArePlaceNodes g (done + 1) longer
-    nodes_more p at low same = subst (λ (xs : List (Option ℕ)). ArePlaceNodes g (done + 1) xs) (sym same) (record {
-      count = length-set nodes p (Some done) ∙ had.count;
-      told = λ place number e. elim (cases_eq place p) [
-        | inl here ↦
-            let put : Some done ≡ Some number =
-            sym (get_or-set_same nodes p (Some done) None low) ∙ ap (λ k. get_or (set nodes p (Some done)) k None) (sym here) ∙ e in
-            ap (place_at g) (sym (some_is put)) ∙ at ∙ ap Some (sym here)
-        | inr other ↦ had.told place number (sym (get_or-set_other nodes p place (Some done) None other) ∙ e)
-      ];
-      there = λ number place below e. elim (cases_eq number done) [
-        | inl here ↦
-            let q : p ≡ place = some_is (sym at ∙ ap (place_at g) (sym here) ∙ e) in
-            ap (λ k. get_or (set nodes p (Some done)) k None) (sym q) ∙ get_or-set_same nodes p (Some done) None low ∙ ap Some (sym here)
-        | inr other ↦
-            get_or-set_other nodes p place (Some done) None (λ q. other (is.places.distinct number done place e (at ∙ ap Some (sym q))))
-            ∙ had.there number place (omega (arith, below, other)) e
-      ];
-    })
-
-  pub place_under : (number place : ℕ) → place_at g number ≡ Some place → place < node_bound g.stored
-  place_under number place e =
-      let a = is.places.below number place e in
-      let b = count_by-le-length (network_at g) (range_with_len 0 (node_bound g.stored)) in
-      let c = length-range_with_len 0 (node_bound g.stored) in
-      omega (arith, a, b, c)
-
-  module _ (nodes : List (Option ℕ)) (done : ℕ) (had : ArePlaceNodes g done nodes) where
-    pub some_under : (place : Option ℕ) → place ≡ place_at g done → IfSome place (λ p. p < length nodes)
-    some_under None e = tt
-    some_under (Some p) e = (let l = place_under done p (sym e) in let c = had.count in omega (arith, l, c))
-
-    pub nodes_step : (longer : List (Option ℕ)) (place : Option ℕ) → place ≡ place_at g done → longer ≡ option_map_or (λ p. set nodes p (Some done)) place nodes
-        → ArePlaceNodes g (done + 1) longer
-    nodes_step longer None e put = nodes_none nodes longer done had (sym e) put
-    nodes_step longer (Some p) e put = nodes_more nodes longer done had p (sym e) (let l = place_under done p (sym e) in let c = had.count in omega (arith, l, c)) put
 
   -- a node that has a place, and its parent's place
   module _ (num : IsNumbered g.stored) (linked : IsLinked g.stored.design) (number place : ℕ) (at : place_at g number ≡ Some place) where
@@ -289,7 +251,7 @@ rows_start g nodes = record {
 }
 
 module _ (g : Graphed) (s : Stored) (same : g.stored ≡ s) (num : IsNumbered s) (linked : IsLinked s.design) (is : IsGraph g) (fine : AreRowsFine s.design)
-    (nodes : List (Option ℕ)) (are : ArePlaceNodes g (node_bound g.stored) nodes) where
+    (nodes : List (Option ℕ)) (are : ArePlaceNodes g nodes) where
   its_numbers : IsNumbered g.stored
   its_numbers = subst (λ (z : Stored). IsNumbered z) (sym same) num
 
@@ -306,7 +268,7 @@ module _ (g : Graphed) (s : Stored) (same : g.stored ≡ s) (num : IsNumbered s)
       edge = λ number place m low p e. elim (cases_eq place done) [
         | inl here ↦
             let n : slice_index_or nodes done None ≡ Some number =
-            are.there number done (place_low g is number place p) (p ∙ ap Some here) in
+            are.there number done (p ∙ ap Some here) in
             let k : IsEdgeAt g (Some number) edge = subst (λ (o : Option ℕ). IsEdgeAt g o edge) (sym at ∙ n) h in
             ap (option_map edge_of) (ap (λ k. get_or (edges ++ edge ∷ []) k None) here ∙ get_or_push edges edge None done had.edge_count) ∙ k m e
         | inr other ↦
@@ -359,7 +321,7 @@ module _ (g : Graphed) (s : Stored) (same : g.stored ≡ s) (num : IsNumbered s)
   rows_done edges rows done had all = record {
     tree = had.tree;
     each = λ number place node p e.
-        (let n = are.there number place (place_low g is number place p) p in
+        (let n = are.there number place p in
         let r = had.made place (below place number n) in
         record { row = r.0; at = r.1; told = (subst (λ (o : Option ℕ). IsRowAt g o r.0) n r.2) node e });
   }
@@ -409,7 +371,7 @@ pub some_of : {X : Type 0} (o : Option X) (x : X) (P : X → Type 0) → o ≡ S
 some_of {X = X} o x P e h = subst (λ (q : Option X). IfSome q P) e h
 
 -- the nodes of places are numbers below the bound
-pub nodes_low : (g : Graphed) → IsGraph g → (nodes : List (Option ℕ)) → ArePlaceNodes g (node_bound g.stored) nodes → (place : ℕ) (o : Option ℕ) → o ≡ slice_index_or nodes place None
+pub nodes_low : (g : Graphed) → IsGraph g → (nodes : List (Option ℕ)) → ArePlaceNodes g nodes → (place : ℕ) (o : Option ℕ) → o ≡ slice_index_or nodes place None
     → IfSome o (λ n. n < node_bound g.stored)
 nodes_low g is nodes are place None e = tt
 nodes_low g is nodes are place (Some n) e = place_low g is n place (are.told place n (sym e))

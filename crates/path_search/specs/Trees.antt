@@ -10,7 +10,7 @@ use Rattle.timing_defs.specs.Netlist.{Node}
 use Rattle.timing_defs.specs.declared.rows.NodeRow.{NodeRow}
 use Rattle.timing_defs.specs.Rows.{arrival, time_on}
 use Rattle.timing_defs.specs.Tests.{network_walk, first_edge}
-use Rattle.pin_graph.specs.Nodes.{node_at, node_bound}
+use Rattle.pin_graph.specs.Nodes.{node_at}
 use Rattle.pin_graph.specs.Graphs.{Graphed, fan_at, place_at}
 use Rattle.node_tests.specs.Walks.{first_from}
 use Rattle.pessimism_credit.specs.declared.rows.TreeRow.{TreeRow}
@@ -58,11 +58,10 @@ pub record IsClockTree (g : Graphed) (rows : List TreeRow) : Type 0 where
   pub tree : IsTree rows
   pub each : (number place : ℕ) (node : Node) → place_at g number ≡ Some place → node_at g.stored number ≡ Some node → HasRow g rows number place node
 
--- the nodes of places, of those numbers that are done
-pub record ArePlaceNodes (g : Graphed) (done : ℕ) (nodes : List (Option ℕ)) : Type 0 where
-  pub count : length nodes ≡ node_bound g.stored
+-- the nodes of places
+pub record ArePlaceNodes (g : Graphed) (nodes : List (Option ℕ)) : Type 0 where
   pub told : (place number : ℕ) → slice_index_or nodes place None ≡ Some number → place_at g number ≡ Some place
-  pub there : (number place : ℕ) → number < done → place_at g number ≡ Some place → slice_index_or nodes place None ≡ Some number
+  pub there : (number place : ℕ) → place_at g number ≡ Some place → slice_index_or nodes place None ≡ Some number
 
 -- the launch edges of the first places
 abbrev pub edge_at : List (Option LaunchEdge) → ℕ → Option (ℕ × Tran)

@@ -1,7 +1,6 @@
 //! The clock tree of a design, in which credits are found.
 
-ghost use Rattle.std.specs.Prelude.{◌≡◌, ◌<◌, Some, set, length, IfOk, IfSome};
-ghost use Rattle.std.specs.Option.{option_map_or};
+ghost use Rattle.std.specs.Prelude.{◌≡◌, ◌<◌, Some, length, IfOk, IfSome};
 ghost use Rattle.timing_defs.specs.Rows.{time_on};
 ghost use Rattle.pin_graph.specs.Nodes.{node_bound};
 ghost use Rattle.pin_graph.specs.Graphs.{place_at};
@@ -16,24 +15,14 @@ use sta_units::{Fs, Memory};
 use std::alloc::Global;
 use timing_defs::{Items, NodeRow, Rows, Split};
 
-/// Notes a node at its place, where it has one.
-fn put_node(nodes: &mut Vec<Option<u32>>, place: Option<u32>, node: u32)
-    requires { IfSome place (λ p. p < length nodes.old.items) }
-    ensures { nodes.new.items ≡ option_map_or (λ p. set nodes.old.items p (Some node)) place nodes.old.items }
+/// The node of each place.
+fn place_nodes(alloc: Global, graph: &Graph) -> Result<Items<Option<u32>>, Memory>
+    ensures { IfOk result (ArePlaceNodes graph.now) }
 {
-    if let Some(place) = place {
-        nodes[place as usize] = Some(node);
-    }
-}
-
-/// The node of each place; none at a number that is no place.
-fn place_nodes(alloc: Global, graph: &Graph) -> Result<Vec<Option<u32>>, Memory>
-    ensures { IfOk result (λ nodes. ArePlaceNodes graph.now (node_bound graph.now.stored) nodes.items) }
-{
-    graph.laws();
-    let mut nodes = vec![in alloc; None; graph.count() as usize]?;
-    for node in 0..graph.count() {
-        put_node(&mut nodes, graph.place(node), node);
+    let placed = graph.clock_nodes();
+    let mut nodes = Items::with_room(alloc, placed.len())?;
+    for node in placed {
+        nodes.push(Some(*node))?;
     }
     Ok(nodes)
 }
@@ -141,7 +130,7 @@ fn tree_rows<A: Rows>(
     requires graph { graph.now.stored ≡ store.now }
     requires rows { AreRows store.now (A.rows arrivals.now) }
     requires range { AreRowsFine store.now.design }
-    requires nodes { ArePlaceNodes graph.now (node_bound graph.now.stored) nodes.now }
+    requires nodes { ArePlaceNodes graph.now nodes.now }
     ensures { IfOk result (IsClockTree graph.now) }
 {
     store.laws();
@@ -158,8 +147,8 @@ fn tree_rows<A: Rows>(
 
 /// The clock tree of a design: the nodes of the clock network by their places in the graph, each with the
 /// place of the node before it (none at a clock port's node) and its early and late arrival, in fs, on the
-/// launch edge of the walk to it; both are 0 where one is not there, and at a number that is no place.
-/// `arrivals` has the row of each node. Takes as many steps as the graph has nodes.
+/// launch edge of the walk to it; both are 0 where one is not there.
+/// `arrivals` has the row of each node. Takes as many steps as the clock network has nodes.
 pub fn clock_tree<A: Rows>(
     alloc: Global,
     store: &Store,

@@ -41,7 +41,7 @@ module _ {X Y : Type 0} (f : X → Option Y) where
       → ys ≡ filter_map f (take i xs) → ys' ≡ ys ++ option_to_list o → ys' ≡ filter_map f (take (i + 1) xs)
   first_mapped_more ys ys' xs i x o low here is had put = mapped_more [] ys ys' xs i x o low here is had put
 
-numbers_more : (n : ℕ) → range_with_len 0 (n + 1) ≡ range_with_len 0 n ++ n ∷ []
+pub numbers_more : (n : ℕ) → range_with_len 0 (n + 1) ≡ range_with_len 0 n ++ n ∷ []
 numbers_more n = sym (map-id (range_with_len 0 (n + 1))) ∙ map-range_with_len_more (λ (k : ℕ). k) 0 n n (omega arith) ∙ ap (λ ks. ks ++ n ∷ []) (map-id (range_with_len 0 n))
 
 module _ {Y : Type 0} (f : ℕ → List Y) where

@@ -1,10 +1,10 @@
 -- The pins of touched instances hold all that an ECO takes out of a design.
 
 use Rattle.std.proofs.Common.{◌≡◌, ℕ, Bool, true, false, not, List, [], ◌∷◌, Option, None, Some, refl, sym, ap, ◌∙◌, inl, inr}
-use Rattle.std.specs.Prelude.{nat_eq, is_some, if◌then◌else◌, IfOk, Result, Ok, Err, ◌&&◌, ◌||◌, option_map, option_and_then}
+use Rattle.std.specs.Prelude.{nat_eq, is_some, IfOk, Result, Ok, Err, ◌&&◌, ◌||◌, option_map, option_and_then}
 use Rattle.std.specs.List.{list_any, filter_map}
 use Rattle.std.specs.Option.{option_map_or}
-use Rattle.std.proofs.lemmas.Bool.{cases_Bool, cases_eq, eq-eqb, ne_eqb, true≢false, false≢true}
+use Rattle.std.proofs.lemmas.Bool.{cases_Bool, cases_eq, eq-eqb, ne_eqb, true≢false}
 use Rattle.sta_units.specs.declared.units.Memory.{Memory}
 use Rattle.timing_defs.specs.declared.netlist.Inst.{Inst}
 use Rattle.timing_defs.specs.Netlist.{Pin, pin_named, is_listed}
@@ -41,7 +41,7 @@ any_gone s (x ∷ xs) k = elim (cases_Bool (is_number s.pins x)) [
   ])
 ]
 
-number_of_pin : (s : Stored) (k : ℕ) (p : Pin) → pin_numbered s k ≡ Some p → is_number s.pins k ≡ true
+pub number_of_pin : (s : Stored) (k : ℕ) (p : Pin) → pin_numbered s k ≡ Some p → is_number s.pins k ≡ true
 number_of_pin s k p e = by (name_at s.pins k) e
   where
     by : (o : Option (List ℕ)) → option_and_then (pin_named s.design) o ≡ Some p → is_some o ≡ true

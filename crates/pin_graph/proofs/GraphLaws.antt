@@ -18,7 +18,8 @@ use Rattle.pin_graph.specs.declared.arcs.GraphKind.TheVariants.{Net as net_kind,
 use Rattle.pin_graph.specs.declared.arcs.GraphArc.{GraphArc}
 use Rattle.pin_graph.specs.Networks.{IsNetwork}
 use Rattle.pin_graph.specs.Nodes.{node_at, node_bound}
-use Rattle.pin_graph.specs.NodeArcs.{is_cell, node_arcs, net_arc, has_comb_from, has_edge_from, AreMerged}
+use Rattle.pin_graph.specs.NodeArcs.{is_cell, node_arcs, raw_into, net_arc, has_comb_from, has_edge_from, AreJoined, AreMerged}
+use Rattle.pin_graph.specs.Kept.{AreTurned}
 use Rattle.pin_graph.specs.Graphs.{kind_between, from_of, to_of, IsArc, AreArcs}
 use Rattle.pin_graph.proofs.Members.{in_filter, passes_in, kept_in, any_in, any_back}
 use Rattle.pin_graph.proofs.WalkLaws.{both_same}
@@ -31,7 +32,7 @@ filter_more p q x xs = elim (cases_Bool (q x)) [
   | inr h ↦ rw h (omega arith)
 ]
 
-count_filter : {X : Type 0} (p q : X → Bool) (xs : List X) → count_by p (filter q xs) ≡ count_by (λ x. q x && p x) xs
+pub count_filter : {X : Type 0} (p q : X → Bool) (xs : List X) → count_by p (filter q xs) ≡ count_by (λ x. q x && p x) xs
 count_filter p q [] = refl
 count_filter p q (x ∷ xs) =
     filter_more p q x xs ∙ ap (λ n. cond (q x && p x) 1 0 + n) (count_filter p q xs) ∙ sym (sum_by-cons (λ y. cond (q y && p y) 1 0) x xs)
@@ -48,7 +49,7 @@ count_swap p q (x ∷ xs) =
     flips false true = refl
     flips false false = refl
 
-counts_none : {X : Type 0} (p : X → Bool) (xs : List X) → ((x : X) → Contains xs x → p x ≡ true → ⊥) → count_by p xs ≡ 0
+pub counts_none : {X : Type 0} (p : X → Bool) (xs : List X) → ((x : X) → Contains xs x → p x ≡ true → ⊥) → count_by p xs ≡ 0
 counts_none p [] h = refl
 counts_none p (x ∷ xs) h =
     let fails : p x ≡ false = false_from_ne_true (p x) (λ e. h x (0, omega arith, refl) e) in
@@ -154,11 +155,12 @@ module _ (s : Stored) (num : IsNumbered s) (linked : IsLinked s.design) (network
             let r : GraphArc = record { from = f; to = t; kind = (if is_comb a.0 then cell_kind else Register); edge = not (is_comb a.0) } in
             (r, into_in r (cell_there s num linked network net from to f t hf ht c e a.0 a.1) refl, refl)
 
-  module _ (arcs : List GraphArc) (merged : AreMerged (node_bound s) (node_arcs s network) arcs) where
-    sound_in : (t : ℕ) → t < node_bound s → (y : GraphArc) → Contains (filter (λ arc. arc.to == t) arcs) y → IsArc s y × (y.to ≡ t)
+  -- the arcs into each node are joined of those that are found
+  module _ (fan : ℕ → List GraphArc) (joined : (node : ℕ) → node < node_bound s → AreJoined (raw_into s network node) (fan node)) where
+    sound_in : (t : ℕ) → t < node_bound s → (y : GraphArc) → Contains (fan t) y → IsArc s y × (y.to ≡ t)
     sound_in t low y c =
-        let j = merged.each t low in
-        let at : y.to ≡ t = eqb-true y.to t (passes_in (λ (arc : GraphArc). arc.to == t) arcs y c) in
+        let j = joined t low in
+        let at : y.to ≡ t = j.to t (λ x d. eqb-true x.to t (passes_in (λ (arc : GraphArc). arc.to == t) (node_arcs s network) x d)) y c in
         let like = j.sound y c in
         let k = raw_back s num linked network net like.item (kept_in (λ (arc : GraphArc). arc.to == t) (node_arcs s network) like.item like.within) in
         let item_at : like.item.to ≡ t = eqb-true like.item.to t (passes_in (λ (arc : GraphArc). arc.to == t) (node_arcs s network) like.item like.within) in
@@ -176,56 +178,79 @@ module _ (s : Stored) (num : IsNumbered s) (linked : IsLinked s.design) (network
           at,
         )
 
-    all_in' : (t : ℕ) → t < node_bound s → (y : GraphArc) → IsArc s y → y.to ≡ t → Contains (filter (λ arc. arc.to == t) arcs) y
+    all_in' : (t : ℕ) → t < node_bound s → (y : GraphArc) → IsArc s y → y.to ≡ t → Contains (fan t) y
     all_in' t low y a at =
-        let j = merged.each t low in
+        let j = joined t low in
         let hf = has_node s num linked y.from a.from a.from_number in
         let to_at : node_at s t ≡ Some a.to = ap (node_at s) (sym at) ∙ a.to_number in
         let ht = has_node s num linked t a.to to_at in
         let r = found a.from a.to y.from t hf ht a.within in
-        let one = any_back (λ (z : GraphArc). nat_eq z.from r.0.from) (filter (λ arc. arc.to == t) arcs) (j.all r.0 r.1) in
+        let one = any_back (λ (z : GraphArc). nat_eq z.from r.0.from) (fan t) (j.all r.0 r.1) in
         let s_one = sound_in t low one.item one.within in
         let z = s_one.0 in
         let from_is : one.item.from ≡ y.from = eqb-true one.item.from r.0.from one.passes ∙ r.2 in
         let nf : z.from ≡ a.from = same_node_at s z.from a.from y.from (ap (node_at s) (sym from_is) ∙ z.from_number) a.from_number in
         let nt : z.to ≡ a.to = same_node_at s z.to a.to t (ap (node_at s) (sym s_one.1) ∙ z.to_number) to_at in
-        subst (λ (x : GraphArc). Contains (filter (λ arc. arc.to == t) arcs) x)
+        subst (λ (x : GraphArc). Contains (fan t) x)
         (same_parts one.item y from_is (s_one.1 ∙ sym at)
         (z.kind ∙ ap (λ n. kind_between s.design n z.to) nf ∙ ap (kind_between s.design a.from) nt ∙ sym a.kind)
         (z.edge ∙ ap (λ n. has_register_arc s.design n z.to) nf ∙ ap (has_register_arc s.design a.from) nt ∙ sym a.edge))
         one.within
 
     -- the arcs into a node
-    pub arcs_into : (t : ℕ) → t < node_bound s → AreArcs s to_of from_of t (filter (λ arc. arc.to == t) arcs)
+    pub arcs_into : (t : ℕ) → t < node_bound s → AreArcs s to_of from_of t (fan t)
     arcs_into t low = record {
       sound = λ y c. sound_in t low y c;
       all = λ y a at. all_in' t low y a at;
-      once = λ other. (merged.each t low).once other;
+      once = λ other. (joined t low).once other;
     }
 
     -- the arcs out of a node
-    to_below : (y : GraphArc) → Contains arcs y → y.to < node_bound s
-    to_below y c = (All-contains (λ (x : GraphArc). (x.from < node_bound s) × (x.to < node_bound s)) arcs y merged.nodes c).1
-
-    pub arcs_out_of : (f : ℕ) → f < node_bound s → AreArcs s from_of to_of f (filter (λ arc. arc.from == f) arcs)
-    arcs_out_of f low = record {
-      sound = λ y c.
-          let d = kept_in (λ (arc : GraphArc). arc.from == f) arcs y c in
-          let a = sound_in y.to (to_below y d) y (in_filter (λ (arc : GraphArc). arc.to == y.to) arcs y d (eq-eqb y.to y.to refl)) in
-          (a.0, eqb-true y.from f (passes_in (λ (arc : GraphArc). arc.from == f) arcs y c));
+    pub arcs_out_of : (outs : ℕ → List GraphArc) → AreTurned (node_bound s) fan outs → (f : ℕ) → f < node_bound s → AreArcs s from_of to_of f (outs f)
+    arcs_out_of outs outward f low = record {
+      sound = λ y c. let h = outward.sound f low y c in ((sound_in y.to h.1 y h.2).0, h.0);
       all = λ y a at.
           let below = node_below s a.to y.to (has_node s num linked y.to a.to a.to_number) in
-          in_filter (λ (arc : GraphArc). arc.from == f) arcs y (kept_in (λ (arc : GraphArc). arc.to == y.to) arcs y (all_in' y.to below y a refl)) (eq-eqb y.from f at);
-      once = λ other.
-          let swapped : count_by (λ (arc : GraphArc). nat_eq arc.to other) (filter (λ arc. arc.from == f) arcs) ≡ count_by (λ (arc : GraphArc). nat_eq arc.from f) (filter (λ arc. arc.to == other) arcs) =
-          count_filter (λ (arc : GraphArc). nat_eq arc.to other) (λ arc. arc.from == f) arcs
-          ∙ count_swap (λ (arc : GraphArc). nat_eq arc.to other) (λ arc. arc.from == f) arcs
-          ∙ sym (count_filter (λ (arc : GraphArc). nat_eq arc.from f) (λ arc. arc.to == other) arcs) in
-          elim (cases_lt other (node_bound s)) [
-            | inl below ↦ let few = (merged.each other below).once f in omega arith
-            | inr above ↦
-                let none = counts_none (λ (arc : GraphArc). nat_eq arc.to other) (filter (λ arc. arc.from == f) arcs)
-                (λ y c e. let at = eqb-true y.to other e in let b = to_below y (kept_in (λ (arc : GraphArc). arc.from == f) arcs y c) in omega arith) in
-                omega arith
-          ];
+          let h = outward.all y.to below y (all_in' y.to below y a refl) in
+          subst (λ (n : ℕ). Contains (outs n) y) at h.2;
+      once = λ other. outward.once f low other;
     }
+
+-- lists of merged arcs, at both ends
+pub outward_of : (n : ℕ) (raw arcs : List GraphArc) (ins outs : ℕ → List GraphArc) → AreMerged n raw arcs
+    → ((t : ℕ) → t < n → ins t ≡ filter (λ arc. arc.to == t) arcs) → ((f : ℕ) → f < n → outs f ≡ filter (λ arc. arc.from == f) arcs) → AreTurned n ins outs
+outward_of n raw arcs ins outs merged ins_is outs_is = record {
+  sound = λ f low y c.
+      let d = subst (λ (xs : List GraphArc). Contains xs y) (outs_is f low) c in
+      let e = kept_in (λ (arc : GraphArc). arc.from == f) arcs y d in
+      let below = both_low y e in (
+        eqb-true y.from f (passes_in (λ (arc : GraphArc). arc.from == f) arcs y d),
+        below.1,
+        subst (λ (xs : List GraphArc). Contains xs y) (sym (ins_is y.to below.1)) (in_filter (λ (arc : GraphArc). arc.to == y.to) arcs y e (eq-eqb y.to y.to refl)),
+      );
+  all = λ t low y c.
+      let d = subst (λ (xs : List GraphArc). Contains xs y) (ins_is t low) c in
+      let e = kept_in (λ (arc : GraphArc). arc.to == t) arcs y d in
+      let below = both_low y e in (
+        eqb-true y.to t (passes_in (λ (arc : GraphArc). arc.to == t) arcs y d),
+        below.0,
+        subst (λ (xs : List GraphArc). Contains xs y) (sym (outs_is y.from below.0)) (in_filter (λ (arc : GraphArc). arc.from == y.from) arcs y e (eq-eqb y.from y.from refl)),
+      );
+  once = λ f low other.
+      let swapped : count_by (λ (arc : GraphArc). nat_eq arc.to other) (filter (λ arc. arc.from == f) arcs) ≡ count_by (λ (arc : GraphArc). nat_eq arc.from f) (filter (λ arc. arc.to == other) arcs) =
+      count_filter (λ (arc : GraphArc). nat_eq arc.to other) (λ arc. arc.from == f) arcs
+      ∙ count_swap (λ (arc : GraphArc). nat_eq arc.to other) (λ arc. arc.from == f) arcs
+      ∙ sym (count_filter (λ (arc : GraphArc). nat_eq arc.from f) (λ arc. arc.to == other) arcs) in
+      let here : count_by (λ (arc : GraphArc). nat_eq arc.to other) (outs f) ≡ count_by (λ (arc : GraphArc). nat_eq arc.to other) (filter (λ arc. arc.from == f) arcs) =
+      ap (count_by (λ (arc : GraphArc). nat_eq arc.to other)) (outs_is f low) in
+      elim (cases_lt other n) [
+        | inl below ↦ let few = (merged.each other below).once f in omega arith
+        | inr above ↦
+            let none = counts_none (λ (arc : GraphArc). nat_eq arc.to other) (filter (λ arc. arc.from == f) arcs)
+            (λ y c e. let at = eqb-true y.to other e in let b = (both_low y (kept_in (λ (arc : GraphArc). arc.from == f) arcs y c)).1 in omega arith) in
+            omega arith
+      ];
+}
+  where
+    both_low : (y : GraphArc) → Contains arcs y → (y.from < n) × (y.to < n)
+    both_low y c = All-contains (λ (x : GraphArc). (x.from < n) × (x.to < n)) arcs y merged.nodes c

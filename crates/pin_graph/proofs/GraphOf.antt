@@ -1,31 +1,25 @@
 -- What is found of a design's nodes makes its graph.
 
-use Rattle.std.proofs.Common.{◌≡◌, ℕ, ◌+◌, ◌<◌, ◌==◌, Bool, List, map, filter, length, get_or, Option, None, Some, sym, ap, subst, ◌∙◌}
+use Rattle.std.proofs.Common.{◌≡◌, ℕ, ◌<◌, Bool, List, map, length, get_or, Option, Some, sym, ap, subst, ◌∙◌}
 use Rattle.std.specs.Prelude.{All}
 use Rattle.std.proofs.lemmas.List.Elements.{Contains-get_or}
-use Rattle.timing_defs.specs.Checks.{net_fault}
 use Rattle.netlist_store.specs.Linked.{IsLinked}
 use Rattle.netlist_store.specs.Numbering.{Stored, number_of, IsNumbered}
-use Rattle.levelizer.specs.Levels.{greatest, AreLevels}
+use Rattle.levelizer.specs.Levels.{AreLevels}
 use Rattle.pin_graph.specs.declared.arcs.GraphArc.{GraphArc}
 use Rattle.pin_graph.specs.declared.fans.End.TheVariants.{From, To}
-use Rattle.pin_graph.specs.declared.graphs.NodeGraph.{NodeGraph}
+use Rattle.pin_graph.specs.declared.tables.NodeGraph.{NodeGraph}
 use Rattle.pin_graph.specs.declared.pin_arcs.PinArc.{PinArc}
 use Rattle.pin_graph.specs.Fans.{IsFanOf}
-use Rattle.pin_graph.specs.Graphs.{fan_at, from_of, to_of, AreArcs, AreNodeLevels}
 use Rattle.pin_graph.specs.Joins.{before, pin_arcs}
 use Rattle.pin_graph.specs.Networks.{clock_ports, IsNetwork}
 use Rattle.pin_graph.specs.NodeArcs.{node_arcs, node_link, AreNodes, AreMerged}
-use Rattle.pin_graph.specs.NodeGraphs.{graphed, IsFound, IsNodeGraph}
+use Rattle.pin_graph.specs.NodeGraphs.{IsFound}
 use Rattle.pin_graph.specs.Nodes.{node_bound}
-use Rattle.pin_graph.specs.Placing.{ArePlaced}
+use Rattle.pin_graph.specs.Placing.{ArePlaced, AreInOrder}
 use Rattle.pin_graph.proofs.PinLaws.{told_at, below_bound}
-use Rattle.pin_graph.proofs.FanLaws.{room_holds, is_fan}
 use Rattle.pin_graph.proofs.JoinLaws.{net_arc_back, placed_back}
 use Rattle.pin_graph.proofs.NodeLaws.{raw_within}
-use Rattle.pin_graph.proofs.GraphLaws.{arcs_into, arcs_out_of}
-use Rattle.pin_graph.proofs.GraphPlaces.{places_are}
-use Rattle.pin_graph.proofs.LevelLaws.{before_node}
 
 module _ (s : Stored) (num : IsNumbered s) (linked : IsLinked s.design) where
   pub before_low : (pin from : ℕ) → before s pin ≡ Some from → from < length s.pins
@@ -54,39 +48,12 @@ module _ (s : Stored) (num : IsNumbered s) (linked : IsLinked s.design) where
       pub nodes_of : (n : ℕ) → n ≡ node_bound s → AreNodes n arcs
       nodes_of n long = subst (λ (m : ℕ). AreNodes m arcs) (sym long) merged.nodes
 
-      levels_are : (nodes : NodeGraph) → ((t : ℕ) → t < node_bound s → fan_at nodes.ins t ≡ filter (λ arc. arc.to == t) arcs)
-          → AreLevels (node_bound s) (map node_link arcs) nodes.levels → AreNodeLevels (graphed s network nodes)
-      levels_are nodes ins_is are = record {
-        count = are.count;
-        level = λ node low.
-            are.level node low
-            ∙ ap greatest (before_node arcs (λ from. get_or nodes.levels from 0 + 1) node
-            ∙ ap (map (λ (arc : GraphArc). get_or nodes.levels arc.from 0 + 1)) (sym (ins_is node low)));
-      }
-
-      pub node_graph_is : (fault : net_fault s.design ≡ None) (nodes : NodeGraph) → IsFound s network arcs nodes → IsNodeGraph s network nodes
-      node_graph_is fault nodes found =
-          let ins = found.ins in
-          let outs = found.outs in
-          let are = found.leveled in
-          let placed = found.placed in
-          let ins_is : (t : ℕ) → t < node_bound s → fan_at nodes.ins t ≡ filter (λ arc. arc.to == t) arcs = λ t low. room_holds To (node_bound s) arcs nodes.ins ins t low in
-          let outs_is : (t : ℕ) → t < node_bound s → fan_at nodes.outs t ≡ filter (λ arc. arc.from == t) arcs = λ t low. room_holds From (node_bound s) arcs nodes.outs outs t low in
-          record {
-            in_fan = is_fan To (node_bound s) arcs nodes.ins ins;
-            out_fan = is_fan From (node_bound s) arcs nodes.outs outs;
-            ins = λ t low. subst (λ (xs : List GraphArc). AreArcs s to_of from_of t xs) (sym (ins_is t low)) (arcs_into s num linked network net arcs merged t low);
-            outs = λ t low. subst (λ (xs : List GraphArc). AreArcs s from_of to_of t xs) (sym (outs_is t low)) (arcs_out_of s num linked network net arcs merged t low);
-            levels = levels_are nodes ins_is are;
-            places = places_are s num linked fault network net arcs merged.nodes nodes ins_is are placed;
-          }
-
       -- as the calls have it
       pub found_as : (nodes : NodeGraph) (n : ℕ) (network2 : List Bool) (ports ports2 levels2 : List ℕ) → n ≡ node_bound s
           → network2 ≡ network → ports ≡ clock_ports s → ports2 ≡ ports → levels2 ≡ nodes.levels
           → IsFanOf n To arcs nodes.ins → IsFanOf n From arcs nodes.outs → AreLevels n (map node_link arcs) nodes.levels → ArePlaced n network2 ports2 arcs levels2 nodes.places
-          → IsFound s network arcs nodes
-      found_as nodes n network2 ports ports2 levels2 long a b c e ins outs are placed = record {
+          → AreInOrder nodes.places nodes.order → IsFound s network arcs nodes
+      found_as nodes n network2 ports ports2 levels2 long a b c e ins outs are placed ordered = record {
         ins = subst (λ (m : ℕ). IsFanOf m To arcs nodes.ins) long ins;
         outs = subst (λ (m : ℕ). IsFanOf m From arcs nodes.outs) long outs;
         leveled = subst (λ (m : ℕ). AreLevels m (map node_link arcs) nodes.levels) long are;
@@ -95,6 +62,7 @@ module _ (s : Stored) (num : IsNumbered s) (linked : IsLinked s.design) where
             (subst (λ (ps : List ℕ). ArePlaced (node_bound s) network ps arcs levels2 nodes.places) (c ∙ b)
             (subst (λ (ns : List Bool). ArePlaced (node_bound s) ns ports2 arcs levels2 nodes.places) a
             (subst (λ (m : ℕ). ArePlaced m network2 ports2 arcs levels2 nodes.places) long placed)));
+        ordered = ordered;
       }
 
 pub number_low : (names : List (Option (List ℕ))) (name : List ℕ) (n : ℕ) → Some n ≡ number_of names name → n < length names

@@ -20,45 +20,23 @@ use Rattle.levelizer.specs.declared.links.Link.{Link}
 use Rattle.levelizer.specs.Levels.{AreLevels}
 use Rattle.levelizer.specs.Reaching.{has_mark, is_led_to}
 use Rattle.pin_graph.specs.declared.arcs.GraphArc.{GraphArc}
-use Rattle.pin_graph.specs.declared.graphs.NodeGraph.{NodeGraph}
 use Rattle.pin_graph.specs.Networks.{clock_ports, IsNetwork}
 use Rattle.pin_graph.specs.Nodes.{node_number, pin_under, tran_under, node_at, node_bound}
 use Rattle.pin_graph.specs.NodeArcs.{marked, node_link, AreNodes}
-use Rattle.pin_graph.specs.NodeGraphs.{graphed}
+use Rattle.pin_graph.specs.Kept.{AreNumberPlaces}
 use Rattle.pin_graph.specs.Placing.{network_link, port_nodes, ArePlaced}
-use Rattle.pin_graph.specs.Graphs.{fan_at, network_at, of_node, ArePlaces}
+use Rattle.pin_graph.specs.Graphs.{Graphed, fan_at, of_node, ArePlaces}
 use Rattle.pin_graph.proofs.Members.{none_in, in_cases, in_map, in_filter_map, in_filter_map_back, in_flat_map, in_flat_map_back, in_filter, passes_in, kept_in, any_in, any_back}
-use Rattle.pin_graph.proofs.PinLaws.{HasNumber, pin_of_number}
-use Rattle.pin_graph.proofs.NetworkLaws.{ports_begin, ports_within}
+use Rattle.pin_graph.proofs.NetworkLaws.{ports_begin}
 use Rattle.pin_graph.proofs.WalkLaws.{both_same, levels_rise}
-use Rattle.pin_graph.proofs.NodeLaws.{has_node, node_told, under_number}
+use Rattle.pin_graph.proofs.NodeLaws.{has_node, under_number, number_again}
 use Rattle.pin_graph.proofs.PlaceLaws.{marks_placed, places_apart, place_low, places_rise}
 
-module _ (s : Stored) (num : IsNumbered s) (linked : IsLinked s.design) (fault : net_fault s.design ≡ None) (network : List Bool) (net : IsNetwork s network)
-    (arcs : List GraphArc) (within : AreNodes (node_bound s) arcs) (nodes : NodeGraph)
-    (ins_is : (t : ℕ) → t < node_bound s → fan_at nodes.ins t ≡ filter (λ arc. arc.to == t) arcs)
-    (are : AreLevels (node_bound s) (map node_link arcs) nodes.levels)
-    (placed : ArePlaced (node_bound s) network (clock_ports s) arcs nodes.levels nodes.places) where
-  pin_low : (node : ℕ) → node < node_bound s → pin_under node < length s.pins
-  pin_low node low = omega arith
-
-  -- network nodes by numbers
-  net_of_node : (node : ℕ) → node < node_bound s → of_node s (λ n. is_network s.design n.pin) node ≡ marked network (pin_under node)
-  net_of_node node low = by (pin_numbered s (pin_under node)) ∙ sym (net.each (pin_under node) (pin_low node low))
-    where
-      by : (o : Option Pin)
-          → option_map_or (λ (n : Node). is_network s.design n.pin) (option_map (λ pin. record { pin = pin; tran = tran_under node }) o) false ≡ option_map_or (is_network s.design) o false
-      by None = refl
-      by (Some p) = refl
-
-  -- the pin of a marked number
-  marked_pin : (q : ℕ) → q < length s.pins → marked network q ≡ true → (p : Pin) × HasNumber s p q
-  marked_pin q low e = by (pin_numbered s q) refl (sym (net.each q low) ∙ e)
-    where
-      by : (o : Option Pin) → pin_numbered s q ≡ o → option_map_or (is_network s.design) o false ≡ true → (p : Pin) × HasNumber s p q
-      by None f h = absurd (false≢true h)
-      by (Some p) f h = (p, pin_of_number s num linked q p f)
-
+-- the places of arcs' nodes, found in the order of levels, by numbers alone
+module _ (n : ℕ) (network : List Bool) (ports : List ℕ) (arcs : List GraphArc) (within : AreNodes n arcs)
+    (fan : ℕ → List GraphArc) (levels : List ℕ) (places : List (Option ℕ)) (fan_is : (t : ℕ) → t < n → fan t ≡ filter (λ arc. arc.to == t) arcs)
+    (are : AreLevels n (map node_link arcs) levels)
+    (placed : ArePlaced n network ports arcs levels places) where
   number_in_ports : (q : ℕ) (t : Tran) → marked network q ≡ true → Contains (port_nodes network q) (node_number q t)
   number_in_ports q t e =
       subst (λ (xs : List ℕ). Contains xs (node_number q t)) (sym (ap (λ b. if b then node_number q Rise ∷ node_number q Fall ∷ [] else []) e)) (by t)
@@ -77,48 +55,33 @@ module _ (s : Stored) (num : IsNumbered s) (linked : IsLinked s.design) (fault :
       ]
       by false e d = absurd (none_in k d)
 
-  first_back : (node : ℕ) → list_any (nat_eq node) (flat_map (port_nodes network) (clock_ports s)) ≡ true
-      → (of_node s (λ n. is_network s.design n.pin) node ≡ true) × (of_node s (λ n. is_clock_port s.design n.pin) node ≡ true)
+  first_back : (node : ℕ) → list_any (nat_eq node) (flat_map (port_nodes network) ports) ≡ true
+      → (marked network (pin_under node) ≡ true) × (list_any (nat_eq (pin_under node)) ports ≡ true)
   first_back node e =
-      let r = any_back (nat_eq node) (flat_map (port_nodes network) (clock_ports s)) e in
-      let k = in_flat_map_back (port_nodes network) (clock_ports s) r.item r.within in
+      let r = any_back (nat_eq node) (flat_map (port_nodes network) ports) e in
+      let k = in_flat_map_back (port_nodes network) ports r.item r.within in
       let p = ports_back k.item r.item k.inside in
-      let low = All-contains (λ (q : ℕ). q < length s.pins) (clock_ports s) k.item (ports_within s num linked fault) k.within in
-      let m = marked_pin k.item low p.0 in
       let is : node ≡ node_number k.item p.1 = eqb-true node r.item r.passes ∙ sym p.2 in
-      let told = node_told s (record { pin = m.0; tran = p.1 }) node (record { pin = k.item; has = m.1; number = is }) in
-      let port : is_clock_port s.design m.0 ≡ true =
-      sym (ports_begin s num linked fault m.0 k.item m.1) ∙ any_in (nat_eq k.item) (clock_ports s) k.item k.within (eq-eqb k.item k.item refl) in
-      let inside : is_network s.design m.0 ≡ true = sym (net.each k.item low ∙ ap (λ o. option_map_or (is_network s.design) o false) m.1.pin) ∙ p.0 in (
-        ap (λ o. option_map_or (λ (n : Node). is_network s.design n.pin) o false) told ∙ inside,
-        ap (λ o. option_map_or (λ (n : Node). is_clock_port s.design n.pin) o false) told ∙ port,
-      )
+      let under : pin_under node ≡ k.item = ap pin_under is ∙ under_number k.item p.1 in
+      (ap (marked network) under ∙ p.0, any_in (nat_eq (pin_under node)) ports k.item k.within (eq-eqb (pin_under node) k.item under))
 
-  first_in_ports : (node : ℕ) → node < node_bound s → of_node s (λ n. is_network s.design n.pin) node ≡ true → of_node s (λ n. is_clock_port s.design n.pin) node ≡ true
-      → list_any (nat_eq node) (flat_map (port_nodes network) (clock_ports s)) ≡ true
-  first_in_ports node low e f = by (node_at s node) refl f
-    where
-      by : (o : Option Node) → node_at s node ≡ o → option_map_or (λ (n : Node). is_clock_port s.design n.pin) o false ≡ true
-          → list_any (nat_eq node) (flat_map (port_nodes network) (clock_ports s)) ≡ true
-      by None h g = absurd (false≢true g)
-      by (Some nd) h g =
-          let k = has_node s num linked node nd h in
-          let r = any_back (nat_eq k.pin) (clock_ports s) (ports_begin s num linked fault nd.pin k.pin k.has ∙ g) in
-          let under : pin_under node ≡ k.pin = ap pin_under k.number ∙ under_number k.pin nd.tran in
-          let m : marked network k.pin ≡ true = ap (marked network) (sym under) ∙ sym (net_of_node node low) ∙ e in
-          let port : Contains (clock_ports s) k.pin = subst (λ (q : ℕ). Contains (clock_ports s) q) (sym (eqb-true k.pin r.item r.passes)) r.within in
-          any_in (nat_eq node) (flat_map (port_nodes network) (clock_ports s)) (node_number k.pin nd.tran)
-          (in_flat_map (port_nodes network) (clock_ports s) k.pin (node_number k.pin nd.tran) port (number_in_ports k.pin nd.tran m))
-          (eq-eqb node (node_number k.pin nd.tran) k.number)
+  first_in_ports : (node : ℕ) → marked network (pin_under node) ≡ true → list_any (nat_eq (pin_under node)) ports ≡ true
+      → list_any (nat_eq node) (flat_map (port_nodes network) ports) ≡ true
+  first_in_ports node e f =
+      let r = any_back (nat_eq (pin_under node)) ports f in
+      let port : Contains ports (pin_under node) = subst (λ (q : ℕ). Contains ports q) (sym (eqb-true (pin_under node) r.item r.passes)) r.within in
+      any_in (nat_eq node) (flat_map (port_nodes network) ports) (node_number (pin_under node) (tran_under node))
+      (in_flat_map (port_nodes network) ports (pin_under node) (node_number (pin_under node) (tran_under node)) port (number_in_ports (pin_under node) (tran_under node) e))
+      (eq-eqb node (node_number (pin_under node) (tran_under node)) (sym (number_again node)))
 
-  mark_is : (node : ℕ) → node < node_bound s → is_some (get_or nodes.places node None) ≡ has_mark placed.marks node
-  mark_is node low = marks_placed (node_bound s) placed.marks nodes.levels placed.nodes placed.ordered nodes.places placed.placed node low
+  mark_is : (node : ℕ) → node < n → is_some (get_or places node None) ≡ has_mark placed.marks node
+  mark_is node low = marks_placed n placed.marks levels placed.nodes placed.ordered places placed.placed node low
 
-  arc_low : (a : GraphArc) → Contains arcs a → (a.from < node_bound s) × (a.to < node_bound s)
-  arc_low a c = All-contains (λ (arc : GraphArc). (arc.from < node_bound s) × (arc.to < node_bound s)) arcs a within c
+  arc_low : (a : GraphArc) → Contains arcs a → (a.from < n) × (a.to < n)
+  arc_low a c = All-contains (λ (arc : GraphArc). (arc.from < n) × (arc.to < n)) arcs a within c
 
-  led_back : (node : ℕ) → node < node_bound s → is_led_to (filter_map (network_link network) arcs) placed.marks node ≡ true
-      → (marked network (pin_under node) ≡ true) × (list_any (λ (arc : GraphArc). is_some (get_or nodes.places arc.from None)) (fan_at nodes.ins node) ≡ true)
+  led_back : (node : ℕ) → node < n → is_led_to (filter_map (network_link network) arcs) placed.marks node ≡ true
+      → (marked network (pin_under node) ≡ true) × (list_any (λ (arc : GraphArc). is_some (get_or places arc.from None)) (fan node) ≡ true)
   led_back node low e =
       let r = any_back (λ (l : Link). nat_eq l.to node && has_mark placed.marks l.from) (filter_map (network_link network) arcs) e in
       let p = and_parts (nat_eq r.item.to node) (has_mark placed.marks r.item.from) r.passes in
@@ -126,83 +89,119 @@ module _ (s : Stored) (num : IsNumbered s) (linked : IsLinked s.design) (fault :
       let h = cond_some (marked network (pin_under m.item.to)) (node_link m.item) r.item m.same in
       let to : m.item.to ≡ node = ap (λ (l : Link). l.to) h.1 ∙ eqb-true r.item.to node p.0 in
       let from : m.item.from ≡ r.item.from = ap (λ (l : Link). l.from) h.1 in (
-        ap (λ n. marked network (pin_under n)) (sym to) ∙ h.0,
-        any_in (λ (arc : GraphArc). is_some (get_or nodes.places arc.from None)) (fan_at nodes.ins node) m.item
-            (subst (λ (xs : List GraphArc). Contains xs m.item) (sym (ins_is node low)) (in_filter (λ (arc : GraphArc). arc.to == node) arcs m.item m.within (eq-eqb m.item.to node to)))
+        ap (λ k. marked network (pin_under k)) (sym to) ∙ h.0,
+        any_in (λ (arc : GraphArc). is_some (get_or places arc.from None)) (fan node) m.item
+            (subst (λ (xs : List GraphArc). Contains xs m.item) (sym (fan_is node low)) (in_filter (λ (arc : GraphArc). arc.to == node) arcs m.item m.within (eq-eqb m.item.to node to)))
             (mark_is m.item.from (arc_low m.item m.within).0 ∙ ap (has_mark placed.marks) from ∙ p.1),
       )
 
-  led_in : (node : ℕ) → node < node_bound s → marked network (pin_under node) ≡ true
-      → list_any (λ (arc : GraphArc). is_some (get_or nodes.places arc.from None)) (fan_at nodes.ins node) ≡ true → is_led_to (filter_map (network_link network) arcs) placed.marks node ≡ true
+  led_in : (node : ℕ) → node < n → marked network (pin_under node) ≡ true
+      → list_any (λ (arc : GraphArc). is_some (get_or places arc.from None)) (fan node) ≡ true → is_led_to (filter_map (network_link network) arcs) placed.marks node ≡ true
   led_in node low e f =
-      let r = any_back (λ (arc : GraphArc). is_some (get_or nodes.places arc.from None)) (fan_at nodes.ins node) f in
-      let c = subst (λ (xs : List GraphArc). Contains xs r.item) (ins_is node low) r.within in
+      let r = any_back (λ (arc : GraphArc). is_some (get_or places arc.from None)) (fan node) f in
+      let c = subst (λ (xs : List GraphArc). Contains xs r.item) (fan_is node low) r.within in
       let a = kept_in (λ (arc : GraphArc). arc.to == node) arcs r.item c in
       let to : r.item.to ≡ node = eqb-true r.item.to node (passes_in (λ (arc : GraphArc). arc.to == node) arcs r.item c) in
       any_in (λ (l : Link). nat_eq l.to node && has_mark placed.marks l.from) (filter_map (network_link network) arcs) (node_link r.item)
       (in_filter_map (network_link network) arcs r.item (node_link r.item) a
-      (ap (λ b. if b then Some (node_link r.item) else None) (ap (λ n. marked network (pin_under n)) to ∙ e)))
+      (ap (λ b. if b then Some (node_link r.item) else None) (ap (λ k. marked network (pin_under k)) to ∙ e)))
       (and_from (nat_eq r.item.to node) (has_mark placed.marks r.item.from) (eq-eqb r.item.to node to) (sym (mark_is r.item.from (arc_low r.item a).0) ∙ r.passes))
 
-  there : (node : ℕ) → node < node_bound s → is_some (get_or nodes.places node None)
-      ≡ (of_node s (λ n. is_network s.design n.pin) node
-      && (of_node s (λ n. is_clock_port s.design n.pin) node || list_any (λ arc. is_some (get_or nodes.places arc.from None)) (fan_at nodes.ins node)))
+  abbrev led : ℕ → Bool
+  led node = list_any (λ (arc : GraphArc). is_some (get_or places arc.from None)) (fan node)
+
+  abbrev is_port : ℕ → Bool
+  is_port node = list_any (nat_eq (pin_under node)) ports
+
+  there : (node : ℕ) → node < n → is_some (get_or places node None) ≡ (marked network (pin_under node) && (is_port node || led node))
   there node low =
-      both_same (is_some (get_or nodes.places node None))
-      (of_node s (λ n. is_network s.design n.pin) node
-      && (of_node s (λ n. is_clock_port s.design n.pin) node || list_any (λ arc. is_some (get_or nodes.places arc.from None)) (fan_at nodes.ins node)))
-      (λ e. elim (or_cases (list_any (nat_eq node) (flat_map (port_nodes network) (clock_ports s))) (is_led_to (filter_map (network_link network) arcs) placed.marks node)
+      both_same (is_some (get_or places node None)) (marked network (pin_under node) && (is_port node || led node))
+      (λ e. elim (or_cases (list_any (nat_eq node) (flat_map (port_nodes network) ports)) (is_led_to (filter_map (network_link network) arcs) placed.marks node)
       (sym (placed.clocked.each node low) ∙ sym (mark_is node low) ∙ e)) [
         | inl f ↦
             let b = first_back node f in
-            and_from (of_node s (λ n. is_network s.design n.pin) node) (of_node s (λ n. is_clock_port s.design n.pin) node || list_any (λ arc. is_some (get_or nodes.places arc.from None)) (fan_at nodes.ins node))
-            b.0 (or_left (of_node s (λ n. is_clock_port s.design n.pin) node) (list_any (λ arc. is_some (get_or nodes.places arc.from None)) (fan_at nodes.ins node)) b.1)
+            and_from (marked network (pin_under node)) (is_port node || led node) b.0 (or_left (is_port node) (led node) b.1)
         | inr f ↦
             let b = led_back node low f in
-            and_from (of_node s (λ n. is_network s.design n.pin) node) (of_node s (λ n. is_clock_port s.design n.pin) node || list_any (λ arc. is_some (get_or nodes.places arc.from None)) (fan_at nodes.ins node))
-            (net_of_node node low ∙ b.0) (or_right (of_node s (λ n. is_clock_port s.design n.pin) node) (list_any (λ arc. is_some (get_or nodes.places arc.from None)) (fan_at nodes.ins node)) b.1)
+            and_from (marked network (pin_under node)) (is_port node || led node) b.0 (or_right (is_port node) (led node) b.1)
       ])
       (λ e.
-      let p = and_parts (of_node s (λ n. is_network s.design n.pin) node)
-      (of_node s (λ n. is_clock_port s.design n.pin) node || list_any (λ arc. is_some (get_or nodes.places arc.from None)) (fan_at nodes.ins node)) e in
+      let p = and_parts (marked network (pin_under node)) (is_port node || led node) e in
       mark_is node low ∙ placed.clocked.each node low
-      ∙ elim (or_cases (of_node s (λ n. is_clock_port s.design n.pin) node) (list_any (λ arc. is_some (get_or nodes.places arc.from None)) (fan_at nodes.ins node)) p.1) [
-        | inl f ↦ or_left (list_any (nat_eq node) (flat_map (port_nodes network) (clock_ports s))) (is_led_to (filter_map (network_link network) arcs) placed.marks node) (first_in_ports node low p.0 f)
-        | inr f ↦
-            or_right (list_any (nat_eq node) (flat_map (port_nodes network) (clock_ports s))) (is_led_to (filter_map (network_link network) arcs) placed.marks node)
-            (led_in node low (sym (net_of_node node low) ∙ p.0) f)
+      ∙ elim (or_cases (is_port node) (led node) p.1) [
+        | inl f ↦ or_left (list_any (nat_eq node) (flat_map (port_nodes network) ports)) (is_led_to (filter_map (network_link network) arcs) placed.marks node) (first_in_ports node p.0 f)
+        | inr f ↦ or_right (list_any (nat_eq node) (flat_map (port_nodes network) ports)) (is_led_to (filter_map (network_link network) arcs) placed.marks node) (led_in node low p.0 f)
       ])
 
   -- placed nodes are of the network
   marks_network : (node : ℕ) → has_mark placed.marks node ≡ true → marked network (pin_under node) ≡ true
-  marks_network node e = elim (cases_lt node (node_bound s)) [
-    | inl low ↦
-        let p = and_parts (of_node s (λ n. is_network s.design n.pin) node)
-        (of_node s (λ n. is_clock_port s.design n.pin) node || list_any (λ arc. is_some (get_or nodes.places arc.from None)) (fan_at nodes.ins node))
-        (sym (there node low) ∙ mark_is node low ∙ e) in
-        sym (net_of_node node low) ∙ p.0
+  marks_network node e = elim (cases_lt node n) [
+    | inl low ↦ (and_parts (marked network (pin_under node)) (is_port node || led node) (sym (there node low) ∙ mark_is node low ∙ e)).0
     | inr high ↦ absurd (false≢true (sym (get_or_past placed.marks node false (omega (arith, placed.clocked.count))) ∙ e))
   ]
 
-  fewer : count_by (has_mark placed.marks) (range_with_len 0 (node_bound s)) ≤ count_by (network_at (graphed s network nodes)) (range_with_len 0 (node_bound s))
+  fewer : count_by (has_mark placed.marks) (range_with_len 0 n) ≤ count_by (λ m. marked network (pin_under m)) (range_with_len 0 n)
   fewer =
-      sum_by-le-sum_by (λ (m : ℕ). cond {A = ℕ} (has_mark placed.marks m) 1 0) (λ m. cond {A = ℕ} (marked network (pin_under m)) 1 0) (range_with_len 0 (node_bound s))
+      sum_by-le-sum_by (λ (m : ℕ). cond {A = ℕ} (has_mark placed.marks m) 1 0) (λ m. cond {A = ℕ} (marked network (pin_under m)) 1 0) (range_with_len 0 n)
       (λ m. elim (cases_Bool (has_mark placed.marks m)) [
         | inl e ↦ rw (e, marks_network m e) (omega arith)
         | inr e ↦ rw e (omega arith)
       ])
 
-  pub places_are : ArePlaces (graphed s network nodes)
-  places_are = record {
+  pub places_found : AreNumberPlaces n network ports fan places
+  places_found = record {
     count = placed.placed.count;
     there = there;
-    distinct = λ a b p e f. places_apart (node_bound s) placed.marks nodes.levels placed.nodes placed.ordered nodes.places placed.placed a b p e f;
-    below = λ node p e. let low = place_low (node_bound s) placed.marks nodes.levels placed.nodes placed.ordered nodes.places placed.placed node p e in let more = fewer in omega arith;
+    distinct = λ a b p e f. places_apart n placed.marks levels placed.nodes placed.ordered places placed.placed a b p e f;
+    below = λ node p e. let low = place_low n placed.marks levels placed.nodes placed.ordered places placed.placed node p e in let more = fewer in omega arith;
     rising = λ node p q arc low c e f.
-        let d = subst (λ (xs : List GraphArc). Contains xs arc) (ins_is node low) c in
+        let d = subst (λ (xs : List GraphArc). Contains xs arc) (fan_is node low) c in
         let a = kept_in (λ (x : GraphArc). x.to == node) arcs arc d in
         let to : arc.to ≡ node = eqb-true arc.to node (passes_in (λ (x : GraphArc). x.to == node) arcs arc d) in
-        let up = levels_rise (node_bound s) (map node_link arcs) nodes.levels are (node_link arc) (in_map node_link arcs arc a) (arc_low arc a).1 in
-        places_rise (node_bound s) placed.marks nodes.levels placed.nodes placed.ordered nodes.places placed.placed arc.from node p q
-        (subst (λ (n : ℕ). get_or nodes.levels arc.from 0 < get_or nodes.levels n 0) to up) e f;
+        let up = levels_rise n (map node_link arcs) levels are (node_link arc) (in_map node_link arcs arc a) (arc_low arc a).1 in
+        places_rise n placed.marks levels placed.nodes placed.ordered places placed.placed arc.from node p q
+        (subst (λ (k : ℕ). get_or levels arc.from 0 < get_or levels k 0) to up) e f;
+  }
+
+-- they are those of the design's clock network
+module _ (s : Stored) (num : IsNumbered s) (linked : IsLinked s.design) (fault : net_fault s.design ≡ None) (network : List Bool) (net : IsNetwork s network) where
+  -- network nodes by numbers
+  net_of_node : (node : ℕ) → node < node_bound s → of_node s (λ n. is_network s.design n.pin) node ≡ marked network (pin_under node)
+  net_of_node node low = by (pin_numbered s (pin_under node)) ∙ sym (net.each (pin_under node) (let q : pin_under node < length s.pins = omega arith in q))
+    where
+      by : (o : Option Pin)
+          → option_map_or (λ (n : Node). is_network s.design n.pin) (option_map (λ pin. record { pin = pin; tran = tran_under node }) o) false ≡ option_map_or (is_network s.design) o false
+      by None = refl
+      by (Some p) = refl
+
+  port_of_node : (node : ℕ) → of_node s (λ n. is_network s.design n.pin) node ≡ true
+      → of_node s (λ n. is_clock_port s.design n.pin) node ≡ list_any (nat_eq (pin_under node)) (clock_ports s)
+  port_of_node node e = by (node_at s node) refl e
+    where
+      by : (o : Option Node) → node_at s node ≡ o → option_map_or (λ (n : Node). is_network s.design n.pin) o false ≡ true
+          → option_map_or (λ (n : Node). is_clock_port s.design n.pin) o false ≡ list_any (nat_eq (pin_under node)) (clock_ports s)
+      by None h f = absurd (false≢true f)
+      by (Some nd) h f =
+          let k = has_node s num linked node nd h in
+          let under : pin_under node ≡ k.pin = ap pin_under k.number ∙ under_number k.pin nd.tran in
+          sym (ports_begin s num linked fault nd.pin k.pin k.has) ∙ ap (λ q. list_any (nat_eq q) (clock_ports s)) (sym under)
+
+  same_tests : (a b c d l : Bool) → a ≡ b → (b ≡ true → d ≡ c) → (a && (c || l)) ≡ (b && (d || l))
+  same_tests a b c d l e h = ap (λ x. x && (c || l)) e ∙ by b h
+    where
+      by : (x : Bool) → (x ≡ true → d ≡ c) → (x && (c || l)) ≡ (x && (d || l))
+      by false g = refl
+      by true g = ap (λ y. y || l) (sym (g refl))
+
+  pub places_are : (g : Graphed) → AreNumberPlaces (node_bound s) network (clock_ports s) (fan_at g.ins) g.places → ArePlaces (record g { stored = s; network = network })
+  places_are g p = record {
+    count = p.count;
+    there = λ node low.
+        p.there node low
+        ∙ same_tests (marked network (pin_under node)) (of_node s (λ n. is_network s.design n.pin) node) (list_any (nat_eq (pin_under node)) (clock_ports s))
+        (of_node s (λ n. is_clock_port s.design n.pin) node) (list_any (λ arc. is_some (get_or g.places arc.from None)) (fan_at g.ins node))
+        (sym (net_of_node node low)) (port_of_node node);
+    distinct = p.distinct;
+    below = p.below;
+    rising = p.rising;
   }

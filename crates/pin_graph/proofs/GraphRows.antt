@@ -41,7 +41,7 @@ greatest_over (y ∷ ys) x (suc i, low, is) =
 max_is : (a b : ℕ) → (max a b ≡ a) ⊎ (max a b ≡ b)
 max_is a b = elim (cases_lt a b) [ inl low ↦ inr (max-eq_right (omega (arith, low))) | inr high ↦ inl (max-eq_left high) ]
 
-greatest_at : {X : Type 0} (f : X → ℕ) (xs : List X) (k : ℕ) → greatest (map f xs) ≡ suc k → (x : X) × (Contains xs x × (f x ≡ suc k))
+pub greatest_at : {X : Type 0} (f : X → ℕ) (xs : List X) (k : ℕ) → greatest (map f xs) ≡ suc k → (x : X) × (Contains xs x × (f x ≡ suc k))
 greatest_at f [] k e = absurd (omega (arith, e))
 greatest_at f (x ∷ xs) k e = elim (max_is (f x) (greatest (map f xs))) [
   | inl same ↦ (x, ((0, omega arith, refl), sym same ∙ e))

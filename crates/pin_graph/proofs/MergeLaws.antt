@@ -1,6 +1,6 @@
 -- One arc for all from the same node: an arc more is joined to the one that is there, or is added.
 
-use Rattle.std.proofs.Common.{◌≡◌, ◌⊎◌, ℕ, suc, ◌+◌, ◌<◌, ◌==◌, Bool, true, false, cond, List, [], ◌∷◌, ◌++◌, filter, length, get_or, set, take, None, Some, Result, Ok, Err, refl, sym, ap, subst, ◌∙◌, inl, inr, arith, lt-ltb}
+use Rattle.std.proofs.Common.{◌≡◌, ◌⊎◌, ℕ, zero, suc, ◌+◌, ◌<◌, ◌≤◌, ◌==◌, Bool, true, false, cond, List, [], ◌∷◌, ◌++◌, filter, length, get_or, set, take, None, Some, Result, Ok, Err, refl, sym, ap, subst, ◌∙◌, inl, inr, arith, lt-ltb}
 use Rattle.std.specs.Prelude.{nat_eq, nat_lt, ◌&&◌, ◌||◌, if◌then◌else◌, Contains, All, count_by, OnOk}
 use Rattle.std.specs.List.{list_any}
 use Rattle.std.proofs.lemmas.Bool.{cases_eq, and_parts, and_from, or_left, or_right, eqb-true, ltb-true, eq-eqb, ne_eqb, false_from_ne_true}
@@ -16,7 +16,7 @@ use Rattle.pin_graph.specs.declared.arcs.GraphArc.{GraphArc}
 use Rattle.pin_graph.specs.NodeArcs.{is_cell, has_comb_from, has_edge_from, joined_kind, joined_arc, none_arc, noted_place, IsAlike, AreJoined, AreMerged, AreNodes, AreNoted, IsJoinedTo}
 use Rattle.pin_graph.proofs.Members.{none_in, first_in, later_in, passes_in, kept_in, any_in, any_back}
 
-any_push : {X : Type 0} (p : X → Bool) (xs : List X) (x : X) → list_any p (xs ++ x ∷ []) ≡ (list_any p xs || p x)
+pub any_push : {X : Type 0} (p : X → Bool) (xs : List X) (x : X) → list_any p (xs ++ x ∷ []) ≡ (list_any p xs || p x)
 any_push p xs x = list_any-append p xs (x ∷ []) ∙ ap (λ b. list_any p xs || b) (or_false (p x))
   where
     or_false : (b : Bool) → (b || false) ≡ b
@@ -146,8 +146,9 @@ member_set arcs k v y low c =
       | inr other ↦ inr (c.0, omega arith, other, sym (get_or-set_other arcs k c.0 v y other) ∙ c.2)
     ]
 
-module _ (xs arcs : List GraphArc) (places : List ℕ) (arc one : GraphArc) (k : ℕ) (low : k < length arcs) (here : get_or arcs k none_arc ≡ one)
-    (from : one.from ≡ arc.from) (noted : AreNoted arcs places) (had : AreJoined xs arcs) where
+module _ (xs arcs : List GraphArc) (arc one : GraphArc) (k : ℕ) (low : k < length arcs) (here : get_or arcs k none_arc ≡ one)
+    (from : one.from ≡ arc.from) (alone : (j : ℕ) → j < length arcs → (j ≡ k → ⊥) → (get_or arcs j none_arc).from ≡ (get_or arcs k none_arc).from → ⊥)
+    (had : AreJoined xs arcs) where
   one_in : Contains arcs one
   one_in = (k, low, get_or_default arcs k one none_arc low ∙ here)
 
@@ -157,7 +158,7 @@ module _ (xs arcs : List GraphArc) (places : List ℕ) (arc one : GraphArc) (k :
       ne_eqb arc.from y.from (λ e.
       let froms : (get_or arcs j none_arc).from ≡ (get_or arcs k none_arc).from =
       ap (λ (a : GraphArc). a.from) there ∙ sym e ∙ sym from ∙ sym (ap (λ (a : GraphArc). a.from) here) in
-      other (sym (noted j within) ∙ ap (λ n. get_or places n 0) froms ∙ noted k low))
+      alone j within other froms)
 
   kind_or : (a b : GraphKind) → is_cell (joined_kind a b) ≡ (is_cell a || is_cell b)
   kind_or Net Net = refl
@@ -288,7 +289,7 @@ none_joined = record {
 }
 
 -- node after node
-filter_all : {X : Type 0} (p : X → Bool) (xs : List X) → ((x : X) → Contains xs x → p x ≡ true) → filter p xs ≡ xs
+pub filter_all : {X : Type 0} (p : X → Bool) (xs : List X) → ((x : X) → Contains xs x → p x ≡ true) → filter p xs ≡ xs
 filter_all p [] h = refl
 filter_all p (x ∷ xs) h = rw (h x (first_in x xs)) (ap (λ ys. x ∷ ys) (filter_all p xs (λ y c. h y (later_in x xs y c))))
 
@@ -354,13 +355,57 @@ joined_at arcs read places arc one made k same e noted here is xs had =
     let h = noted_some arcs places arc.from k (ap (λ (rs : List GraphArc). noted_place rs places arc.from) (sym same) ∙ sym e) in
     let at = here h.0 in
     subst (λ (v : GraphArc). AreJoined (xs ++ arc ∷ []) (set arcs k v)) (sym is)
-    (joined_in xs arcs places arc one k h.0 at (ap (λ (a : GraphArc). a.from) (sym at) ∙ h.1) noted had)
+    (joined_in xs arcs arc one k h.0 at (ap (λ (a : GraphArc). a.from) (sym at) ∙ h.1)
+    (λ j within other froms. other (sym (noted j within) ∙ ap (λ n. get_or places n 0) froms ∙ noted k h.0)) had)
 
 pub added_at : (arcs arcs2 read : List GraphArc) (places : List ℕ) (arc : GraphArc) → read ≡ arcs → None ≡ noted_place read places arc.from → AreNoted arcs places
     → arcs2 ≡ arcs ++ arc ∷ [] → (xs : List GraphArc) → AreJoined xs arcs → AreJoined (xs ++ arc ∷ []) arcs2
 added_at arcs arcs2 read places arc same e noted put xs had =
     subst (λ (rs : List GraphArc). AreJoined (xs ++ arc ∷ []) rs) (sym put)
     (added xs arcs arc (noted_none arcs places arc.from noted (ap (λ (rs : List GraphArc). noted_place rs places arc.from) (sym same) ∙ sym e)) had)
+
+-- of few arcs, by the first one from the node
+one_counted : {X : Type 0} (p : X → Bool) (xs : List X) (d : X) (k : ℕ) → k < length xs → p (get_or xs k d) ≡ true → 1 ≤ count_by p xs
+one_counted p [] d k low e = absurd (omega arith)
+one_counted p (x ∷ xs) d zero low e =
+    let one : cond {A = ℕ} (p x) 1 0 ≡ 1 = rw e refl in
+    omega (arith, sum_by-cons (λ y. cond (p y) 1 0) x xs)
+one_counted p (x ∷ xs) d (suc k) low e =
+    let more = one_counted p xs d k (omega arith) e in
+    omega (arith, sum_by-cons (λ y. cond (p y) 1 0) x xs)
+
+two_counted : {X : Type 0} (p : X → Bool) (xs : List X) (d : X) (j k : ℕ) → j < length xs → k < length xs → (j ≡ k → ⊥)
+    → p (get_or xs j d) ≡ true → p (get_or xs k d) ≡ true → 2 ≤ count_by p xs
+two_counted p [] d j k low low2 other e f = absurd (omega arith)
+two_counted p (x ∷ xs) d zero zero low low2 other e f = absurd (other refl)
+two_counted p (x ∷ xs) d zero (suc k) low low2 other e f =
+    let one : cond {A = ℕ} (p x) 1 0 ≡ 1 = rw e refl in
+    let more = one_counted p xs d k (omega arith) f in
+    omega (arith, sum_by-cons (λ y. cond (p y) 1 0) x xs)
+two_counted p (x ∷ xs) d (suc j) zero low low2 other e f =
+    let one : cond {A = ℕ} (p x) 1 0 ≡ 1 = rw f refl in
+    let more = one_counted p xs d j (omega arith) e in
+    omega (arith, sum_by-cons (λ y. cond (p y) 1 0) x xs)
+two_counted p (x ∷ xs) d (suc j) (suc k) low low2 other e f =
+    let more = two_counted p xs d j k (omega arith) (omega arith) (λ same. other (ap suc same)) e f in
+    omega (arith, sum_by-cons (λ y. cond (p y) 1 0) x xs)
+
+pub joined_place : (arcs : List GraphArc) (arc one made : GraphArc) (k : ℕ) → (k < length arcs) × ((get_or arcs k none_arc).from ≡ arc.from)
+    → get_or arcs k none_arc ≡ one → made ≡ joined_arc one arc → (xs : List GraphArc) → AreJoined xs arcs → AreJoined (xs ++ arc ∷ []) (set arcs k made)
+joined_place arcs arc one made k h at is xs had =
+    subst (λ (v : GraphArc). AreJoined (xs ++ arc ∷ []) (set arcs k v)) (sym is)
+    (joined_in xs arcs arc one k h.0 at (ap (λ (a : GraphArc). a.from) (sym at) ∙ h.1)
+    (λ j within other froms.
+    let few = had.once arc.from in
+    let two = two_counted (λ (a : GraphArc). nat_eq a.from arc.from) arcs none_arc j k within h.0 other
+    (eq-eqb (get_or arcs j none_arc).from arc.from (froms ∙ h.1)) (eq-eqb (get_or arcs k none_arc).from arc.from h.1) in
+    absurd (omega arith)) had)
+
+pub added_place : (arcs arcs2 : List GraphArc) (arc : GraphArc) → ((k : ℕ) → k < length arcs → (get_or arcs k none_arc).from ≡ arc.from → ⊥)
+    → arcs2 ≡ arcs ++ arc ∷ [] → (xs : List GraphArc) → AreJoined xs arcs → AreJoined (xs ++ arc ∷ []) arcs2
+added_place arcs arcs2 arc none put xs had =
+    subst (λ (rs : List GraphArc). AreJoined (xs ++ arc ∷ []) rs) (sym put)
+    (added xs arcs arc (λ one c e. none c.0 c.1 (ap (λ (a : GraphArc). a.from) (get_or_default arcs c.0 none_arc one c.1 ∙ c.2) ∙ e)) had)
 
 pub joined_more : (fan : List GraphArc) (i : ℕ) (d : GraphArc) (arcs arcs2 : List GraphArc) → i < length fan → AreJoined (take i fan) arcs
     → ((xs : List GraphArc) → AreJoined xs arcs → AreJoined (xs ++ get_or fan i d ∷ []) arcs2) → AreJoined (take (i + 1) fan) arcs2

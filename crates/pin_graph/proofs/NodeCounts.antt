@@ -1,7 +1,7 @@
 -- As many nodes pass a test as numbers of nodes do.
 
-use Rattle.std.proofs.Common.{◌≡◌, ◌≢◌, ℕ, zero, suc, ◌+◌, ◌*◌, ◌<◌, ◌≤◌, ◌==◌, Bool, true, false, cond, not, ◌&&◌, ◌||◌, List, [], ◌∷◌, map, length, get_or, zero-add, Option, None, Some, refl, sym, ap, subst, ◌∙◌, inl, inr, arith}
-use Rattle.std.specs.Prelude.{Contains, is_some, option_map}
+use Rattle.std.proofs.Common.{◌≡◌, ◌≢◌, ℕ, zero, suc, ◌+◌, ◌<◌, ◌==◌, Bool, true, false, cond, not, ◌&&◌, List, [], ◌∷◌, map, get_or, zero-add, Option, None, Some, refl, sym, ap, subst, ◌∙◌, inl, inr, arith}
+use Rattle.std.specs.Prelude.{Contains}
 use Rattle.std.specs.List.{count_by, list_any, flat_map, range_with_len}
 use Rattle.std.specs.Option.{option_map_or, unwrap_or}
 use Rattle.std.specs.Str.{bytes_eq}
@@ -12,11 +12,11 @@ use Rattle.timing_defs.specs.declared.kinds.Tran.{Tran}
 use Rattle.timing_defs.specs.declared.kinds.Tran.TheVariants.{Rise, Fall}
 use Rattle.timing_defs.specs.Netlist.{Pin, Node, name_of, pins, both_nodes, nodes, is_listed, are_distinct}
 use Rattle.netlist_store.specs.Linked.{IsLinked}
-use Rattle.netlist_store.specs.Numbering.{Stored, number_of, name_at, IsNumbered}
+use Rattle.netlist_store.specs.Numbering.{Stored, number_of, IsNumbered}
 use Rattle.level_cone.proofs.Counts.{count_cons, count_split, count_never, count_one, either_once}
-use Rattle.pin_graph.specs.Nodes.{node_at, node_number, node_bound, tran_place, pin_under}
+use Rattle.pin_graph.specs.Nodes.{node_at, node_number, node_bound, pin_under}
 use Rattle.pin_graph.specs.Graphs.{of_node}
-use Rattle.pin_graph.proofs.Members.{some_is, first_in, later_in, in_cases, none_in, in_flat_map, in_flat_map_back, in_map, any_in, any_back}
+use Rattle.pin_graph.proofs.Members.{some_is, first_in, later_in, in_cases, in_flat_map, in_flat_map_back, in_map, any_in, any_back}
 use Rattle.pin_graph.proofs.PinNames.{same_self, pins_apart}
 use Rattle.pin_graph.proofs.PinLaws.{HasNumber, pin_told}
 use Rattle.pin_graph.proofs.NodeLaws.{HasNode, node_told, node_below, has_node, under_number}

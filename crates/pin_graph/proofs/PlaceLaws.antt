@@ -1,7 +1,7 @@
 -- Places of the clock network's nodes.
 
-use Rattle.std.proofs.Common.{◌≡◌, ℕ, suc, ◌+◌, ◌*◌, ◌<◌, ◌≤◌, Bool, true, false, cond, List, [], ◌∷◌, length, get_or, set, Option, None, Some, Result, Ok, Err, refl, sym, ap, subst, ◌∙◌, inl, inr, arith}
-use Rattle.std.specs.Prelude.{if◌then◌else◌, is_some, Contains, All, count_by, IfOk}
+use Rattle.std.proofs.Common.{◌≡◌, ℕ, suc, ◌+◌, ◌*◌, ◌<◌, ◌≤◌, Bool, true, false, cond, List, [], ◌∷◌, length, get_or, set, Option, None, Some, refl, sym, ap, subst, ◌∙◌, inl, inr, arith}
+use Rattle.std.specs.Prelude.{if◌then◌else◌, is_some, Contains, All, count_by}
 use Rattle.std.specs.List.{cons_option, filter_map, flat_map, range_with_len}
 use Rattle.std.proofs.lemmas.Bool.{cases_Bool, cases_eq, cases_lt, false≢true}
 use Rattle.std.proofs.lemmas.Option.{cond_some}
@@ -187,11 +187,10 @@ ordered_within_as n marks levels nodes nodes2 are e = (
   subst (λ (ns : List AtLevel). length ns ≤ n) (sym e) (ordered_few n marks levels nodes are),
 )
 
-pub placed_ok : {E : Type 0} (r : Result (List (Option ℕ)) E) (n : ℕ) (network : List Bool) (ports : List ℕ) (arcs : List GraphArc) (levels : List ℕ) (marks marks2 : List Bool) (nodes nodes2 : List AtLevel)
+pub placed_as : (n : ℕ) (network : List Bool) (ports : List ℕ) (arcs : List GraphArc) (levels : List ℕ) (marks marks2 : List Bool) (nodes nodes2 : List AtLevel) (places : List (Option ℕ))
     → AreClocked n network ports arcs marks → marks2 ≡ marks → AreOrdered n marks2 levels nodes → nodes2 ≡ nodes
-    → IfOk r (AreInPlace n nodes2 (length nodes2)) → IfOk r (ArePlaced n network ports arcs levels)
-placed_ok (Err e) n network ports arcs levels marks marks2 nodes nodes2 clocked f are g p = tt
-placed_ok (Ok places) n network ports arcs levels marks marks2 nodes nodes2 clocked f are g p = record {
+    → AreInPlace n nodes2 (length nodes2) places → ArePlaced n network ports arcs levels places
+placed_as n network ports arcs levels marks marks2 nodes nodes2 places clocked f are g p = record {
   marks = marks;
   clocked = clocked;
   nodes = nodes;

@@ -36,14 +36,14 @@ use Rattle.pin_graph.specs.NodeArcs.{is_cell}
 use Rattle.pin_graph.specs.Nodes.{node_number, node_at, node_bound, pin_under, tran_under}
 use Rattle.pin_graph.specs.Graphs.{Graphed, fan_at, network_at, of_node, kind_between, IsArc, IsGraph}
 use Rattle.pin_graph.specs.Seeds.{is_touched_at, numbers_of, same_graph_arc, same_fans, is_turned, is_turned_at, turned_at, AreSeeds}
-use Rattle.pin_graph.specs.Kept.{IsKept, HaveSameLinks}
+use Rattle.pin_graph.specs.Kept.{IsKeptGraph, HaveSameLinks}
 use Rattle.pin_graph.proofs.PinNames.{same_is, same_self}
 use Rattle.pin_graph.proofs.Members.{first_in, later_in, in_cases, none_in, any_in, any_back, all_in, in_flat_map, in_flat_map_back, in_filter_map, in_filter_map_back, number_in}
 use Rattle.pin_graph.proofs.PinLaws.{told_at, there, HasNumber, pin_of_number, pin_at_number}
 use Rattle.pin_graph.proofs.WalkLaws.{both_same}
 use Rattle.pin_graph.proofs.NodeLaws.{HasNode, node_told, node_below, has_node, same_node_at, under_number, tran_of_number, number_again}
 use Rattle.pin_graph.proofs.GraphRows.{placed}
-use Rattle.pin_graph.proofs.KeptLaws.{kept_again}
+use Rattle.pin_graph.proofs.KeptLaws.{graph_again}
 
 abbrev node_as : ℕ → Pin → Node
 node_as node pin = record { pin = pin; tran = tran_under node }
@@ -308,9 +308,9 @@ module _ (g g2 : Graphed) (num : IsNumbered g.stored) (num2 : IsNumbered g2.stor
       (eq-eqb node node refl))
 
   -- where all links are left no node is turned
-  module _ (fault : net_fault g2.stored.design ≡ None) (keeps : IsKept g) (same : HaveSameLinks g.stored g2.stored) where
+  module _ (fault : net_fault g2.stored.design ≡ None) (keeps : IsKeptGraph g) (same : HaveSameLinks g.stored g2.stored) where
     again : IsGraph (record g { stored = g2.stored })
-    again = (kept_again g g2.stored num2 linked2 fault keeps same).graph
+    again = graph_again g g2.stored num2 linked2 fault keeps same
 
     arc_self : (a : GraphArc) → same_graph_arc a a ≡ true
     arc_self a =
@@ -396,8 +396,9 @@ nodes_listed pins node =
     both p Fall = later_in (node_number p Rise) (node_number p Fall ∷ []) (node_number p Fall) (first_in (node_number p Fall) [])
 
 pub found_as : (s : Stored) (touch : Touch) (pins nodes nodes2 turned : List ℕ) (test : ℕ → Bool) → ((pin : ℕ) → list_any (nat_eq pin) pins ≡ is_touched_at s touch pin)
-    → nodes ≡ flat_map numbers_of pins → ((node : ℕ) → list_any (nat_eq node) turned ≡ test node) → nodes2 ≡ nodes ++ turned
-    → (node : ℕ) → list_any (nat_eq node) nodes2 ≡ (is_touched_at s touch (pin_under node) || test node)
+    → nodes ≡ flat_map numbers_of pins → ((node : ℕ) → (is_touched_at s touch (pin_under node) || list_any (nat_eq node) turned) ≡ test node) → nodes2 ≡ nodes ++ turned
+    → (node : ℕ) → list_any (nat_eq node) nodes2 ≡ test node
 found_as s touch pins nodes nodes2 turned test each are changed put node =
     ap (list_any (nat_eq node)) put ∙ list_any-append (nat_eq node) nodes turned
-    ∙ (λ k. (ap (list_any (nat_eq node)) are ∙ nodes_listed pins node ∙ each (pin_under node)) k || changed node k)
+    ∙ ap (λ b. b || list_any (nat_eq node) turned) (ap (list_any (nat_eq node)) are ∙ nodes_listed pins node ∙ each (pin_under node))
+    ∙ changed node

@@ -1,9 +1,9 @@
 -- The timing graph of a design: nodes are pins with transitions, arcs are those of nets, cells and
 -- registers, and the nodes of the clock network have places (TAU 2015; OpenTimer's timing graph).
 
-use Rattle.std.specs.Prelude.{ℕ, ◌≡◌, ◌+◌, ◌<◌, ◌≤◌, nat_eq, Bool, false, ◌&&◌, ◌||◌, if◌then◌else◌, List, map, length, slice_index, slice_index_or, slice_range, Contains, Option, Some, None, is_some, count_by}
+use Rattle.std.specs.Prelude.{ℕ, ◌≡◌, ◌+◌, ◌<◌, ◌≤◌, nat_eq, Bool, false, ◌&&◌, ◌||◌, if◌then◌else◌, List, map, length, slice_index, slice_index_or, Contains, Option, Some, None, is_some, count_by}
 use Rattle.std.specs.List.{list_any, range_with_len}
-use Rattle.std.specs.Option.{option_map_or}
+use Rattle.std.specs.Option.{option_map_or, unwrap_or}
 use Rattle.timing_defs.specs.declared.design.Design.{Design}
 use Rattle.timing_defs.specs.Netlist.{Node, is_driver}
 use Rattle.timing_defs.specs.Clocking.{is_network, is_clock_port}
@@ -15,25 +15,25 @@ use Rattle.levelizer.specs.Levels.{greatest}
 use Rattle.pin_graph.specs.declared.arcs.GraphKind.{GraphKind}
 use Rattle.pin_graph.specs.declared.arcs.GraphKind.TheVariants.{Net, Cell, Register}
 use Rattle.pin_graph.specs.declared.arcs.GraphArc.{GraphArc}
-use Rattle.pin_graph.specs.declared.fans.Fan.{Fan}
+use Rattle.pin_graph.specs.declared.held_fans.Fans.{Fans}
+use Rattle.pin_graph.specs.Fans.{room_of, IsRoom}
 use Rattle.pin_graph.specs.Nodes.{node_at, node_bound, pin_under}
 
--- the arcs of a node, of lists that stand side by side
-abbrev pub fan_at : Fan → ℕ → List GraphArc
-fan_at fan node = slice_range fan.arcs (slice_index fan.ends node) (slice_index fan.ends (node + 1))
+-- the arcs of a node: of the list that it was given later, else those that it had at first
+abbrev pub fan_at : Fans → ℕ → List GraphArc
+fan_at fans node = unwrap_or (slice_index_or fans.later node None) (room_of fans.first node)
 
 -- one list for each number below `n`
-pub record IsFan (n : ℕ) (fan : Fan) : Type 0 where
-  pub count : length fan.ends ≡ n + 1
-  pub rising : (node : ℕ) → node < n → slice_index fan.ends node ≤ slice_index fan.ends (node + 1)
-  pub within : (node : ℕ) → node < n → slice_index fan.ends (node + 1) ≤ length fan.arcs
+pub record IsFans (n : ℕ) (fans : Fans) : Type 0 where
+  pub count : length fans.later ≡ n
+  pub room : (node : ℕ) → node < n → slice_index_or fans.later node None ≡ None → IsRoom fans.first node
 
 -- a store, the arcs into and out of each node, whether each pin is of the clock network, the levels of
 -- nodes, and their places in the network; nodes and pins by their numbers
 pub record Graphed : Type 0 where
   pub stored : Stored
-  pub ins : Fan
-  pub outs : Fan
+  pub ins : Fans
+  pub outs : Fans
   pub network : List Bool
   pub levels : List ℕ
   pub places : List (Option ℕ)
@@ -89,6 +89,11 @@ pub record ArePlaces (g : Graphed) : Type 0 where
   pub rising : (node p q : ℕ) (arc : GraphArc) → node < node_bound g.stored → Contains (fan_at g.ins node) arc
       → place_at g arc.from ≡ Some p → place_at g node ≡ Some q → p < q
 
+-- the nodes that have places, in the order of these
+pub record AreClockNodes (g : Graphed) (nodes : List ℕ) : Type 0 where
+  pub told : (p : ℕ) → p < length nodes → (slice_index nodes p < node_bound g.stored) × (place_at g (slice_index nodes p) ≡ Some p)
+  pub there : (node p : ℕ) → place_at g node ≡ Some p → (p < length nodes) × (slice_index nodes p ≡ node)
+
 -- each node below the bound has a level: 0 without arcs in, else one more than its greatest predecessor's
 pub record AreNodeLevels (g : Graphed) : Type 0 where
   pub count : length g.levels ≡ node_bound g.stored
@@ -103,8 +108,8 @@ pub record AreNetworkPins (g : Graphed) : Type 0 where
 -- the graph of its store: its arcs, levels, clock network and places; the design has no loop, and its
 -- clock network is a tree
 pub record IsGraph (g : Graphed) : Type 0 where
-  pub in_fan : IsFan (node_bound g.stored) g.ins
-  pub out_fan : IsFan (node_bound g.stored) g.outs
+  pub in_fan : IsFans (node_bound g.stored) g.ins
+  pub out_fan : IsFans (node_bound g.stored) g.outs
   pub ins : (node : ℕ) → node < node_bound g.stored → AreArcs g.stored to_of from_of node (fan_at g.ins node)
   pub outs : (node : ℕ) → node < node_bound g.stored → AreArcs g.stored from_of to_of node (fan_at g.outs node)
   pub network : AreNetworkPins g

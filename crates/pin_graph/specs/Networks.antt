@@ -65,9 +65,7 @@ pub record IsNetwork (s : Stored) (marks : List Bool) : Type 0 where
       → 0 < length (network_before s.design pin)
 
 -- the marked numbers are those that the clocks' ports reach and that reach registers' clock pins
-pub record AreClockMarks (s : Stored) (marks : List Bool) : Type 0 where
-  pub from : List Bool
-  pub to : List Bool
+pub record AreClockMarks (s : Stored) (from to marks : List Bool) : Type 0 where
   pub forth : AreReached (length s.pins) (network_links s) (clock_ports s) from
   pub back : AreReached (length s.pins) (map turned (network_links s)) (clock_pins s) to
   pub count : length marks ≡ length s.pins

@@ -64,6 +64,10 @@ net_node_arcs s network = flat_map (net_arcs_into s network) (range_with_len 0 (
 abbrev pub node_arcs : Stored → List Bool → List GraphArc
 node_arcs s network = net_node_arcs s network ++ filter_map (standing_arc network) (pin_arcs s)
 
+-- those into a node
+abbrev pub raw_into : Stored → List Bool → ℕ → List GraphArc
+raw_into s network node = filter (λ arc. arc.to == node) (node_arcs s network)
+
 -- some arc from a node is combinational; is of a register
 abbrev pub has_comb_from : List GraphArc → ℕ → Bool
 has_comb_from arcs from = list_any (λ arc. nat_eq arc.from from && is_cell arc.kind) arcs

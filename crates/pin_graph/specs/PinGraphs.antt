@@ -12,4 +12,4 @@ pub record IsPinGraph (s : Stored) (g : PinGraph) : Type 0 where
   pub joins : g.arcs ≡ pin_arcs s
   pub leveled : AreLevels (length s.pins) (pin_links s) g.levels
   pub marked : IsNetwork s g.network
-  pub clocked : AreClockMarks s g.network
+  pub clocked : AreClockMarks s g.reach.from_clocks g.reach.to_registers g.network

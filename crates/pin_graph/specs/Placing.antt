@@ -53,3 +53,11 @@ pub record ArePlaced (n : ℕ) (network : List Bool) (ports : List ℕ) (arcs : 
   pub nodes : List AtLevel
   pub ordered : AreOrdered n marks levels nodes
   pub placed : AreInPlace n nodes (length nodes) places
+
+-- the nodes that have places, in the order of their places
+abbrev pub node_of : AtLevel → ℕ
+node_of at = at.node
+
+pub record AreInOrder (places : List (Option ℕ)) (order : List ℕ) : Type 0 where
+  pub told : (p : ℕ) → p < length order → slice_index_or places (slice_index order p) None ≡ Some p
+  pub there : (node p : ℕ) → slice_index_or places node None ≡ Some p → (p < length order) × (slice_index order p ≡ node)

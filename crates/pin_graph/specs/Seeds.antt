@@ -47,6 +47,10 @@ is_turned base g node =
 abbrev pub is_turned_at : Graphed → Graphed → ℕ → Bool
 is_turned_at base g node = is_number g.stored.pins (pin_under node) && is_turned base g node
 
+-- a node of a touched pin, or one that is turned
+abbrev pub is_moved : Graphed → Graphed → Touch → ℕ → Bool
+is_moved base g touch node = is_touched_at g.stored touch (pin_under node) || is_turned_at base g node
+
 abbrev pub turned_at : Graphed → Graphed → ℕ → Option ℕ
 turned_at base g node = (if is_turned_at base g node then Some node else None)
 

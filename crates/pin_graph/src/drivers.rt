@@ -31,7 +31,7 @@ pub(crate) fn drives(store: &Store, pin: u32) -> bool
 }
 
 /// The pins on a net.
-fn pins_on(store: &Store, net: u32) -> &[u32]
+pub(crate) fn pins_on(store: &Store, net: u32) -> &[u32]
     requires { is_number store.now.nets net ≡ true }
     ensures numbers { All (λ pin. is_number store.now.pins pin ≡ true) result.now }
     ensures on { All (λ pin. is_on_number store.now net pin ≡ true) result.now }
@@ -57,7 +57,7 @@ fn net_driver(store: &Store, net: u32) -> Option<u32>
 }
 
 /// The driver of the net with a number; a gap has none.
-fn driver_at(store: &Store, net: u32) -> Option<u32>
+pub(crate) fn driver_at(store: &Store, net: u32) -> Option<u32>
     requires { net_fault store.now.design ≡ None }
     ensures { result ≡ driver_at store.now net }
 {

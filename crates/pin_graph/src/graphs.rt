@@ -8,10 +8,10 @@ ghost use Rattle.pin_graph.specs.Refusals.{IsGraphRefused};
 ghost use Rattle.pin_graph.specs.Nodes.{node_bound, number_at, pin_under, tran_under};
 ghost use Rattle.pin_graph.specs.NodeArcs.{node_arcs, AreMerged};
 ghost use Rattle.pin_graph.specs.NodeGraphs.{IsFound};
-ghost use Rattle.pin_graph.specs.Kept.{graph_in, IsKept, HaveSameLinks};
+ghost use Rattle.pin_graph.specs.Kept.{graph_in, IsKept, IsKeptGraph, HaveSameLinks};
 ghost use Rattle.netlist_store.specs.Applying.{IsEditOf};
 ghost use Rattle.pin_graph.specs.PinGraphs.{IsPinGraph};
-ghost use Rattle.pin_graph.specs.Graphs.{fan_at, network_at, level_at, place_at, IsGraph};
+ghost use Rattle.pin_graph.specs.Graphs.{fan_at, network_at, level_at, place_at, AreClockNodes, IsGraph};
 
 use crate::arcs::GraphArc;
 use crate::fans::{End, Fan};
@@ -23,6 +23,8 @@ use crate::node_levels::node_levels;
 use crate::nodes::{node_number, pin_under, tran_under};
 use crate::pins::{PinGraph, pin_graph};
 use crate::places::places;
+use crate::replacing::replaced;
+use crate::tables::{NodeGraph, Tables, node_tables, pin_tables, tables_of};
 use crate::trees::check_tree;
 use cow_table::Held;
 use netlist_store::{Store, Touched};
@@ -42,32 +44,13 @@ pub struct Graph {
 
 impl Model for Graph {
     ghost use Rattle.pin_graph.specs.Graphs.{Graphed};
-    ghost use Rattle.pin_graph.specs.Kept.{IsKept};
+    ghost use Rattle.pin_graph.specs.Kept.{graph_in, IsKept};
 
     ghost Value = { Graphed };
 
-    ghost view = { λ g. record { stored = g.store; ins = g.tables.ins; outs = g.tables.outs; network = g.tables.network; levels = g.tables.levels; places = g.tables.places } };
+    ghost view = { λ g. graph_in g.store g.tables };
 
-    ghost invariant = { λ g. IsKept (record { stored = g.store; ins = g.tables.ins; outs = g.tables.outs; network = g.tables.network; levels = g.tables.levels; places = g.tables.places }) };
-}
-
-/// What is known of nodes and pins. Graphs of stores with the same links share it.
-#[derive(Drop)]
-pub(crate) struct Tables {
-    pub(crate) ins: Fan,
-    pub(crate) outs: Fan,
-    pub(crate) network: Items<bool>,
-    pub(crate) levels: Items<u32>,
-    pub(crate) places: Items<Option<u32>>,
-}
-
-/// What is found of nodes.
-#[derive(Drop)]
-struct NodeGraph {
-    ins: Fan,
-    outs: Fan,
-    levels: Items<u32>,
-    places: Items<Option<u32>>,
+    ghost invariant = { λ g. IsKept g.store g.tables };
 }
 
 /// The arcs between nodes, one for all library arcs between the same two.
@@ -102,7 +85,7 @@ fn node_graph(
     let n = 2 * store.pin_bound();
     let levels = node_levels(alloc, n, arcs)?;
     let ports = clock_ports(alloc, store)?;
-    let places = places(
+    let placed = places(
         alloc,
         n,
         pins.network.as_slice(),
@@ -116,41 +99,41 @@ fn node_graph(
         ins,
         outs,
         levels,
-        places,
+        places: placed.places,
+        order: placed.order,
     })
 }
 
-/// The graph of a store without a loop, whose clock network is a tree.
-fn graph_of(alloc: Global, store: &Store, pins: PinGraph) -> Result<Graph, Memory>
+/// The tables of a store without a loop, whose clock network is a tree.
+fn graph_tables(alloc: Global, store: &Store, pins: &PinGraph) -> Result<Tables, Memory>
     requires fault { net_fault store.now.design ≡ None }
-    requires no_loop { HasNoLoop store.now.design }
     requires tree { clock_not_tree store.now.design ≡ None }
-    requires pins { IsPinGraph store.now pins }
-    ensures { IfOk result (λ graph. graph.stored ≡ store.now) }
+    requires pins { IsPinGraph store.now pins.now }
+    ensures { IfOk result (IsKept store.now) }
 {
     store.laws();
-    let arcs = merged_arcs(alloc, store, &pins)?;
-    let nodes = node_graph(alloc, store, &pins, arcs.as_slice())?;
-    let tables = Held::of(alloc, tables_of(pins.network, nodes))?;
-    with_tables(store, tables)
+    let arcs = merged_arcs(alloc, store, pins)?;
+    let found = node_graph(alloc, store, pins, arcs.as_slice())?;
+    let nodes = node_tables(alloc, 2 * store.pin_bound(), found)?;
+    let made = pin_tables(alloc, pins)?;
+    Ok(tables_of(made, nodes))
 }
 
-/// The tables of nodes and of pins.
-fn tables_of(network: Items<bool>, nodes: NodeGraph) -> Tables
-    ensures { result ≡ record { ins = nodes.ins; outs = nodes.outs; network = network; levels = nodes.levels; places = nodes.places } }
+/// The graph of a store without a loop, whose clock network is a tree.
+fn graph_of(alloc: Global, store: &Store, pins: &PinGraph) -> Result<Graph, Memory>
+    requires fault { net_fault store.now.design ≡ None }
+    requires tree { clock_not_tree store.now.design ≡ None }
+    requires pins { IsPinGraph store.now pins.now }
+    ensures { IfOk result (λ graph. graph.stored ≡ store.now) }
 {
-    Tables {
-        ins: nodes.ins,
-        outs: nodes.outs,
-        network,
-        levels: nodes.levels,
-        places: nodes.places,
-    }
+    let tables = graph_tables(alloc, store, pins)?;
+    let tables = Held::of(alloc, tables)?;
+    with_tables(store, tables)
 }
 
 /// The graph of a store with its tables.
 fn with_tables(store: &Store, tables: Held<Tables>) -> Result<Graph, Memory>
-    requires { IsKept (graph_in store.now tables) }
+    requires { IsKept store.now tables }
     ensures { IfOk result (λ graph. graph.stored ≡ store.now) }
 {
     match store.copy() {
@@ -174,7 +157,7 @@ impl Graph {
     {
         let pins = pin_graph(alloc, store)?;
         check_tree(alloc, store, pins.network.as_slice(), pins.arcs.as_slice())?;
-        Ok(graph_of(alloc, store, pins)?)
+        Ok(graph_of(alloc, store, &pins)?)
     }
 
     /// The graph of another store with the same links, which shares this one's tables.
@@ -189,10 +172,29 @@ impl Graph {
         with_tables(store, tables)
     }
 
+    /// The graph of the store that an ECO made of this graph's store, with other links; none where it is to be
+    /// found anew.
+    fn changed(
+        &self,
+        alloc: Global,
+        store: &Store,
+        touched: &Touched,
+    ) -> Result<Option<Graph>, Memory>
+        requires fault { net_fault store.now.design ≡ None }
+        requires made { IsEditOf self.now.stored (record { insts = touched.now.insts; nets = touched.now.nets }) store.now }
+        ensures { IfOk result (λ ended. IfSome ended (λ graph. graph.stored ≡ store.now)) }
+    {
+        match replaced(alloc, &self.store, store, touched, self.tables.get())? {
+            Some(tables) => Ok(Some(with_tables(store, Held::of(alloc, tables)?)?)),
+            None => Ok(None),
+        }
+    }
+
     /// The graph of the store that an ECO made of this graph's store, as `of` has it; `touched` is what the
     /// ECO touched. Where the ECO left all links (it sets parasitics, or gives instances cells with the same
-    /// pins, arcs and tests, in one order) the tables are shared, in the time of the change; else the graph
-    /// is found anew, in the time of `of`.
+    /// pins, arcs and tests, in one order) the tables are shared, in the time of the change. Where it changed
+    /// links and left the clock network, it takes time of what it touched and of the pins and nodes whose level
+    /// changes, and a byte of each pin is copied; else, and where a walk is cyclic, the graph is found anew.
     pub fn update(&self, alloc: Global, store: &Store, touched: &Touched) -> Result<Graph, Fault>
         requires fault { net_fault store.now.design ≡ None }
         requires made { IsEditOf self.now.stored (record { insts = touched.now.insts; nets = touched.now.nets }) store.now }
@@ -200,9 +202,11 @@ impl Graph {
         ensures refused { IfErr result (IsGraphRefused store.now.design) }
     {
         if keeps_links(&self.store, store, touched) {
-            Ok(self.shared(store)?)
-        } else {
-            Graph::of(alloc, store)
+            return Ok(self.shared(store)?);
+        }
+        match self.changed(alloc, store, touched)? {
+            Some(graph) => Ok(graph),
+            None => Graph::of(alloc, store),
         }
     }
 
@@ -222,7 +226,9 @@ impl Graph {
 
     /// The same, and how the graph was found, told to the proofs of this crate; the call does nothing.
     pub(crate) fn kept(&self)
-        ensures kept { IsKept self.now }
+        ensures kept { IsKeptGraph self.now }
+        ensures graph { IsGraph self.now }
+        ensures fault { net_fault self.now.stored.design ≡ None }
         ensures numbered { IsNumbered self.now.stored }
         ensures linked { IsLinked self.now.stored.design }
     {
@@ -304,7 +310,21 @@ impl Graph {
         requires { node < node_bound self.now.stored }
         ensures { result ≡ network_at self.now node }
     {
-        self.tables.get().network.as_slice()[pin_under(node) as usize]
+        self.tables.get().network.get().as_slice()[pin_under(node) as usize]
+    }
+
+    /// Whether each pin is of the clock network.
+    pub(crate) fn network(&self) -> &[bool]
+        ensures { result.now ≡ self.now.network }
+    {
+        self.tables.get().network.get().as_slice()
+    }
+
+    /// The nodes of the clock network that have places, in the order of these.
+    pub fn clock_nodes(&self) -> &[u32]
+        ensures { AreClockNodes self.now result.now }
+    {
+        self.tables.get().order.get().as_slice()
     }
 
     /// The level of a node: 0 without arcs in, else one more than its greatest predecessor's.
@@ -312,7 +332,7 @@ impl Graph {
         requires { node < node_bound self.now.stored }
         ensures { result ≡ level_at self.now node }
     {
-        self.tables.get().levels.as_slice()[node as usize]
+        *self.tables.get().levels.get(node as usize)
     }
 
     /// The place of a node in the clock network, lower than those of the nodes behind it; none exactly
@@ -321,6 +341,6 @@ impl Graph {
         requires { node < node_bound self.now.stored }
         ensures { result ≡ place_at self.now node }
     {
-        self.tables.get().places.as_slice()[node as usize]
+        *self.tables.get().places.get(node as usize)
     }
 }

@@ -20,7 +20,7 @@ fn joined_kind(a: GraphKind, b: GraphKind) -> GraphKind
 }
 
 /// One arc for two between the same nodes.
-fn joined_arc(a: GraphArc, b: GraphArc) -> GraphArc
+pub(crate) fn joined_arc(a: GraphArc, b: GraphArc) -> GraphArc
     ensures { result ≡ joined_arc a b }
 {
     GraphArc {
@@ -46,7 +46,7 @@ fn place_from(arcs: &[GraphArc], places: &[usize], from: u32) -> Option<usize>
 }
 
 /// Adds an arc.
-fn push_arc(arcs: &mut Vec<GraphArc>, arc: GraphArc) -> Result<(), Memory>
+pub(crate) fn push_arc(arcs: &mut Vec<GraphArc>, arc: GraphArc) -> Result<(), Memory>
     ensures { OnOk result (arcs.new.items ≡ arcs.old.items ++ arc ∷ []) }
 {
     match arcs.push(arc) {

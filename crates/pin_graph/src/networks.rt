@@ -95,7 +95,7 @@ fn edge_from(arc: PinArc) -> Option<u32>
 
 /// The clock pins from which arcs of registers lead.
 #[tactic(auto, using(crate::proofs::ArcLaws::first_mapped_more))]
-fn edge_pins(alloc: Global, arcs: &[PinArc]) -> Result<Items<u32>, Memory>
+pub(crate) fn edge_pins(alloc: Global, arcs: &[PinArc]) -> Result<Items<u32>, Memory>
     ensures { IfOk result (λ pins. pins ≡ filter_map edge_from arcs.now) }
 {
     let mut pins = Items::new(alloc);
@@ -125,7 +125,7 @@ fn add_cell_tests(
 
 /// Adds the clock pins of the tests of the cell of the instance with a number; a gap has none.
 #[tactic(auto, using(crate::proofs::StartLaws::gap_tests, crate::proofs::StartLaws::tests_put))]
-fn add_inst_tests(
+pub(crate) fn add_inst_tests(
     alloc: Global,
     store: &Store,
     pins: &mut Items<u32>,

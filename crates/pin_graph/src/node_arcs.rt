@@ -17,7 +17,7 @@ use std::alloc::Global;
 use timing_defs::{ArcKind, Items, Tran};
 
 /// Whether an arc may lead from a pin to a pin: a network pin is entered from network pins alone.
-fn may_enter(network: &[bool], from: u32, to: u32) -> bool
+pub(crate) fn may_enter(network: &[bool], from: u32, to: u32) -> bool
     requires from { from < length network.now }
     requires to { to < length network.now }
     ensures { result ≡ may_enter network.now from to }
@@ -67,7 +67,7 @@ fn node_arc(arc: PinArc) -> GraphArc
 }
 
 /// A library arc between nodes, where it stands.
-fn standing_arc(network: &[bool], arc: PinArc) -> Option<GraphArc>
+pub(crate) fn standing_arc(network: &[bool], arc: PinArc) -> Option<GraphArc>
     requires long { length network.now ≤ 2 ^ 31 }
     requires from { arc.from < length network.now }
     requires to { arc.to < length network.now }
@@ -81,7 +81,7 @@ fn standing_arc(network: &[bool], arc: PinArc) -> Option<GraphArc>
 }
 
 /// Adds an arc, where it is there.
-fn add_arc(arcs: &mut Items<GraphArc>, arc: Option<GraphArc>) -> Result<(), Memory>
+pub(crate) fn add_arc(arcs: &mut Items<GraphArc>, arc: Option<GraphArc>) -> Result<(), Memory>
     ensures { OnOk result (arcs.new ≡ arcs.old ++ option_to_list arc) }
 {
     match arc {
@@ -108,7 +108,7 @@ fn add_cell_arcs(
 }
 
 /// A net arc between nodes.
-fn net_arc(from: u32, to: u32, tran: Tran) -> GraphArc
+pub(crate) fn net_arc(from: u32, to: u32, tran: Tran) -> GraphArc
     requires from { from < 2 ^ 31 }
     requires to { to < 2 ^ 31 }
     ensures { result ≡ net_arc (node_number from tran) (node_number to tran) }

@@ -177,7 +177,7 @@ fn add_cell_arcs(
 
 /// Adds the arcs of the cell of the instance with a number; a gap has none.
 #[tactic(auto, using(crate::proofs::ArcLaws::gap_arcs, crate::proofs::ArcLaws::arcs_put))]
-fn add_inst_arcs(
+pub(crate) fn add_inst_arcs(
     alloc: Global,
     store: &Store,
     arcs: &mut Items<PinArc>,

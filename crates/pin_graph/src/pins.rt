@@ -1,16 +1,17 @@
 //! The arcs, levels and clock network of a design, pin by pin.
 
-ghost use Rattle.std.specs.Prelude.{◌≡◌, None, length, IfOk, IfErr, OnOk};
+ghost use Rattle.std.specs.Prelude.{◌≡◌, None, map, length, IfOk, IfErr, OnOk};
 ghost use Rattle.timing_defs.specs.Checks.{net_fault, HasNoLoop};
 ghost use Rattle.levelizer.specs.Levels.{AreLevels};
+ghost use Rattle.levelizer.specs.Reaching.{AreReached};
 ghost use Rattle.pin_graph.specs.Refusals.{IsGraphRefused};
 ghost use Rattle.pin_graph.specs.Joins.{befores, pin_arcs, pin_links};
-ghost use Rattle.pin_graph.specs.Networks.{IsNetwork, AreClockMarks};
+ghost use Rattle.pin_graph.specs.Networks.{network_links, turned, clock_ports, clock_pins, IsNetwork, AreClockMarks};
 ghost use Rattle.pin_graph.specs.PinGraphs.{IsPinGraph};
 
 use crate::drivers::befores;
 use crate::loops::pin_levels;
-use crate::networks::{both, reach};
+use crate::networks::{Reaches, both, reach};
 use crate::pin_arcs::{PinArc, pin_arcs};
 use crate::pin_links::pin_links;
 use netlist_store::Store;
@@ -27,6 +28,8 @@ pub(crate) struct PinGraph {
     pub(crate) arcs: Items<PinArc>,
     /// 0 without arcs in, else one more than the greatest level before.
     pub(crate) levels: Items<u32>,
+    /// Whether clocks' ports reach the pin, and whether it reaches registers.
+    pub(crate) reach: Reaches,
     /// Whether the pin is of the clock network.
     pub(crate) network: Items<bool>,
 }
@@ -53,19 +56,17 @@ fn levels_of(
 fn network_of(
     alloc: Global,
     store: &Store,
-    table: &[Option<u32>],
-    arcs: &[PinArc],
     levels: &[u32],
+    reach: &Reaches,
 ) -> Result<Items<bool>, Memory>
     requires fault { net_fault store.now.design ≡ None }
-    requires table { table.now ≡ befores store.now }
-    requires arcs { arcs.now ≡ pin_arcs store.now }
     requires levels { AreLevels (length store.now.pins) (pin_links store.now) levels.now }
+    requires from { AreReached (length store.now.pins) (network_links store.now) (clock_ports store.now) reach.now.from_clocks }
+    requires to { AreReached (length store.now.pins) (map turned (network_links store.now)) (clock_pins store.now) reach.now.to_registers }
     ensures network { IfOk result (IsNetwork store.now) }
-    ensures clocked { IfOk result (AreClockMarks store.now) }
+    ensures clocked { IfOk result (AreClockMarks store.now reach.now.from_clocks reach.now.to_registers) }
 {
     store.laws();
-    let reach = reach(alloc, store, table, arcs)?;
     both(
         alloc,
         reach.from_clocks.as_slice(),
@@ -83,17 +84,13 @@ pub(crate) fn pin_graph(alloc: Global, store: &Store) -> Result<PinGraph, Fault>
     let befores = befores(alloc, store)?;
     let arcs = pin_arcs(alloc, store)?;
     let levels = levels_of(alloc, store, befores.as_slice(), arcs.as_slice())?;
-    let network = network_of(
-        alloc,
-        store,
-        befores.as_slice(),
-        arcs.as_slice(),
-        levels.as_slice(),
-    )?;
+    let reach = reach(alloc, store, befores.as_slice(), arcs.as_slice())?;
+    let network = network_of(alloc, store, levels.as_slice(), &reach)?;
     Ok(PinGraph {
         befores,
         arcs,
         levels,
+        reach,
         network,
     })
 }

@@ -1,12 +1,12 @@
 //! The places of clock network nodes, each parent's before its children's.
 
-ghost use Rattle.std.specs.Prelude.{◌≡◌, ◌++◌, ◌*◌, ◌<◌, ◌≤◌, ◌^◌, All, length, IfOk, OnOk};
+ghost use Rattle.std.specs.Prelude.{◌≡◌, ◌++◌, ◌*◌, ◌<◌, ◌≤◌, ◌^◌, All, map, length, IfOk, OnOk};
 ghost use Rattle.std.specs.List.{filter_map, flat_map};
 ghost use Rattle.std.specs.List.Sorted.{IsNonDecreasingBy, IsPermutation};
 ghost use Rattle.std.specs.Option.{option_to_list};
 ghost use Rattle.pin_graph.specs.Nodes.{pin_under};
 ghost use Rattle.pin_graph.specs.NodeArcs.{AreNodes};
-ghost use Rattle.pin_graph.specs.Placing.{network_link, port_nodes, at_level, leveled, AreClocked, AreInPlace, AreOrdered, ArePlaced};
+ghost use Rattle.pin_graph.specs.Placing.{network_link, port_nodes, at_level, leveled, node_of, AreClocked, AreInOrder, AreInPlace, AreOrdered, ArePlaced};
 
 use crate::arcs::GraphArc;
 use crate::nodes::{node_number, pin_under};
@@ -176,8 +176,26 @@ fn clocked(
     reached(alloc, n, links.as_slice(), first.as_slice())
 }
 
-/// The place of each node below `n`. Takes as many steps as there are nodes and arcs, and those of
-/// sorting the network's nodes by their levels.
+/// The nodes of a list.
+fn nodes_in(alloc: Global, nodes: &[AtLevel]) -> Result<Items<u32>, Memory>
+    ensures { IfOk result (λ found. found ≡ map node_of nodes.now) }
+{
+    let mut found = Items::with_room(alloc, nodes.len())?;
+    for at in nodes {
+        found.push(at.node)?;
+    }
+    Ok(found)
+}
+
+/// The places of nodes, and the nodes that have places, in the order of these.
+#[derive(Drop)]
+pub(crate) struct NodePlaces {
+    pub(crate) places: Items<Option<u32>>,
+    pub(crate) order: Items<u32>,
+}
+
+/// The place of each node below `n`, and the nodes by their places. Takes as many steps as there are nodes
+/// and arcs, and those of sorting the network's nodes by their levels.
 pub(crate) fn places(
     alloc: Global,
     n: u32,
@@ -185,14 +203,17 @@ pub(crate) fn places(
     ports: &[u32],
     arcs: &[GraphArc],
     levels: &[u32],
-) -> Result<Items<Option<u32>>, Memory>
+) -> Result<NodePlaces, Memory>
     requires long { 2 * length network.now ≡ n }
     requires ports { All (λ port. port < length network.now) ports.now }
     requires arcs { AreNodes n arcs.now }
     requires levels { length levels.now ≡ n }
-    ensures { IfOk result (ArePlaced n network.now ports.now arcs.now levels.now) }
+    ensures placed { IfOk result (λ made. ArePlaced n network.now ports.now arcs.now levels.now made.places) }
+    ensures ordered { IfOk result (λ made. AreInOrder made.places made.order) }
 {
     let marks = clocked(alloc, n, network, ports, arcs)?;
     let nodes = ordered(alloc, n, marks.as_slice(), levels)?;
-    places_in(alloc, n, nodes.as_slice())
+    let places = places_in(alloc, n, nodes.as_slice())?;
+    let order = nodes_in(alloc, nodes.as_slice())?;
+    Ok(NodePlaces { places, order })
 }

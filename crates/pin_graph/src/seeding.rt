@@ -1,17 +1,17 @@
 //! The seeds of an update: the nodes of pins that an ECO touched, and those whose arcs in or membership
 //! of the clock network are other than in the base.
 
-ghost use Rattle.std.specs.Prelude.{◌≡◌, ◌&&◌, ◌||◌, ◌++◌, ◌∷◌, [], ◌<◌, ◌^◌, ℕ, not, nat_eq, true, All, length, IfOk, OnOk, if◌then◌else◌};
+ghost use Rattle.std.specs.Prelude.{◌≡◌, ◌&&◌, ◌||◌, ◌++◌, ◌∷◌, [], ◌<◌, ◌^◌, ℕ, not, nat_eq, true, All, IsTrue, length, IfOk, OnOk, if◌then◌else◌};
 ghost use Rattle.std.specs.List.{list_any, list_all, filter_map, flat_map, range_with_len};
 ghost use Rattle.std.specs.List.Sorted.{IsStrictlyIncreasing};
 ghost use Rattle.timing_defs.specs.Cones.{same_truth};
 ghost use Rattle.netlist_store.specs.Applying.{IsEditOf};
 ghost use Rattle.netlist_store.specs.Numbering.{is_number};
 ghost use Rattle.pin_graph.specs.Joins.{own_number};
-ghost use Rattle.pin_graph.specs.NodeArcs.{is_cell};
+ghost use Rattle.pin_graph.specs.NodeArcs.{is_cell, marked};
 ghost use Rattle.pin_graph.specs.Nodes.{node_bound, pin_under};
 ghost use Rattle.pin_graph.specs.Graphs.{fan_at, network_at};
-ghost use Rattle.pin_graph.specs.Seeds.{is_joined_at, is_owned_at, is_touched_at, numbers_of, same_graph_arc, same_fans, is_turned, is_turned_at, turned_at, gone_at, AreSeeds};
+ghost use Rattle.pin_graph.specs.Seeds.{is_joined_at, is_owned_at, is_touched_at, numbers_of, same_graph_arc, same_fans, is_turned, is_moved, turned_at, gone_at, AreSeeds};
 
 use crate::arcs::{GraphArc, GraphKind};
 use crate::graphs::Graph;
@@ -25,7 +25,7 @@ use std::alloc::Global;
 use timing_defs::{Cell, Inst, Items, Name, Split, Tran};
 
 /// Adds numbers.
-fn add_all(numbers: &mut Items<u32>, more: &[u32]) -> Result<(), Memory>
+pub(crate) fn add_all(numbers: &mut Items<u32>, more: &[u32]) -> Result<(), Memory>
     ensures { OnOk result (numbers.new ≡ numbers.old ++ more.now) }
 {
     for number in more {
@@ -94,7 +94,7 @@ fn add_inst_pins(
 }
 
 /// Adds the pins of instances.
-fn add_insts_pins(
+pub(crate) fn add_insts_pins(
     alloc: Global,
     pins: &mut Items<u32>,
     store: &Store,
@@ -109,7 +109,11 @@ fn add_insts_pins(
 }
 
 /// The pins on touched nets and of touched instances.
-fn touched_pins(alloc: Global, store: &Store, touched: &Touched) -> Result<Items<u32>, Memory>
+pub(crate) fn touched_pins(
+    alloc: Global,
+    store: &Store,
+    touched: &Touched,
+) -> Result<Items<u32>, Memory>
     ensures each { IfOk result (λ pins. (pin : ℕ) → list_any (nat_eq pin) pins ≡ is_touched_at store.now (record { insts = touched.now.insts; nets = touched.now.nets }) pin) }
     ensures below { IfOk result (λ pins. All (λ pin. pin < 2 ^ 31) pins) }
 {
@@ -129,7 +133,7 @@ fn add_nodes(nodes: &mut Items<u32>, pin: u32) -> Result<(), Memory>
 }
 
 /// The nodes of pins.
-fn nodes_of(alloc: Global, pins: &[u32]) -> Result<Items<u32>, Memory>
+pub(crate) fn nodes_of(alloc: Global, pins: &[u32]) -> Result<Items<u32>, Memory>
     requires { All (λ pin. pin < 2 ^ 31) pins.now }
     ensures { IfOk result (λ nodes. nodes ≡ flat_map numbers_of pins.now) }
 {
@@ -233,7 +237,45 @@ fn turned_nodes(alloc: Global, base: &Graph, graph: &Graph) -> Result<Items<u32>
     Ok(nodes)
 }
 
-/// The nodes that are turned; none where the ECO left all links, in the time of the change.
+fn equal_marks(a: &[bool], b: &[bool]) -> bool
+    ensures { IsTrue result → a.now ≡ b.now }
+{
+    a == b
+}
+
+fn no_marks(marks: &[bool]) -> bool
+    ensures { result ≡ list_all not marks.now }
+{
+    marks.iter().all(|mark| !*mark)
+}
+
+/// Whether marks after a change are those before it, and none of those that came is set.
+fn same_marks(before: &[bool], after: &[bool]) -> bool
+    ensures { IsTrue result → (pin : ℕ) → marked after.now pin ≡ marked before.now pin }
+{
+    if before.len() > after.len() {
+        return false;
+    }
+    let (first, more) = after.split_at(before.len());
+    equal_marks(first, before) && no_marks(more)
+}
+
+/// Whether the ECO left all links, or the clock network: then only nodes of touched pins are turned. In the time
+/// of the change, and of a comparison of the marks of pins.
+fn leaves_nodes(base: &Graph, graph: &Graph, touched: &Touched) -> bool
+    requires { IsEditOf base.now.stored (record { insts = touched.now.insts; nets = touched.now.nets }) graph.now.stored }
+    ensures { IsTrue result → (node : ℕ) → is_moved base.now graph.now (record { insts = touched.now.insts; nets = touched.now.nets }) node ≡ is_touched_at graph.now.stored (record { insts = touched.now.insts; nets = touched.now.nets }) (pin_under node) }
+{
+    base.kept();
+    graph.kept();
+    if keeps_links(base.store(), graph.store(), touched) {
+        return true;
+    }
+    same_marks(base.network(), graph.network())
+}
+
+/// Nodes that are turned, all but those of touched pins. Goes over all nodes and arcs where the ECO changed the
+/// clock network.
 fn changed_nodes(
     alloc: Global,
     base: &Graph,
@@ -241,18 +283,18 @@ fn changed_nodes(
     touched: &Touched,
 ) -> Result<Items<u32>, Memory>
     requires { IsEditOf base.now.stored (record { insts = touched.now.insts; nets = touched.now.nets }) graph.now.stored }
-    ensures { IfOk result (λ nodes. (node : ℕ) → list_any (nat_eq node) nodes ≡ is_turned_at base.now graph.now node) }
+    ensures { IfOk result (λ nodes. (node : ℕ) → (is_touched_at graph.now.stored (record { insts = touched.now.insts; nets = touched.now.nets }) (pin_under node) || list_any (nat_eq node) nodes) ≡ is_moved base.now graph.now (record { insts = touched.now.insts; nets = touched.now.nets }) node) }
 {
     base.kept();
     graph.kept();
-    if keeps_links(base.store(), graph.store(), touched) {
+    if leaves_nodes(base, graph, touched) {
         return Ok(Items::new(alloc));
     }
     turned_nodes(alloc, base, graph)
 }
 
 /// Numbers in rising order, each once.
-fn distinct(numbers: Items<u32>) -> Items<u32>
+pub(crate) fn distinct(numbers: Items<u32>) -> Items<u32>
     ensures rising { IsStrictlyIncreasing result }
     ensures same { (n : ℕ) → list_any (nat_eq n) result ≡ list_any (nat_eq n) numbers }
 {
@@ -270,7 +312,7 @@ fn found_nodes(
     touched: &Touched,
 ) -> Result<Items<u32>, Memory>
     requires { IsEditOf base.now.stored (record { insts = touched.now.insts; nets = touched.now.nets }) graph.now.stored }
-    ensures { IfOk result (λ nodes. (node : ℕ) → list_any (nat_eq node) nodes ≡ (is_touched_at graph.now.stored (record { insts = touched.now.insts; nets = touched.now.nets }) (pin_under node) || is_turned_at base.now graph.now node)) }
+    ensures { IfOk result (λ nodes. (node : ℕ) → list_any (nat_eq node) nodes ≡ is_moved base.now graph.now (record { insts = touched.now.insts; nets = touched.now.nets }) node) }
 {
     let pins = touched_pins(alloc, graph.store(), touched)?;
     let mut nodes = nodes_of(alloc, pins.as_slice())?;
@@ -281,7 +323,8 @@ fn found_nodes(
 
 /// The seeds of the update of an analysis: the numbers of the nodes of pins that the ECO touched, and of
 /// those that the base lacks or whose arcs in or membership of the clock network are other than in the base,
-/// in rising order. In the time of the change where the ECO left all links, and else of the nodes and arcs.
+/// in rising order. In the time of the change and of a comparison of the marks of pins where the ECO left the
+/// clock network, and else of the nodes and arcs.
 pub fn seeds(
     alloc: Global,
     base: &Graph,
@@ -306,7 +349,7 @@ fn gone_at(store: &Store, pin: u32) -> Option<u32>
 
 /// Those of some pins that stand for nothing in a store.
 #[tactic(auto, using(crate::proofs::ArcLaws::first_mapped_more))]
-fn gone_of(alloc: Global, store: &Store, pins: &[u32]) -> Result<Items<u32>, Memory>
+pub(crate) fn gone_of(alloc: Global, store: &Store, pins: &[u32]) -> Result<Items<u32>, Memory>
     ensures { IfOk result (λ gone. gone ≡ filter_map (gone_at store.now) pins.now) }
 {
     let mut gone = Items::new(alloc);

@@ -6,3 +6,4 @@ pub mod Numbers
 pub mod Kept
 pub mod Sights
 pub mod Rows
+pub mod CountLaws

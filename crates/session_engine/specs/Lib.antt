@@ -3,3 +3,4 @@ pub mod Versions
 pub mod Looking
 pub mod Running
 pub mod Trying
+pub mod Counting

@@ -1,7 +1,9 @@
 //! The analysis of a design in which nothing stands, from nothing or from that before an ECO.
 
-ghost use Rattle.std.specs.Prelude.{◌≡◌, ◌≤◌, IfOk, IfErr};
+ghost use Rattle.std.specs.Prelude.{◌≡◌, ◌+◌, ◌≤◌, IfOk, IfErr, OnOk};
 ghost use Rattle.std.specs.Arc.{arc_value};
+ghost use Rattle.timing_defs.specs.Checks.{IsSound};
+ghost use Rattle.timing_defs.specs.Cones.{forward_count, backward_count};
 ghost use Rattle.netlist_store.specs.Applying.{IsEditOf};
 ghost use Rattle.session_engine.specs.Soundness.{IsUnsound, IsSoundEdit};
 
@@ -73,6 +75,10 @@ fn edited_analysis<H: Threads + Sync, G: Gate, L>(
     requires edit { IsSoundEdit touched.now.nets store.now.design }
     requires applied { IsEditOf base.now.stored (record { insts = touched.now.insts; nets = touched.now.nets }) store.now }
     ensures analysis { IfOk result (λ a. a.stored ≡ store.now) }
+    ensures least { OnOk result (steps.old + forward_count base.now.stored.design store.now.design (record { insts = touched.now.insts; nets = touched.now.nets }) ≤ steps.new) }
+    ensures rises { steps.old ≤ steps.new }
+    ensures most { steps.new ≤ steps.old + forward_count base.now.stored.design store.now.design (record { insts = touched.now.insts; nets = touched.now.nets }) + backward_count base.now.stored.design store.now.design (record { insts = touched.now.insts; nets = touched.now.nets }) }
+    ensures unsound { (IsSound store.now.design → ⊥) → steps.new ≡ steps.old }
     ensures refused { IfErr result (IsUnsound store.now.design) }
 {
     match sound_graph_edited(alloc, base.graph(), store, touched) {
@@ -98,6 +104,10 @@ pub(crate) fn analysed_edited<H: Threads + Sync, G: Gate, L>(
     requires edit { IsSoundEdit touched.now.nets store.now.design }
     requires applied { IsEditOf base.now.stored (record { insts = touched.now.insts; nets = touched.now.nets }) store.now }
     ensures analysis { IfOk result (λ a. (arc_value a).stored ≡ store.now) }
+    ensures least { OnOk result (steps.old + forward_count base.now.stored.design store.now.design (record { insts = touched.now.insts; nets = touched.now.nets }) ≤ steps.new) }
+    ensures rises { steps.old ≤ steps.new }
+    ensures most { steps.new ≤ steps.old + forward_count base.now.stored.design store.now.design (record { insts = touched.now.insts; nets = touched.now.nets }) + backward_count base.now.stored.design store.now.design (record { insts = touched.now.insts; nets = touched.now.nets }) }
+    ensures unsound { (IsSound store.now.design → ⊥) → steps.new ≡ steps.old }
     ensures refused { IfErr result (IsUnsound store.now.design) }
 {
     match edited_analysis(rt, alloc, base, store, touched, workers, gate, steps) {

@@ -1,11 +1,13 @@
 //! The next version that an ECO makes of a base.
 
-ghost use Rattle.std.specs.Prelude.{◌≡◌, ◌≤◌, true, IfOk, IfErr};
+ghost use Rattle.std.specs.Prelude.{◌≡◌, ◌+◌, ◌-◌, ◌≤◌, true, IfOk, IfErr, OnOk};
 ghost use Rattle.std.specs.Arc.{arc_value};
 ghost use Rattle.timing_defs.specs.Documents.{is_eco};
 ghost use Rattle.timing_defs.specs.declared.design.Design.{Design};
 ghost use Rattle.timing_defs.specs.declared.faults.Fault.{Fault};
-ghost use Rattle.timing_defs.specs.Checks.{Accepts, Refuses};
+ghost use Rattle.timing_defs.specs.Checks.{Accepts, Refuses, IsSound};
+ghost use Rattle.timing_defs.specs.Cones.{forward_count, backward_count, IsCounted};
+ghost use Rattle.session_engine.specs.Counting.{is_told};
 ghost use Rattle.design_link.specs.After.{IsMadeOf};
 ghost use Rattle.netlist_store.specs.Applying.{IsApplied, IsRefused};
 ghost use Rattle.session_engine.specs.Versions.{IsNext, IsRefusal};
@@ -69,6 +71,10 @@ fn prepared<H: Threads + Sync, G: Gate, L>(
     requires made { IsMadeOf base.now.stored.design eco.now touched.now.nets (arc_value store).design }
     requires applied { IsApplied base.now.stored eco.now (arc_value store) (record { insts = touched.now.insts; nets = touched.now.nets }) }
     ensures next { IfOk result (λ v. IsNext base.now who eco.now (arc_value v)) }
+    ensures least { OnOk result (steps.old + forward_count base.now.stored.design (arc_value store).design (record { insts = touched.now.insts; nets = touched.now.nets }) ≤ steps.new) }
+    ensures rises { steps.old ≤ steps.new }
+    ensures most { steps.new ≤ steps.old + forward_count base.now.stored.design (arc_value store).design (record { insts = touched.now.insts; nets = touched.now.nets }) + backward_count base.now.stored.design (arc_value store).design (record { insts = touched.now.insts; nets = touched.now.nets }) }
+    ensures unsound { (IsSound (arc_value store).design → ⊥) → steps.new ≡ steps.old }
     ensures refused { IfErr result (IsRefusal base.now.stored.design eco.now) }
 {
     base.laws();
@@ -105,8 +111,11 @@ pub fn exclusion(eco: &Eco)
 /// (`E1` to `E9`), or else by the first that stands in the design after them, in the order too large
 /// (`E17`), two drivers (`E10`), a loop (`E11`), a clock network that is no tree (`E12`), a constraint on
 /// nothing (`E13`), parasitics that are no tree (`E14`) or of other pins (`E15`), a quantity out of its
-/// range (`E16`). The checks of nets and data look at what the ECO touched, and so does the graph where it left all
-/// links; the analysis is found anew.
+/// range (`E16`). The checks of nets and data look at what the ECO touched, and so does the graph where it left the
+/// clock network; the analysis is that of the base where the ECO leads to no change. `steps` counts the evaluations of
+/// nodes: where the ECO is accepted at least those that it affects forward, where its design is sound at most these and
+/// those that it affects backward, and else none.
+#[tactic(auto, using(crate::proofs::CountLaws::counted, crate::proofs::CountLaws::uncounted, crate::proofs::CountLaws::unheard))]
 pub fn prepare<H: Threads + Sync, G: Gate, L>(
     rt: &H,
     alloc: Global,
@@ -121,6 +130,8 @@ pub fn prepare<H: Threads + Sync, G: Gate, L>(
     requires some { 1 ≤ workers }
     requires most { workers ≤ 32 }
     ensures next { IfOk result (λ v. IsNext base.now who eco.now (arc_value v)) }
+    ensures rises { steps.old ≤ steps.new }
+    ensures counted { IsCounted base.now.stored.design eco.now (is_told result) (steps.new - steps.old) }
     ensures refused { IfErr result (IsRefusal base.now.stored.design eco.now) }
 {
     match edited(alloc, base, eco) {

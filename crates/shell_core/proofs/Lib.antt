@@ -1,4 +1,3 @@
 pub mod ReadLemmas
 pub mod ScriptLaws
 pub mod Stopping
-pub mod WordsLemmas

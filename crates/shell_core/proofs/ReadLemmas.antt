@@ -6,7 +6,7 @@ use Rattle.std.proofs.Math.Seq.{drop-cons}
 use Rattle.std.proofs.lemmas.List.{take_more, take_all, length-append}
 use Rattle.std.proofs.lemmas.List.Elements.{All-nil, All-cons, All-append}
 use Rattle.timing_defs.specs.declared.scripts.Script.{Script}
-use Rattle.shell_core.specs.Words.{RunWords}
+use Rattle.command_words.specs.Asked.{RunWords}
 use Rattle.shell_core.specs.declared.documents.Role.TheVariants.{Session}
 use Rattle.shell_core.specs.declared.documents.Stop.{Stop}
 use Rattle.shell_core.specs.declared.documents.Stop.TheVariants.{Memory}

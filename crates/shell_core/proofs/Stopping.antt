@@ -5,7 +5,7 @@ use Rattle.std.specs.Result.{IsErrAnd}
 use Rattle.timing_defs.specs.declared.library.Library.{Library}
 use Rattle.timing_defs.specs.declared.netlist.Module.{Module}
 use Rattle.sta_text.specs.declared.faults.Wrong.{Wrong}
-use Rattle.shell_core.specs.Words.{RunWords}
+use Rattle.command_words.specs.Asked.{RunWords}
 use Rattle.shell_core.specs.declared.documents.Role.{Role}
 use Rattle.shell_core.specs.declared.documents.Role.TheVariants.{Early, Late, Netlist}
 use Rattle.shell_core.specs.declared.documents.Stop.{Stop}

@@ -1,6 +1,6 @@
 -- The documents of a run: in which order they are fetched and read, what they say, and what stops that.
 
-use Rattle.std.specs.Prelude.{◌≡◌, ◌<◌, ◌≤◌, ◌⊎◌, ℕ, ◌+◌, ◌-◌, Bool, true, false, if◌then◌else◌, List, [], ◌∷◌, ◌++◌, codes, decimal, length, Option, Some, None, Ok, ⊤}
+use Rattle.std.specs.Prelude.{◌≡◌, ◌<◌, ◌≤◌, ◌⊎◌, ℕ, ◌+◌, ◌-◌, Bool, true, false, if◌then◌else◌, List, [], ◌∷◌, ◌++◌, codes, decimal, length, get_or, Option, Some, None, Ok, ⊤}
 use Rattle.std.specs.Str.{bytes_eq}
 use Rattle.sta_outside.specs.Shelf.{document_limit, Told, Lacks, Reaches, Rose}
 use Rattle.timing_defs.specs.declared.library.Library.{Library}
@@ -28,8 +28,7 @@ use Rattle.spef_reader.specs.Parasitics.{parasitics_of}
 use Rattle.eco_journal.specs.Lines.{lines_of}
 use Rattle.script_reader.specs.Scripts.{outside, events, script_of}
 use Rattle.script_reader.specs.Scripts.{faults as line_faults}
-use Rattle.shell_core.specs.Words.{RunWords}
-use Rattle.shell_core.specs.Words.{word as word_at}
+use Rattle.command_words.specs.Asked.{RunWords}
 use Rattle.shell_core.specs.declared.documents.Role.{Role}
 use Rattle.shell_core.specs.declared.documents.Role.TheVariants.{Early, Late, Netlist, Sdc, Spef, Session}
 use Rattle.shell_core.specs.declared.documents.Stop.{Stop}
@@ -82,7 +81,7 @@ name_of run Late = run.late
 name_of run Netlist = run.netlist
 name_of run Sdc = run.sdc
 name_of run Spef = run.spef
-name_of run (Session number) = word_at run.scripts (number - 1)
+name_of run (Session number) = get_or run.scripts (number - 1) []
 
 -- the documents in the order in which they are fetched and read; the word `none` stands for no parasitics
 abbrev pub has_no_spef : RunWords → Bool

@@ -3,4 +3,3 @@ pub mod Documents
 pub mod Kept
 pub mod Reading
 pub mod Scripts
-pub mod Words

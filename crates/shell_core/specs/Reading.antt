@@ -4,7 +4,7 @@ use Rattle.std.specs.Prelude.{◌≡◌, ℕ, ◌+◌, List, length, take, drop}
 use Rattle.std.specs.List.{All}
 use Rattle.timing_defs.specs.declared.scripts.Script.{Script}
 use Rattle.shell_core.specs.declared.documents.Stop.{Stop}
-use Rattle.shell_core.specs.Words.{RunWords}
+use Rattle.command_words.specs.Asked.{RunWords}
 use Rattle.shell_core.specs.Scripts.{IsScript}
 use Rattle.shell_core.specs.Documents.{Docs, script_sources, Stops, SayScripts}
 

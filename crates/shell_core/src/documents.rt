@@ -1,6 +1,6 @@
 //! The documents of a run, fetched and read one after the other.
 
-ghost use Rattle.std.specs.Prelude.{◌≡◌, ◌≤◌, ◌<◌, ◌+◌, ◌++◌, ◌∷◌, [], length, true, IfOk, IfErr, MatchResult};
+ghost use Rattle.std.specs.Prelude.{◌≡◌, ◌≤◌, ◌<◌, ◌+◌, ◌++◌, ◌∷◌, [], length, map, get_or, true, IfOk, IfErr, MatchResult};
 ghost use Rattle.std.specs.List.{All};
 ghost use Rattle.timing_defs.specs.Documents.{is_library, are_constraints, are_parasitics, IsNetlist};
 ghost use Rattle.sta_text.specs.Faults.{Fails};
@@ -10,7 +10,7 @@ ghost use Rattle.script_reader.specs.Scripts.{outside, events};
 ghost use Rattle.script_reader.specs.Scripts.{faults as line_faults};
 ghost use Rattle.shell_core.specs.declared.documents.Role.TheVariants as role;
 ghost use Rattle.shell_core.specs.declared.documents.Stop.TheVariants as cause;
-ghost use Rattle.shell_core.specs.Words.{run_words};
+ghost use Rattle.command_words.specs.Asked.{run_words};
 ghost use Rattle.shell_core.specs.Scripts.{IsScript};
 ghost use Rattle.shell_core.specs.Documents.{has_no_spef, no_parasitics, name_of, Gives, kind_text, role_text, how_text, script_sources, last_sources, sources, Stops, Says, SaysLibrary, SaysModule, SaysParasitics, SaysScript, SayScripts, AreUnits, AreConstraints, AreLast, AreDocuments};
 ghost use Rattle.shell_core.specs.Kept.{AreKept};
@@ -19,7 +19,7 @@ ghost use Rattle.shell_core.specs.Reading.{AreRead};
 use crate::discards::{
     discard_constraints, discard_library, discard_netlist, discard_parasitics, discard_scripts,
 };
-use crate::words::{Run, word_at};
+use command_words::Run;
 use liberty_cells::{read_library, units};
 use script_reader::read_script;
 use sdc_reader::read_constraints;
@@ -118,6 +118,16 @@ impl How {
     }
 }
 
+/// The name of a script, by its place; no bytes past the last.
+fn script_at<'a>(scripts: &[&'a str], at: usize) -> &'a str
+    ensures { result.now ≡ get_or (map (λ s. s.now) scripts.now) at [] }
+{
+    match scripts.get(at) {
+        Some(name) => name,
+        None => "",
+    }
+}
+
 /// The name that a command line has for a document.
 pub fn name_of<'a>(run: &Run<'a>, role: Role) -> &'a str
     ensures { result.now ≡ name_of (run_words run.now) role }
@@ -128,7 +138,7 @@ pub fn name_of<'a>(run: &Run<'a>, role: Role) -> &'a str
         Role::Netlist => run.netlist,
         Role::Sdc => run.sdc,
         Role::Spef => run.spef,
-        Role::Session { number } => word_at(run.scripts, number.saturating_sub(1)),
+        Role::Session { number } => script_at(&run.scripts, number.saturating_sub(1)),
     }
 }
 
@@ -292,7 +302,7 @@ fn with_next<S: Shelf>(
     scripts: Items<Script>,
 ) -> Result<Items<Script>, Stop>
     requires read { AreRead (S.holds shelf.old) (run_words run.now) count scripts }
-    requires more { count < length run.now.scripts.now }
+    requires more { count < length run.now.scripts.items }
     ensures map { S.holds shelf.new ≡ S.holds shelf.old }
     ensures rising { S.faults shelf.old ≤ S.faults shelf.new }
     ensures value { IfOk result (λ got. AreRead (S.holds shelf.old) (run_words run.now) (count + 1) got × (S.faults shelf.new ≡ S.faults shelf.old)) }
@@ -313,7 +323,7 @@ fn scripts<S: Shelf>(alloc: Global, shelf: &mut S, run: &Run<'_>) -> Result<Item
     ensures map { S.holds shelf.new ≡ S.holds shelf.old }
     ensures rising { S.faults shelf.old ≤ S.faults shelf.new }
     ensures value { IfOk result (λ got. SayScripts (S.holds shelf.old) (run_words run.now).scripts got × (S.faults shelf.new ≡ S.faults shelf.old)) }
-    ensures kept { IfOk result (λ got. All IsScript got × (length got ≡ length run.now.scripts.now)) }
+    ensures kept { IfOk result (λ got. All IsScript got × (length got ≡ length run.now.scripts.items)) }
     ensures stop { IfErr result (λ stop. Stops (S.holds shelf.old) (run_words run.now) (S.faults shelf.old) (S.faults shelf.new) (script_sources 1 (run_words run.now).scripts) stop) }
 {
     let mut scripts = Items::new(alloc);
@@ -340,7 +350,7 @@ fn from_spef<S: Shelf>(
     ensures map { S.holds shelf.new ≡ S.holds shelf.old }
     ensures rising { S.faults shelf.old ≤ S.faults shelf.new }
     ensures value { IfOk result (λ got. Says (S.holds shelf.old) (run_words run.now).spef (SaysParasitics got.0) × SayScripts (S.holds shelf.old) (run_words run.now).scripts got.1 × (S.faults shelf.new ≡ S.faults shelf.old)) }
-    ensures kept { IfOk result (λ got. (are_parasitics got.0.nets ≡ true) × All IsScript got.1 × (length got.1 ≡ length run.now.scripts.now)) }
+    ensures kept { IfOk result (λ got. (are_parasitics got.0.nets ≡ true) × All IsScript got.1 × (length got.1 ≡ length run.now.scripts.items)) }
     ensures stop { IfErr result (λ stop. Stops (S.holds shelf.old) (run_words run.now) (S.faults shelf.old) (S.faults shelf.new) (role.Spef ∷ script_sources 1 (run_words run.now).scripts) stop) }
 {
     let parasitics = spef(alloc, shelf, run)?;
@@ -362,7 +372,7 @@ fn without_spef<S: Shelf>(
     ensures map { S.holds shelf.new ≡ S.holds shelf.old }
     ensures rising { S.faults shelf.old ≤ S.faults shelf.new }
     ensures value { IfOk result (λ got. (got.0 ≡ no_parasitics) × SayScripts (S.holds shelf.old) (run_words run.now).scripts got.1 × (S.faults shelf.new ≡ S.faults shelf.old)) }
-    ensures kept { IfOk result (λ got. (are_parasitics got.0.nets ≡ true) × All IsScript got.1 × (length got.1 ≡ length run.now.scripts.now)) }
+    ensures kept { IfOk result (λ got. (are_parasitics got.0.nets ≡ true) × All IsScript got.1 × (length got.1 ≡ length run.now.scripts.items)) }
     ensures stop { IfErr result (λ stop. Stops (S.holds shelf.old) (run_words run.now) (S.faults shelf.old) (S.faults shelf.new) (script_sources 1 (run_words run.now).scripts) stop) }
 {
     let scripts = scripts(alloc, shelf, run)?;
@@ -381,7 +391,7 @@ fn last<S: Shelf>(
     ensures map { S.holds shelf.new ≡ S.holds shelf.old }
     ensures rising { S.faults shelf.old ≤ S.faults shelf.new }
     ensures value { IfOk result (λ got. AreLast (S.holds shelf.old) (run_words run.now) got.0 got.1 × (S.faults shelf.new ≡ S.faults shelf.old)) }
-    ensures kept { IfOk result (λ got. (are_parasitics got.0.nets ≡ true) × All IsScript got.1 × (length got.1 ≡ length run.now.scripts.now)) }
+    ensures kept { IfOk result (λ got. (are_parasitics got.0.nets ≡ true) × All IsScript got.1 × (length got.1 ≡ length run.now.scripts.items)) }
     ensures stop { IfErr result (λ stop. Stops (S.holds shelf.old) (run_words run.now) (S.faults shelf.old) (S.faults shelf.new) (last_sources (run_words run.now)) stop) }
 {
     if has_no_spef(run) {
@@ -403,7 +413,7 @@ fn from_sdc<S: Shelf>(
     ensures map { S.holds shelf.new ≡ S.holds shelf.old }
     ensures rising { S.faults shelf.old ≤ S.faults shelf.new }
     ensures value { IfOk result (λ got. AreConstraints (S.holds shelf.old) (run_words run.now) got.0 × AreLast (S.holds shelf.old) (run_words run.now) got.1 got.2 × (S.faults shelf.new ≡ S.faults shelf.old)) }
-    ensures kept { IfOk result (λ got. (are_constraints got.0 ≡ true) × (are_parasitics got.1.nets ≡ true) × All IsScript got.2 × (length got.2 ≡ length run.now.scripts.now)) }
+    ensures kept { IfOk result (λ got. (are_constraints got.0 ≡ true) × (are_parasitics got.1.nets ≡ true) × All IsScript got.2 × (length got.2 ≡ length run.now.scripts.items)) }
     ensures stop { IfErr result (λ stop. Stops (S.holds shelf.old) (run_words run.now) (S.faults shelf.old) (S.faults shelf.new) (role.Sdc ∷ last_sources (run_words run.now)) stop) }
 {
     let constraints = sdc(alloc, shelf, run, units)?;
@@ -527,7 +537,7 @@ fn with_rest<S: Shelf>(
     ensures rising { S.faults shelf.old ≤ S.faults shelf.new }
     ensures value { IfOk result (λ got. AreDocuments (S.holds shelf.old) (run_words run.now) got × (S.faults shelf.new ≡ S.faults shelf.old)) }
     ensures kept { IfOk result AreKept }
-    ensures many { IfOk result (λ got. length got.scripts ≡ length run.now.scripts.now) }
+    ensures many { IfOk result (λ got. length got.scripts ≡ length run.now.scripts.items) }
     ensures stop { IfErr result (λ stop. Stops (S.holds shelf.old) (run_words run.now) (S.faults shelf.old) (S.faults shelf.new) (role.Sdc ∷ last_sources (run_words run.now)) stop) }
 {
     match from_sdc(alloc, shelf, run, &netted.libraries.units) {
@@ -562,7 +572,7 @@ pub fn read_all<S: Shelf>(alloc: Global, shelf: &mut S, run: &Run<'_>) -> Result
     ensures rising { S.faults shelf.old ≤ S.faults shelf.new }
     ensures value { IfOk result (λ got. AreDocuments (S.holds shelf.old) (run_words run.now) got × (S.faults shelf.new ≡ S.faults shelf.old)) }
     ensures kept { IfOk result AreKept }
-    ensures many { IfOk result (λ got. length got.scripts ≡ length run.now.scripts.now) }
+    ensures many { IfOk result (λ got. length got.scripts ≡ length run.now.scripts.items) }
     ensures stop { IfErr result (λ stop. Stops (S.holds shelf.old) (run_words run.now) (S.faults shelf.old) (S.faults shelf.new) (sources (run_words run.now)) stop) }
 {
     let netted = to_netlist(alloc, shelf, run)?;

@@ -1,14 +1,11 @@
-//! A run without its session: the words of its command line, its documents, fetched and read one after the other, and what a refused
-//! run writes.
+//! A run without its session: its documents, fetched and read one after the other, and what a refused run writes.
 #![tactic(auto)]
 
 mod discards;
 mod documents;
 mod ends;
 mod texts;
-mod words;
 
 pub use documents::{Documents, How, Role, Stop, name_of, read_all};
 pub use ends::{End, fault_end, status};
 pub use texts::{design_line, refusal_line, shelf_line, words_line};
-pub use words::{Run, read_words};

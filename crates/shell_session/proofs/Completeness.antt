@@ -1,5 +1,5 @@
 -- Where nothing refuses a run it is answered, or memory is wanting.
-use Rattle.std.proofs.Common.{◌≡◌, ℕ, ◌<◌, ◌≤◌, Bool, true, false, if◌then◌else◌, List, [], ◌∷◌, length, Option, Some, None, Result, Ok, Err, refl, sym, ap, ◌∙◌, subst, inl, inr, arith}
+use Rattle.std.proofs.Common.{◌≡◌, ◌⊎◌, ℕ, ◌<◌, ◌≤◌, Bool, true, false, if◌then◌else◌, List, [], ◌∷◌, length, Option, Some, None, Result, Ok, Err, refl, sym, ap, ◌∙◌, subst, inl, inr, arith}
 use Rattle.std.specs.Prelude.{is_some, is_ok, unwrap_or, IsSomeAnd}
 use Rattle.std.specs.List.{list_any}
 use Rattle.std.proofs.lemmas.Bool.{false≢true}
@@ -11,7 +11,8 @@ use Rattle.sta_text.specs.declared.faults.Wrong.{Wrong}
 use Rattle.sta_text.specs.Faults.{least_from}
 use Rattle.liberty_cells.specs.Faults.{units_of_text}
 use Rattle.session_engine.specs.Soundness.{IsFaultless}
-use Rattle.shell_core.specs.Words.{RunWords, run_of}
+use Rattle.command_words.specs.Asked.{RunWords, Words}
+use Rattle.command_words.specs.Asked.{run as run_asked, generate as generate_asked}
 use Rattle.shell_core.specs.declared.documents.Role.{Role}
 use Rattle.shell_core.specs.declared.documents.Role.TheVariants.{Early, Late, Netlist, Sdc, Spef, Session}
 use Rattle.shell_core.specs.declared.documents.How.{How}
@@ -19,7 +20,7 @@ use Rattle.shell_core.specs.declared.documents.How.TheVariants.{Failed, Absent, 
 use Rattle.shell_core.specs.declared.documents.Documents.{Documents}
 use Rattle.shell_core.specs.Documents.{Docs, sources, name_of, constraint_faults, HasFaults, FirstRefused, FetchFails, ShelfFails, AreDocuments}
 use Rattle.shell_core.specs.Answers.{has_refusal}
-use Rattle.shell_session.specs.Serving.{DesignEnds, DocumentsEnd, RunEnds, Ends, Written, HasText, HasTexts, AreSound, NothingRefuses, IsAnswered}
+use Rattle.shell_session.specs.Serving.{DesignEnds, DocumentsEnd, RunEnds, Written, HasText, HasTexts, AreSound, NothingRefuses, IsAnswered}
 
 some_is : {X : Type 0} (a b : X) → Some a ≡ Some b → a ≡ b
 some_is a b same = ap (λ o. unwrap_or o a) same
@@ -68,7 +69,11 @@ module _ (map : List (List ℕ × List ℕ)) (run : RunWords) where
   missing_not old new (r ∷ roles) role how all quiet (inl here) = fetch_not old new r how all.0 quiet here.1
   missing_not old new (r ∷ roles) role how all quiet (inr behind) = missing_not old new roles role how all.1 quiet behind.1
 
-counted : (status : ℕ) (b : Bool) → status ≡ (if b then 1 else 0) → IsAnswered status
+-- 0, 1, or want of memory
+abbrev IsRunAnswered : ℕ → Type 0
+IsRunAnswered status = (status ≡ 0) ⊎ (status ≡ 1) ⊎ (status ≡ 6)
+
+counted : (status : ℕ) (b : Bool) → status ≡ (if b then 1 else 0) → IsRunAnswered status
 counted status true is = inr (inl is)
 counted status false is = inl is
 
@@ -77,11 +82,11 @@ ok_design (Ok d) other = d
 ok_design (Err x) other = other
 
 -- a design without a fault is answered
-design_answers : (d : Design) (scripts : List Script) (status : ℕ) (text : List ℕ) → IsFaultless d → DesignEnds d scripts status text → IsAnswered status
+design_answers : (d : Design) (scripts : List Script) (status : ℕ) (text : List ℕ) → IsFaultless d → DesignEnds d scripts status text → IsRunAnswered status
 design_answers d scripts status text sound (inl faulty) = absurd (sound faulty.1.0 faulty.1.1)
 design_answers d scripts status text sound (inr answer) = counted status (list_any (λ t. has_refusal t.rows) answer.1.1) answer.1.4
 
-documents_answer : (docs : Documents) (status : ℕ) (text : List ℕ) → AreSound docs → DocumentsEnd docs status text → IsAnswered status
+documents_answer : (docs : Documents) (status : ℕ) (text : List ℕ) → AreSound docs → DocumentsEnd docs status text → IsRunAnswered status
 documents_answer docs status text sound (inl refused) = absurd (false≢true (ap is_ok (sym refused.1.1 ∙ sound.1)))
 documents_answer docs status text sound (inr ended) =
     design_answers ended.0 docs.scripts status text
@@ -89,21 +94,19 @@ documents_answer docs status text sound (inr ended) =
 
 module _ (map : List (List ℕ × List ℕ)) (run : RunWords) (f f' : ℕ) (texts : HasTexts map run (sources run))
     (sound : (docs : Documents) → AreDocuments (Some map) run docs → AreSound docs) (quiet : Rose f f' → ⊥) where
-  run_answers : (status : ℕ) (text : List ℕ) → RunEnds (Some map) f f' run status text → IsAnswered status
+  run_answers : (status : ℕ) (text : List ℕ) → RunEnds (Some map) f f' run status text → IsRunAnswered status
   run_answers status text (inl refused) = absurd (refused_not map run (sources run) refused.1.0 refused.1.1 texts refused.1.2)
   run_answers status text (inr (inl missing)) = absurd (missing_not map run f f' (sources run) missing.1.0 missing.1.1 texts quiet missing.1.2)
   run_answers status text (inr (inr ended)) = documents_answer ended.0 status text (sound ended.0 ended.1) ended.2
 
-  ends_answer : (words : List (List ℕ)) (status : ℕ) (text : List ℕ) → run_of words ≡ Some run → Ends (Some map) f f' words status text → IsAnswered status
-  ends_answer words status text asked (inl unasked) = absurd (false≢true (ap is_some (sym unasked.1 ∙ asked)))
-  ends_answer words status text asked (inr ended) =
-      run_answers status text (subst (λ r. RunEnds (Some map) f f' r status text) (some_is ended.0 run (sym ended.1 ∙ asked)) ended.2)
-
 -- what stands at the sink where nothing refuses
-pub completes : (old new : Option (List ℕ)) (faults faults' : ℕ) (holds : Docs) (f f' : ℕ) (words : List (List ℕ)) (status : ℕ)
-    → Written old new faults faults' holds f f' words status → NothingRefuses holds f f' faults faults' words → IsAnswered status
-completes old new faults faults' holds f f' words status (inl failed) must = absurd (must.7 failed.1)
-completes old new faults faults' holds f f' words status (inr (inl wanting)) must = inr (inr wanting.0)
-completes old new faults faults' holds f f' words status (inr (inr ended)) must =
-    ends_answer must.0 must.1 f f' must.4 must.5 must.6 words status ended.2.0 must.3
-    (subst (λ h. Ends h f f' words status ended.2.0) must.2 ended.2.1)
+pub completes : (old new : Option (List ℕ)) (faults faults' : ℕ) (holds : Docs) (f f' : ℕ) (asked : Option Words) (status : ℕ)
+    → Written old new faults faults' holds f f' asked status → NothingRefuses holds f f' faults faults' asked → IsAnswered asked status
+completes old new faults faults' holds f f' None status ends must = absurd must
+completes old new faults faults' holds f f' (Some (run_asked run)) status (inl failed) must = absurd (must.5 failed.1)
+completes old new faults faults' holds f f' (Some (run_asked run)) status (inr (inl wanting)) must = inr (inr wanting.0)
+completes old new faults faults' holds f f' (Some (run_asked run)) status (inr (inr ended)) must =
+    run_answers must.0 run f f' must.2 must.3 must.4 status ended.2.0 (subst (λ h. RunEnds h f f' run status ended.2.0) must.1 ended.2.1)
+completes old new faults faults' holds f f' (Some (generate_asked g)) status (inl failed) must = absurd (must failed.1)
+completes old new faults faults' holds f f' (Some (generate_asked g)) status (inr (inl wanting)) must = inr wanting.0
+completes old new faults faults' holds f f' (Some (generate_asked g)) status (inr (inr ended)) must = inl ended.2.1.0

@@ -1,5 +1,5 @@
 -- How a run ends, and what stands at the sink then.
-use Rattle.std.proofs.Common.{◌≡◌, ◌⊎◌, ℕ, ◌≤◌, true, false, List, [], Option, Some, None, Result, Ok, Err, refl, sym, ap, ◌∙◌, inl, inr, append-nil}
+use Rattle.std.proofs.Common.{◌≡◌, ◌⊎◌, ℕ, ◌≤◌, true, false, List, [], Option, Some, None, Result, Ok, Err, refl, sym, ap, ◌∙◌, subst, inl, inr, append-nil}
 use Rattle.std.specs.Prelude.{IfOk}
 use Rattle.std.proofs.lemmas.Bool.{false≢true}
 use Rattle.sta_outside.specs.Shelf.{Rose}
@@ -10,7 +10,8 @@ use Rattle.timing_defs.specs.declared.faults.Fault.TheVariants.{Memory as no_roo
 use Rattle.timing_defs.specs.declared.scripts.Script.{Script}
 use Rattle.timing_defs.specs.Checks.{Faulty}
 use Rattle.timing_defs.specs.declared.codes.Code.{Code}
-use Rattle.shell_core.specs.Words.{RunWords, run_of}
+use Rattle.command_words.specs.Asked.{RunWords, GenerateWords, Words}
+use Rattle.command_words.specs.Asked.{run as run_asked, generate as generate_asked}
 use Rattle.shell_core.specs.declared.documents.Role.{Role}
 use Rattle.shell_core.specs.declared.documents.How.{How}
 use Rattle.shell_core.specs.declared.documents.Stop.TheVariants.{Refused, Missing}
@@ -22,7 +23,9 @@ use Rattle.shell_core.specs.Kept.{AreKept}
 use Rattle.design_link.specs.Documents.{AreDocuments as AreLinkable}
 use Rattle.session_engine.specs.Soundness.{IsUnsound}
 use Rattle.shell_core.specs.Answers.{is_wanting}
-use Rattle.shell_session.specs.Serving.{linked_of, DesignEnds, DocumentsEnd, RunEnds, Ends, Written}
+use Rattle.shell_session.specs.Linking.{linked_of}
+use Rattle.shell_session.specs.Generating.{IsSummary}
+use Rattle.shell_session.specs.Serving.{DesignEnds, DocumentsEnd, RunEnds, Ends, Written}
 
 module _ (holds : Docs) (old new : ℕ) (run : RunWords) (text : List ℕ) where
   pub run_refused : (role : Role) (code : Code) (place : ℕ) → Stops holds run old new (sources run) (Refused role code place)
@@ -35,27 +38,32 @@ module _ (holds : Docs) (old new : ℕ) (run : RunWords) (text : List ℕ) where
   pub run_read : (docs : Documents) (status : ℕ) → AreDocuments holds run docs → DocumentsEnd docs status text → RunEnds holds old new run status text
   run_read docs status read ended = inr (inr (docs, read, ended))
 
-  pub ends_unasked : (words : List (List ℕ)) → run_of words ≡ None → text ≡ words_line → Ends holds old new words 2 text
-  ends_unasked words unasked written = inl (refl, unasked, written)
+-- what a server ends with whose words ask for nothing, for a run, or for a generated run
+module _ (holds : Docs) (old new : ℕ) (asked : Option Words) (text : List ℕ) where
+  pub ends_unasked : None ≡ asked → text ≡ words_line → Ends holds old new asked 2 text
+  ends_unasked none written = subst (λ a. Ends holds old new a 2 text) none (refl, written)
 
-  pub ends_asked : (words : List (List ℕ)) (status : ℕ) → run_of words ≡ Some run → RunEnds holds old new run status text → Ends holds old new words status text
-  ends_asked words status asked ended = inr (run, asked, ended)
+  pub ends_run : (run : RunWords) (status : ℕ) → Some (run_asked run) ≡ asked → RunEnds holds old new run status text → Ends holds old new asked status text
+  ends_run run status is ended = subst (λ a. Ends holds old new a status text) is ended
+
+  pub ends_generated : (g : GenerateWords) → Some (generate_asked g) ≡ asked → IsSummary g.number g.gates g.edits text → Ends holds old new asked 0 text
+  ends_generated g is summary = subst (λ a. Ends holds old new a 0 text) is (refl, summary)
 
 appends_nothing : (o : Option (List ℕ)) → Appends o o []
 appends_nothing None = tt
 appends_nothing (Some bytes) = sym (append-nil bytes)
 
-module _ (before after : Option (List ℕ)) (faults faults' : ℕ) (holds : Docs) (old new : ℕ) (words : List (List ℕ)) where
-  pub written_whole : (status : ℕ) (text : List ℕ) → status ≤ 4 → faults' ≡ faults → Ends holds old new words status text → Appends before after text
-      → Written before after faults faults' holds old new words status
+module _ (before after : Option (List ℕ)) (faults faults' : ℕ) (holds : Docs) (old new : ℕ) (asked : Option Words) where
+  pub written_whole : (status : ℕ) (text : List ℕ) → status ≤ 4 → faults' ≡ faults → Ends holds old new asked status text → Appends before after text
+      → Written before after faults faults' holds old new asked status
   written_whole status text low quiet ended appended = inr (inr (low, quiet, (text, ended, appended)))
 
-  pub written_partly : (status : ℕ) (text : List ℕ) → Rose faults faults' → Ends holds old new words status text → AppendsPrefix before after text
-      → Written before after faults faults' holds old new words 5
+  pub written_partly : (status : ℕ) (text : List ℕ) → Rose faults faults' → Ends holds old new asked status text → AppendsPrefix before after text
+      → Written before after faults faults' holds old new asked 5
   written_partly status text rose ended appended = inl (refl, rose, (status, text, ended, appended))
 
-pub written_nothing : (before : Option (List ℕ)) (faults : ℕ) (holds : Docs) (old new : ℕ) (words : List (List ℕ)) → Written before before faults faults holds old new words 6
-written_nothing before faults holds old new words = inr (inl (refl, appends_nothing before, refl))
+pub written_nothing : (before : Option (List ℕ)) (faults : ℕ) (holds : Docs) (old new : ℕ) (asked : Option Words) → Written before before faults faults holds old new asked 6
+written_nothing before faults holds old new asked = inr (inl (refl, appends_nothing before, refl))
 
 -- a fault that is not want of memory has its cause
 caused : (x : Fault) (Cause : Fault → Type 0) → (x ≡ no_room) ⊎ Cause x → is_wanting x ≡ false → Cause x

@@ -1,2 +1,4 @@
 pub mod Each
+pub mod Linking
+pub mod Generating
 pub mod Serving

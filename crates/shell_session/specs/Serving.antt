@@ -1,6 +1,6 @@
 -- What a run of the server ends with: its status, and the bytes that it writes or would have written.
 
-use Rattle.std.specs.Prelude.{◌≡◌, ◌⊎◌, ◌≤◌, ℕ, List, [], ◌∷◌, length, Option, Some, None, Ok, Err, Result, ⊤}
+use Rattle.std.specs.Prelude.{◌≡◌, ◌⊎◌, ◌≤◌, ℕ, List, [], ◌∷◌, length, Option, Some, None, Ok, Err, ⊤}
 use Rattle.sta_outside.specs.Shelf.{held, document_limit, Rose}
 use Rattle.sta_outside.specs.Sink.{Appends, AppendsPrefix}
 use Rattle.timing_defs.specs.declared.edits.Entry.{Entry}
@@ -9,7 +9,6 @@ use Rattle.timing_defs.specs.declared.design.Design.{Design}
 use Rattle.timing_defs.specs.declared.scripts.Script.{Script}
 use Rattle.timing_defs.specs.declared.scripts.Transcript.{Transcript}
 use Rattle.timing_defs.specs.declared.scripts.Totals.{Totals}
-use Rattle.timing_defs.specs.Edits.{linked}
 use Rattle.timing_defs.specs.Checks.{Faulty}
 use Rattle.timing_defs.specs.Output.{journal_text, output_text}
 use Rattle.timing_defs.specs.Reports.{AreTotals}
@@ -19,11 +18,14 @@ use Rattle.eco_journal.specs.Journal.{entries_of}
 use Rattle.session_engine.specs.Soundness.{IsFaultless}
 use Rattle.session_engine.specs.Versions.{Versioned}
 use Rattle.shell_core.specs.Answers.{status_of}
-use Rattle.shell_core.specs.Words.{RunWords, run_of}
+use Rattle.command_words.specs.Asked.{RunWords, GenerateWords, Words}
+use Rattle.command_words.specs.Asked.{run as run_asked, generate as generate_asked}
 use Rattle.shell_core.specs.declared.documents.Role.{Role}
 use Rattle.shell_core.specs.declared.documents.How.{How}
 use Rattle.shell_core.specs.declared.documents.Documents.{Documents}
 use Rattle.shell_core.specs.Documents.{Docs, sources, name_of, HasFaults, FirstRefused, ShelfFails, AreDocuments, words_line, design_line, refusal_line, shelf_line}
+use Rattle.shell_session.specs.Linking.{linked_of}
+use Rattle.shell_session.specs.Generating.{IsSummary}
 
 -- the answer of a run of scripts over a design: the whole output of a journal and transcripts, whose
 -- bytes of the journal are read back as its entries
@@ -50,9 +52,6 @@ DesignEnds d scripts status text =
     ((status ≡ 3) × ((x : Fault) × Faulty d x × (text ≡ design_line x)))
     ⊎ (IsFaultless d × IsAnswer d scripts status text)
 
-abbrev pub linked_of : Documents → Result Design Fault
-linked_of docs = linked docs.early docs.late docs.netlist docs.sdc docs.spef
-
 -- how a run ends whose documents were read: with the fault of linking them, or over their design
 abbrev pub DocumentsEnd : Documents → ℕ → List ℕ → Type 0
 DocumentsEnd docs status text =
@@ -68,19 +67,20 @@ RunEnds holds old new run status text =
     × ((role : Role) × (how : How) × ShelfFails holds run old new (sources run) role how × (text ≡ shelf_line (name_of run role) how)))
     ⊎ ((docs : Documents) × AreDocuments holds run docs × DocumentsEnd docs status text)
 
-abbrev pub Ends : Docs → ℕ → ℕ → List (List ℕ) → ℕ → List ℕ → Type 0
-Ends holds old new words status text =
-    ((status ≡ 2) × (run_of words ≡ None) × (text ≡ words_line))
-    ⊎ ((run : RunWords) × (run_of words ≡ Some run) × RunEnds holds old new run status text)
+-- how the server ends, by what its words ask for
+abbrev pub Ends : Docs → ℕ → ℕ → Option Words → ℕ → List ℕ → Type 0
+Ends holds old new None status text = (status ≡ 2) × (text ≡ words_line)
+Ends holds old new (Some (run_asked run)) status text = RunEnds holds old new run status text
+Ends holds old new (Some (generate_asked asked)) status text = (status ≡ 0) × IsSummary asked.number asked.gates asked.edits text
 
 -- what stands at the sink after a run, by its status: all that the run ends with, a prefix of it
 -- where the sink failed, or nothing for want of memory
-abbrev pub Written : Option (List ℕ) → Option (List ℕ) → ℕ → ℕ → Docs → ℕ → ℕ → List (List ℕ) → ℕ → Type 0
-Written old new faults faults' holds f f' words status =
+abbrev pub Written : Option (List ℕ) → Option (List ℕ) → ℕ → ℕ → Docs → ℕ → ℕ → Option Words → ℕ → Type 0
+Written old new faults faults' holds f f' asked status =
     ((status ≡ 5) × Rose faults faults'
-    × ((meant : ℕ) × (text : List ℕ) × Ends holds f f' words meant text × AppendsPrefix old new text))
+    × ((meant : ℕ) × (text : List ℕ) × Ends holds f f' asked meant text × AppendsPrefix old new text))
     ⊎ ((status ≡ 6) × Appends old new [] × (faults' ≡ faults))
-    ⊎ ((status ≤ 4) × (faults' ≡ faults) × ((text : List ℕ) × Ends holds f f' words status text × Appends old new text))
+    ⊎ ((status ≤ 4) × (faults' ≡ faults) × ((text : List ℕ) × Ends holds f f' asked status text × Appends old new text))
 
 -- a told document within the limit, and without a fault
 abbrev pub HasText : List (List ℕ × List ℕ) → RunWords → Role → Type 0
@@ -95,15 +95,18 @@ HasTexts map run (role ∷ roles) = HasText map run role × HasTexts map run rol
 abbrev pub AreSound : Documents → Type 0
 AreSound docs = (d : Design) × (linked_of docs ≡ Ok d) × IsFaultless d
 
--- where a run has nothing that refuses it: its words ask for it, the shelf tells each document, what
--- they say is sound, and neither the shelf nor the sink failed
-abbrev pub NothingRefuses : Docs → ℕ → ℕ → ℕ → ℕ → List (List ℕ) → Type 0
-NothingRefuses holds f f' faults faults' words =
-    (map : List (List ℕ × List ℕ)) × (run : RunWords)
-    × (holds ≡ Some map) × (run_of words ≡ Some run) × HasTexts map run (sources run)
+-- where nothing refuses what the words ask for: of a run, the shelf tells each document, what they say is sound, and neither
+-- the shelf nor the sink failed; of a generated run, the sink did not
+abbrev pub NothingRefuses : Docs → ℕ → ℕ → ℕ → ℕ → Option Words → Type 0
+NothingRefuses holds f f' faults faults' None = ⊥
+NothingRefuses holds f f' faults faults' (Some (run_asked run)) =
+    (map : List (List ℕ × List ℕ)) × (holds ≡ Some map) × HasTexts map run (sources run)
     × ((docs : Documents) → AreDocuments (Some map) run docs → AreSound docs)
     × (Rose f f' → ⊥) × (Rose faults faults' → ⊥)
+NothingRefuses holds f f' faults faults' (Some (generate_asked asked)) = Rose faults faults' → ⊥
 
 -- it is answered, or memory is wanting
-abbrev pub IsAnswered : ℕ → Type 0
-IsAnswered status = (status ≡ 0) ⊎ (status ≡ 1) ⊎ (status ≡ 6)
+abbrev pub IsAnswered : Option Words → ℕ → Type 0
+IsAnswered None status = ⊥
+IsAnswered (Some (run_asked run)) status = (status ≡ 0) ⊎ (status ≡ 1) ⊎ (status ≡ 6)
+IsAnswered (Some (generate_asked asked)) status = (status ≡ 0) ⊎ (status ≡ 6)

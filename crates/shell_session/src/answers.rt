@@ -24,7 +24,7 @@ use std::thread::Threads;
 use timing_defs::{Fault, Items, Script, Transcript};
 
 /// The number of the first version.
-const FIRST: u64 = 0;
+pub(crate) const FIRST: u64 = 0;
 
 /// The output of sessions that left a version and their transcripts.
 fn output(alloc: Global, last: &Version, transcripts: &Items<Transcript>) -> Result<Vec<u8>, Memory>

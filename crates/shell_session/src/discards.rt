@@ -1,6 +1,7 @@
 //! Values that are given up where a run ends: each is dropped at one place.
 
 use crate::sessions::Ended;
+use command_words::Run;
 use session_engine::Version;
 use timing_defs::{Entry, Fault, Items, Script, Transcript};
 use version_board::{Board, Seat};
@@ -24,3 +25,5 @@ pub(crate) fn discard_entries(_entries: Items<Entry>) {}
 pub(crate) fn discard_scripts(_scripts: Items<Script>) {}
 
 pub(crate) fn discard_fault(_fault: Fault) {}
+
+pub(crate) fn discard_run(_run: Run<'_>) {}

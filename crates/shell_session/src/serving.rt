@@ -1,23 +1,28 @@
 //! The top call: one run of the server.
 
-ghost use Rattle.std.specs.Prelude.{◌≡◌, ◌≤◌, length, map, IfOk};
+ghost use Rattle.std.specs.Prelude.{◌≡◌, ◌≤◌, ◌%◌, length, map, IfOk};
 ghost use Rattle.std.specs.String.{string_bytes};
-ghost use Rattle.shell_core.specs.Words.{run_words};
+ghost use Rattle.command_words.specs.Asked.{run_words};
+ghost use Rattle.command_words.specs.Command.{words_of};
+ghost use Rattle.shell_core.specs.Documents.{words_line};
+ghost use Rattle.shell_session.specs.Generating.{IsSummary};
 ghost use Rattle.shell_session.specs.Serving.{RunEnds, Ends, Written, NothingRefuses, IsAnswered};
 
 use crate::answers::end_of;
-use shell_core::{
-    End, Run, Stop, name_of, read_all, read_words, refusal_line, shelf_line, words_line,
-};
+use crate::discards::discard_run;
+use crate::generating::generated_line;
+use command_words::{Asked, Generate, Run, read_words};
+use shell_core::{End, Stop, name_of, read_all, refusal_line, shelf_line, words_line};
 use sta_outside::{Gate, Shelf, Sink};
 use sta_units::Memory;
 use std::alloc::Global;
 use std::sync::Wait;
 use std::thread::Threads;
 
-/// How a run ended: 0 where all rows are answers, 1 where some row is refused, no or not yet, 2 where
-/// the words ask for no run, 3 where a document or the design has a fault, 4 where the shelf did not
-/// give a document, 5 where the sink failed, 6 for want of memory.
+/// How the server ended: 0 where all rows are answers, 1 where some row is refused, no or not yet, 2 where
+/// the words are no command, 3 where a document or the design has a fault, 4 where the shelf did not
+/// give a document, 5 where the sink failed, 6 for want of memory. A generated run ends with 0, 5 or 6, and
+/// with 6 also where its design or an edit of it was refused.
 pub type Status = u8;
 
 /// How a run ends, by its words.
@@ -31,7 +36,7 @@ fn run_end<H: Threads + Wait + Sync, S: Shelf, G: Gate>(
 ) -> Result<End, Memory>
     requires some { 1 ≤ run.now.workers }
     requires most { run.now.workers ≤ 32 }
-    requires count { (1 ≤ length run.now.scripts.now) × (length run.now.scripts.now ≤ 16) }
+    requires count { (1 ≤ length run.now.scripts.items) × (length run.now.scripts.items ≤ 16) }
     ensures ends { IfOk result (λ end. RunEnds (S.holds shelf.old) (S.faults shelf.old) (S.faults shelf.new) (run_words run.now) end.status end.text.items) }
     ensures kept { S.holds shelf.new ≡ S.holds shelf.old }
     ensures rising { S.faults shelf.old ≤ S.faults shelf.new }
@@ -55,8 +60,34 @@ fn run_end<H: Threads + Wait + Sync, S: Shelf, G: Gate>(
     }
 }
 
-/// How a run ends, and what it is to write.
-#[tactic(auto, using(crate::proofs::EndLemmas::ends_asked, crate::proofs::EndLemmas::ends_unasked))]
+/// How a generated run ends.
+fn generated_end<H: Threads + Wait + Sync, G: Gate>(
+    rt: &H,
+    alloc: Global,
+    asked: Generate,
+    gate: &G,
+) -> Result<End, Memory>
+    requires gates { (4 ≤ asked.gates) × (asked.gates ≤ 40000) × (asked.gates % 4 ≡ 0) }
+    requires edits { (asked.edits ≤ 4000) × (asked.edits % 4 ≡ 0) }
+    ensures ends { IfOk result (λ end. IsSummary asked.number asked.gates asked.edits end.text.items) }
+    ensures status { IfOk result (λ end. end.status ≡ 0) }
+{
+    match generated_line(rt, alloc, asked.number, asked.gates, asked.edits, gate) {
+        Ok(text) => Ok(End { status: 0, text }),
+        Err(Memory) => Err(Memory),
+    }
+}
+
+/// How the server ends that is given no command.
+fn unasked_end(alloc: Global) -> Result<End, Memory>
+    ensures { IfOk result (λ end. (end.status ≡ 2) × (end.text.items ≡ words_line)) }
+{
+    let text = words_line(alloc)?;
+    Ok(End { status: 2, text })
+}
+
+/// How the server ends, by its words, and what it is to write.
+#[tactic(auto, using(crate::proofs::EndLemmas::ends_run, crate::proofs::EndLemmas::ends_generated, crate::proofs::EndLemmas::ends_unasked))]
 fn ending<H: Threads + Wait + Sync, S: Shelf, G: Gate>(
     rt: &H,
     alloc: Global,
@@ -64,21 +95,20 @@ fn ending<H: Threads + Wait + Sync, S: Shelf, G: Gate>(
     shelf: &mut S,
     gate: &G,
 ) -> Result<End, Memory>
-    ensures ends { IfOk result (λ end. Ends (S.holds shelf.old) (S.faults shelf.old) (S.faults shelf.new) (map string_bytes words.now) end.status end.text.items) }
+    ensures ends { IfOk result (λ end. Ends (S.holds shelf.old) (S.faults shelf.old) (S.faults shelf.new) (words_of (map string_bytes words.now)) end.status end.text.items) }
     ensures kept { S.holds shelf.new ≡ S.holds shelf.old }
     ensures rising { S.faults shelf.old ≤ S.faults shelf.new }
     ensures count { IfOk result (λ end. end.status ≤ 3 → S.faults shelf.new ≡ S.faults shelf.old) }
     ensures status { IfOk result (λ end. end.status ≤ 4) }
 {
-    match read_words(words) {
-        None => {
-            let text = words_line(alloc)?;
-            Ok(End { status: 2, text })
+    match read_words(alloc, words)? {
+        None => unasked_end(alloc),
+        Some(Asked::Run(run)) => {
+            let end = run_end(rt, alloc, shelf, &run, gate);
+            discard_run(run);
+            end
         }
-        Some(run) => {
-            let end = run_end(rt, alloc, shelf, &run, gate)?;
-            Ok(end)
-        }
+        Some(Asked::Generate(asked)) => generated_end(rt, alloc, asked, gate),
     }
 }
 
@@ -92,7 +122,7 @@ fn written<H: Threads + Wait + Sync, S: Shelf, K: Sink, G: Gate>(
     out: &mut K,
     gate: &G,
 ) -> Status
-    ensures ends { Written (K.written out.old) (K.written out.new) (K.faults out.old) (K.faults out.new) (S.holds shelf.old) (S.faults shelf.old) (S.faults shelf.new) (map string_bytes words.now) result }
+    ensures ends { Written (K.written out.old) (K.written out.new) (K.faults out.old) (K.faults out.new) (S.holds shelf.old) (S.faults shelf.old) (S.faults shelf.new) (words_of (map string_bytes words.now)) result }
     ensures kept { S.holds shelf.new ≡ S.holds shelf.old }
     ensures rising { S.faults shelf.old ≤ S.faults shelf.new }
     ensures shelf_count { result ≤ 3 → S.faults shelf.new ≡ S.faults shelf.old }
@@ -106,8 +136,9 @@ fn written<H: Threads + Wait + Sync, S: Shelf, K: Sink, G: Gate>(
     }
 }
 
-/// Runs the server once: the words after the program's name ask for a run of documents and 1 to 16
-/// scripts, which are fetched from the shelf and read. A session for each script answers it over the
+/// Runs the server once. The words after the program's name ask for a run of documents and 1 to 16
+/// scripts, which are fetched from the shelf and read, or for a generated run, whose documents and four
+/// scripts are made, and which writes one line of totals. A session for each script answers it over the
 /// design of the documents, all beside each other: each question by the full analysis of the design
 /// after the entries of the journal that its session had seen, each ECO by one entry or its fault. What
 /// the run writes is put into the sink in one piece. Takes the work of its readers, of one full analysis
@@ -121,11 +152,11 @@ pub fn serve<H: Threads + Wait + Sync, S: Shelf, K: Sink, G: Gate>(
     out: &mut K,
     gate: &G,
 ) -> Status
-    ensures ends { Written (K.written out.old) (K.written out.new) (K.faults out.old) (K.faults out.new) (S.holds shelf.old) (S.faults shelf.old) (S.faults shelf.new) (map string_bytes words.now) result }
+    ensures ends { Written (K.written out.old) (K.written out.new) (K.faults out.old) (K.faults out.new) (S.holds shelf.old) (S.faults shelf.old) (S.faults shelf.new) (words_of (map string_bytes words.now)) result }
     ensures kept { S.holds shelf.new ≡ S.holds shelf.old }
     ensures rising { S.faults shelf.old ≤ S.faults shelf.new }
     ensures shelf_count { result ≤ 3 → S.faults shelf.new ≡ S.faults shelf.old }
-    ensures completeness { NothingRefuses (S.holds shelf.old) (S.faults shelf.old) (S.faults shelf.new) (K.faults out.old) (K.faults out.new) (map string_bytes words.now) → IsAnswered result }
+    ensures completeness { NothingRefuses (S.holds shelf.old) (S.faults shelf.old) (S.faults shelf.new) (K.faults out.old) (K.faults out.new) (words_of (map string_bytes words.now)) → IsAnswered (words_of (map string_bytes words.now)) result }
 {
     written(rt, alloc, words, shelf, out, gate)
 }

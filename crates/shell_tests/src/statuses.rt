@@ -29,6 +29,11 @@ const BEHIND: &str =
 
 const RUN: &str = "run a.lib a.lib a.v empty none 1 s1";
 
+/// Words behind `--` are names, whatever they begin with; before it a word with a hyphen is an option, and there is none.
+const DASHES: &str = "run a.lib a.lib a.v empty -- none 1 s1";
+
+const OPTION: &str = "run -v a.lib a.lib a.v empty none 1 s1";
+
 const SLEW: &str = "report_slew u2:Z late rise\n";
 
 const EDITS: &str =
@@ -74,7 +79,7 @@ type Row = (
     &'static str,
 );
 
-const ROWS: [Row; 15] = [
+const ROWS: [Row; 18] = [
     (RUN, NETLIST, SLEW, 0, 1000, 0, ANSWER),
     (RUN, NETLIST, ZZ, 0, 1000, 1, REFUSAL),
     (RUN, NETLIST, "", 0, 1000, 0, SILENCE),
@@ -87,6 +92,9 @@ const ROWS: [Row; 15] = [
     (RUN, TWICE, SLEW, 0, 1000, 3, "fault design E10 out\n"),
     ("", NETLIST, SLEW, 0, 1000, 2, "fault words\n"),
     ("run", NETLIST, SLEW, 0, 1000, 2, "fault words\n"),
+    ("--help", NETLIST, SLEW, 0, 1000, 2, "fault words\n"),
+    (OPTION, NETLIST, SLEW, 0, 1000, 2, "fault words\n"),
+    (DASHES, NETLIST, SLEW, 0, 1000, 0, ANSWER),
     (
         ABSENT,
         NETLIST,

@@ -1,4 +1,4 @@
-//! The static timing server: one run of documents and a script from its command line.
+//! The static timing server: one run of documents and scripts, or one generated run, from its command line.
 #![tactic(auto)]
 
 use shell_session::{Status, serve};

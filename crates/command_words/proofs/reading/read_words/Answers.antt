@@ -8,12 +8,12 @@ use Rattle.command_words.specs.Command.{lizdrog_app}
 use Rattle.command_words.proofs.AppLemmas.{is_free, simple, matched}
 use Rattle.command_words.proofs.reading.read_words.Goals as goal
 
-pub returns-in-Ok : goal.returns-in-Ok
-returns-in-Ok c =
+pub returns-in-Ok-clause-asked : goal.returns-in-Ok-clause-asked
+returns-in-Ok-clause-asked c =
     let app : App = app_of c.in_ok-command.command in
     let words : List Text = map string_bytes c.args.words.now in
     let same : app ≡ lizdrog_app = c.in_ok-command.ensures in
     let parse = c.try_get_matches_from in
     let none : fault_of app words ≡ [] = rw c.in-Ok.is at (parse.ensures.kinds (ap is_simple_and_free same ∙ is_free)) in
     let rows = (rw c.in-Ok.is at parse.ensures.matches) (ap is_simple same ∙ simple) in
-    c.in_ok-asked_of-in-Ok.ensures ∙ matched app words (subcommand_rows_of c.in-Ok.matches) same none rows.1
+    c.in_ok-asked_of-in-Ok.ensures.asked ∙ matched app words (subcommand_rows_of c.in-Ok.matches) same none rows.1

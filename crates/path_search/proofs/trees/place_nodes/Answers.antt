@@ -1,10 +1,9 @@
-use Rattle.path_search.proofs.TreeLaws.{some_under, nodes_step}
+use Rattle.std.proofs.Common.{map, Some, ap, ◌∙◌}
+use Rattle.std.proofs.lemmas.List.{take_all}
+use Rattle.path_search.proofs.TreeLaws.{place_nodes_are}
 use Rattle.path_search.proofs.trees.place_nodes.Goals as goal
 
-pub put_node-requires : goal.put_node-requires
-put_node-requires c =
-    some_under c.args.graph.now c.laws.ensures c.loop-node.nodes.items c.loop-node.node c.loop-node.invariant c.place.result c.place.ensures
-
-pub loop-node-preserved : goal.loop-node-preserved
-loop-node-preserved c =
-    nodes_step c.args.graph.now c.laws.ensures c.loop-node.nodes.items c.loop-node.node c.loop-node.invariant c.put_node.new.nodes.items c.place.result c.place.ensures c.put_node.ensures
+pub returns : goal.returns
+returns c =
+    place_nodes_are c.args.graph.now c.clock_nodes-placed.result.now c.loop-node.nodes c.clock_nodes-placed.ensures
+    (c.loop-node.invariant ∙ ap (map Some) (take_all c.loop-node.node-index c.clock_nodes-placed.result.now c.loop-node-test.false))

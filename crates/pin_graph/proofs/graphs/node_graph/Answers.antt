@@ -17,7 +17,7 @@ places-requires-clause-ports c =
 pub returns : goal.returns
 returns c =
     found_as c.args.store.now c.laws.ensures.numbered c.laws.ensures.linked c.args.pins.now.network c.requires.pins.marked c.args.arcs.now c.requires.arcs
-    (record { ins = c.in_ok-ins.ins; outs = c.in_ok-outs.outs; levels = c.in_ok-levels.levels; places = c.in_ok-places.places })
+    (record { ins = c.in_ok-ins.ins; outs = c.in_ok-outs.outs; levels = c.in_ok-levels.levels; places = c.in_ok-placed.placed.places; order = c.in_ok-placed.placed.order })
     (2 * c.pin_bound-n.result) c.as_slice.result.now c.in_ok-ports.ports c.as_slice-2.result.now c.as_slice-3.result.now
     (ap (λ n. 2 * n) c.pin_bound-n.ensures.bound) c.as_slice.ensures c.in_ok-ports.ensures c.as_slice-2.ensures c.as_slice-3.ensures
-    c.in_ok-ins.ensures c.in_ok-outs.ensures c.in_ok-levels.ensures c.in_ok-places.ensures
+    c.in_ok-ins.ensures c.in_ok-outs.ensures c.in_ok-levels.ensures c.in_ok-placed.ensures.placed c.in_ok-placed.ensures.ordered

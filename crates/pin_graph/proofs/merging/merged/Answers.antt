@@ -1,11 +1,11 @@
 use Rattle.std.proofs.Common.{◌∙◌, length, ap, arith}
 use Rattle.pin_graph.specs.declared.fans.End.TheVariants.{To}
-use Rattle.pin_graph.proofs.FanLaws.{room_there, room_holds}
+use Rattle.pin_graph.proofs.FanLaws.{is_room, room_holds}
 use Rattle.pin_graph.proofs.MergeLaws.{fan_low, so_far_more, so_far_all}
 use Rattle.pin_graph.proofs.merging.merged.Goals as goal
 
-pub at-requires-clause-rising : goal.at-requires-clause-rising
-at-requires-clause-rising c = (room_there To c.args.n c.args.raw.now c.in_ok-fan.fan c.in_ok-fan.ensures c.loop-node.node c.loop-node-test.true).1
+pub at-requires : goal.at-requires
+at-requires c = is_room To c.args.n c.args.raw.now c.in_ok-fan.fan c.in_ok-fan.ensures c.loop-node.node c.loop-node-test.true
 
 pub add_joined-requires : goal.add_joined-requires
 add_joined-requires c =

@@ -1,5 +1,5 @@
 use Rattle.std.proofs.Common.{◌∙◌, subst}
-use Rattle.shell_core.specs.Words.{run_words}
+use Rattle.command_words.specs.Asked.{run_words}
 use Rattle.shell_core.specs.Documents.{AreLast}
 use Rattle.shell_core.proofs.documents.from_sdc.Goals as goal
 

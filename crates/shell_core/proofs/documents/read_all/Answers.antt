@@ -1,6 +1,6 @@
 use Rattle.std.proofs.Common.{◌∷◌, ◌∙◌, subst}
 use Rattle.shell_core.specs.declared.documents.Role.TheVariants.{Sdc}
-use Rattle.shell_core.specs.Words.{run_words}
+use Rattle.command_words.specs.Asked.{run_words}
 use Rattle.shell_core.specs.Documents.{Stops, AreDocuments, last_sources, sources}
 use Rattle.shell_core.proofs.Stopping.{handed_up, stops_rest}
 use Rattle.shell_core.proofs.documents.read_all.Goals as goal

@@ -1,5 +1,5 @@
 use Rattle.std.proofs.Common.{◌≡◌}
-use Rattle.shell_core.specs.Words.{run_words}
+use Rattle.command_words.specs.Asked.{run_words}
 use Rattle.shell_core.specs.Reading.{AreRead}
 use Rattle.shell_core.proofs.documents.scripts.Given as goal
 

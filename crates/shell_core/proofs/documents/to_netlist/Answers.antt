@@ -1,6 +1,6 @@
 use Rattle.std.proofs.Common.{◌∷◌, [], subst}
 use Rattle.shell_core.specs.declared.documents.Role.TheVariants.{Early, Late, Netlist}
-use Rattle.shell_core.specs.Words.{run_words}
+use Rattle.command_words.specs.Asked.{run_words}
 use Rattle.shell_core.specs.Documents.{Stops}
 use Rattle.shell_core.proofs.Stopping.{handed_up, stops_netlist}
 use Rattle.shell_core.proofs.documents.to_netlist.Goals as goal

@@ -1,5 +1,5 @@
 use Rattle.std.proofs.Common.{subst}
-use Rattle.shell_core.specs.Words.{run_words}
+use Rattle.command_words.specs.Asked.{run_words}
 use Rattle.shell_core.specs.Documents.{Stops, sources}
 use Rattle.shell_session.proofs.EndLemmas.{run_refused}
 use Rattle.shell_session.proofs.serving.run_end.Goals as goal

@@ -1,0 +1,5 @@
+pub mod Folds
+pub mod Resizes
+pub mod Journals
+pub mod Scripts
+pub mod GeneratedOrder
