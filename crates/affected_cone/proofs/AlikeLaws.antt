@@ -11,7 +11,7 @@ use Rattle.netlist_store.specs.Numbering.{Stored, IsNumbered}
 use Rattle.level_workers.specs.Mapped.{IsMap}
 use Rattle.pin_graph.specs.Nodes.{node_bound}
 use Rattle.pin_graph.specs.RowTables.{AreRows, AreBackRows}
-use Rattle.pin_graph.proofs.Members.{some_is, first_in, later_in}
+use Rattle.timing_defs.proofs.Members.{some_is, first_in, later_in}
 use Rattle.timing_defs.specs.Netlist.{name_of}
 use Rattle.affected_cone.specs.declared.ends.EndSlacks.{EndSlacks}
 use Rattle.affected_cone.specs.Analysed.{Analysed, IsAnalysis, is_end, ends_of, slack_in, IsEnd}

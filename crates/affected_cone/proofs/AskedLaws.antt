@@ -14,8 +14,8 @@ use Rattle.timing_defs.specs.Tests.{is_endpoint, is_clocked}
 use Rattle.timing_defs.specs.Reports.{unknown_pin, end_fault, endpoint_fault}
 use Rattle.netlist_store.specs.Numbering.{Stored, name_at, number_of, is_number, pin_numbered, IsNumbered}
 use Rattle.pin_graph.specs.Nodes.{node_at, node_bound, node_number, number_at, tran_under}
-use Rattle.pin_graph.proofs.Members.{some_is}
-use Rattle.pin_graph.proofs.PinLaws.{there, told_at, below_bound}
+use Rattle.timing_defs.proofs.Members.{some_is}
+use Rattle.store_pins.proofs.PinLaws.{there, told_at, below_bound}
 use Rattle.pin_graph.proofs.NodeLaws.{under_number, tran_of_number}
 use Rattle.affected_cone.specs.Asked.{IsRefusal, IsNode, IsAskedEnd}
 

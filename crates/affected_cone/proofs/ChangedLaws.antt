@@ -18,7 +18,7 @@ use Rattle.pin_graph.specs.declared.arcs.GraphArc.{GraphArc}
 use Rattle.pin_graph.specs.Nodes.{node_at, node_bound}
 use Rattle.pin_graph.specs.Graphs.{Graphed, IsGraph, fan_at, level_at, of_node}
 use Rattle.pin_graph.specs.Seeds.{AreSeeds}
-use Rattle.pin_graph.proofs.Members.{any_in, any_back, in_map_back}
+use Rattle.timing_defs.proofs.Members.{any_in, any_back, in_map_back}
 use Rattle.pin_graph.proofs.NodeLaws.{has_node, node_below}
 use Rattle.arc_delays.proofs.RangeLaws.{rows_fine}
 use Rattle.arrival_engine.specs.declared.tables.Arrivals.{Arrivals}
@@ -29,6 +29,7 @@ use Rattle.arrival_engine.proofs.UpdateEnds.{edit_of}
 use Rattle.edit_reach.specs.Reach.{is_in, AreBehind}
 use Rattle.required_engine.specs.Updated.{AreThose}
 use Rattle.pessimism_credit.specs.declared.rows.TreeRow.{TreeRow}
+use Rattle.path_search.specs.Trees.{IsClockTree}
 use Rattle.affected_cone.specs.declared.updating.Base.{Base}
 use Rattle.affected_cone.specs.declared.ends.EndSlacks.{EndSlacks}
 use Rattle.affected_cone.specs.Analysed.{IsAnalysis, IsKept}
@@ -123,15 +124,16 @@ changed_told base g touch made num num2 is is2 a are seeds nodes first behind (E
 
 -- an analysis is a base
 pub base_told : (b : Base) (g : Graphed) (arrivals : Arrivals) (backs : List BackRow) (tree : List TreeRow) (ends : List EndSlacks) → b.graph.now ≡ g → b.arrivals.now ≡ arrivals
-    → b.required.now.rows ≡ backs → b.ends.now ≡ ends → IsAnalysis (record { stored = g.stored; rows = arrivals.rows; backs = backs; ends = ends }) → IsKept g arrivals backs tree
+    → b.required.now.rows ≡ backs → b.tree.now ≡ tree → b.ends.now ≡ ends → IsAnalysis (record { stored = g.stored; rows = arrivals.rows; backs = backs; ends = ends }) → IsKept g arrivals backs tree
     → IsBase b
-base_told b g arrivals backs tree ends graph rows required list a kept = record {
+base_told b g arrivals backs tree ends graph rows required trees list a kept = record {
   arrivals =
       subst (λ (x : Graphed). AreArrivals x.stored b.arrivals.now) (sym graph)
       (subst (λ (x : Arrivals). AreArrivals g.stored x) (sym rows)
       (record { rows = a.rows; tables = kept.tables; delays = kept.delays; fine = rows_fine g.stored.design a.fine }));
   backs = rw graph (rw required a.backs);
   backs_fine = rw graph (backs_fine g.stored.design a.fine);
+  tree = subst (λ (x : Graphed). IsClockTree x b.tree.now) (sym graph) (subst (λ (x : List TreeRow). IsClockTree g x) (sym trees) kept.tree);
   ends = rw graph (rw list a.ends);
 }
 

@@ -10,8 +10,8 @@ use Rattle.timing_defs.specs.Tests.{is_endpoint}
 use Rattle.timing_defs.specs.Reports.{endpoints}
 use Rattle.netlist_store.specs.Linked.{IsLinked}
 use Rattle.netlist_store.specs.Numbering.{Stored, name_at, is_number, pin_numbered, IsNumbered}
-use Rattle.pin_graph.proofs.Members.{some_is, in_map, in_map_back, in_filter, passes_in, kept_in, number_in}
-use Rattle.pin_graph.proofs.PinLaws.{HasNumber, pin_of_number, pin_told}
+use Rattle.timing_defs.proofs.Members.{some_is, in_map, in_map_back, in_filter, passes_in, kept_in, number_in}
+use Rattle.store_pins.proofs.PinLaws.{HasNumber, pin_of_number, pin_told}
 use Rattle.affected_cone.specs.Analysed.{is_end, ends_of}
 
 -- an endpoint of the design, and its number

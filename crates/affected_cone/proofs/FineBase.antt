@@ -11,8 +11,8 @@ use Rattle.timing_defs.specs.declared.design.Design.{Design}
 use Rattle.timing_defs.specs.Netlist.{Node, name_of, nodes}
 use Rattle.timing_defs.specs.Range.{is_forward_origin, is_back_origin, is_node_origin, NoOrigin}
 use Rattle.pin_graph.specs.RowTables.{AreBacksFine}
-use Rattle.pin_graph.proofs.Members.{any_in}
-use Rattle.pin_graph.proofs.PinNames.{same_self}
+use Rattle.timing_defs.proofs.Members.{any_in}
+use Rattle.timing_defs.proofs.SameNames.{same_self}
 
 module _ (d : Design) (none : NoOrigin d) where
   node_calm : (node : Node) → Contains (nodes d) node → is_node_origin d node ≡ false

@@ -23,3 +23,5 @@ pub mod RenewedLists
 pub mod RenewedEnds
 pub mod FineBase
 pub mod ChangedLaws
+pub mod TreeKept
+pub mod EndCuts

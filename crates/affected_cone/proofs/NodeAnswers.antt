@@ -19,7 +19,7 @@ use Rattle.timing_defs.specs.Reports.{unknown_pin, at_node, IsAt}
 use Rattle.netlist_store.specs.Numbering.{Stored}
 use Rattle.pin_graph.specs.Nodes.{node_at, node_bound}
 use Rattle.pin_graph.specs.RowTables.{AreRows, AreBackRows}
-use Rattle.pin_graph.proofs.Members.{some_is}
+use Rattle.timing_defs.proofs.Members.{some_is}
 use Rattle.affected_cone.specs.Asked.{IsNode}
 use Rattle.affected_cone.specs.GraphSlacks.{slack_between}
 

@@ -11,7 +11,7 @@ use Rattle.timing_defs.specs.declared.design.Design.{Design}
 use Rattle.timing_defs.specs.Netlist.{Node, name_of, nodes}
 use Rattle.timing_defs.specs.Range.{is_forward_origin, is_back_origin, is_node_origin, NoOrigin}
 use Rattle.pin_graph.specs.RowTables.{AreRowsFine, AreBacksFine}
-use Rattle.pin_graph.proofs.Members.{first_in, later_in}
+use Rattle.timing_defs.proofs.Members.{first_in, later_in}
 
 none_any : {X : Type 0} (p : X → Bool) (xs : List X) → ((x : X) → Contains xs x → p x ≡ false) → list_any p xs ≡ false
 none_any p [] none = refl

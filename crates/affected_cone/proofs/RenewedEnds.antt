@@ -12,8 +12,8 @@ use Rattle.netlist_store.specs.Numbering.{Stored, name_at, is_number, IsNumbered
 use Rattle.netlist_store.specs.Applying.{IsEditOf}
 use Rattle.level_workers.specs.Mapped.{IsMap}
 use Rattle.pin_graph.specs.Graphs.{Graphed, IsGraph}
-use Rattle.pin_graph.proofs.Members.{some_is, in_filter_map_back}
-use Rattle.pin_graph.proofs.PinLaws.{there, below_bound}
+use Rattle.timing_defs.proofs.Members.{some_is, in_filter_map_back}
+use Rattle.store_pins.proofs.PinLaws.{there, below_bound}
 use Rattle.edit_reach.specs.Reach.{is_in, HasSeeds, AreBehind, HasDirty}
 use Rattle.edit_reach.proofs.CleanPins.{IsKeptPin, clean_pin}
 use Rattle.affected_cone.specs.declared.ends.EndSlacks.{EndSlacks}

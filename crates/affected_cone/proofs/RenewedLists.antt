@@ -10,7 +10,7 @@ use Rattle.std.proofs.lemmas.List.Elements.{Contains-append_cases, Contains-appe
 use Rattle.std.proofs.lemmas.List.Sorted.{IsPermutation-sym, IsPermutation-map, Contains-permutation}
 use Rattle.std.proofs.lemmas.Map.Keys.{IsDistinct-tail, IsDistinct-IsPermutation, apart_from_distinct}
 use Rattle.level_workers.specs.Mapped.{IsMap}
-use Rattle.pin_graph.proofs.Members.{some_is, none_in, in_cases, first_in, later_in, any_in, any_back, in_map, in_map_back, in_filter, passes_in, in_filter_map, in_filter_map_back, number_in}
+use Rattle.timing_defs.proofs.Members.{some_is, none_in, in_cases, first_in, later_in, any_in, any_back, in_map, in_map_back, in_filter, passes_in, in_filter_map, in_filter_map_back, number_in}
 use Rattle.edit_reach.specs.Reach.{is_in}
 use Rattle.affected_cone.proofs.MapLaws.{item_of, result_of}
 use Rattle.affected_cone.proofs.RisingLists.{Rises, rises}

@@ -9,7 +9,7 @@ use Rattle.timing_defs.specs.declared.kinds.Kind.TheVariants.{Setup, Hold}
 use Rattle.timing_defs.specs.Paths.{IsSlack}
 use Rattle.netlist_store.specs.Numbering.{Stored, name_at}
 use Rattle.level_workers.specs.Mapped.{IsMap}
-use Rattle.pin_graph.proofs.Members.{some_is, first_in, later_in, passes_in}
+use Rattle.timing_defs.proofs.Members.{some_is, first_in, later_in, passes_in}
 use Rattle.affected_cone.specs.Analysed.{is_end, ends_of, slack_in, IsEnd}
 
 -- the slacks that two searches give are those of the endpoint

@@ -18,9 +18,9 @@ use Rattle.timing_defs.proofs.ListLemmas.{bool_iff}
 use Rattle.netlist_store.specs.Linked.{IsLinked}
 use Rattle.netlist_store.specs.Numbering.{Stored, name_at, number_of, IsNumbered}
 use Rattle.level_workers.specs.Mapped.{IsMap}
-use Rattle.pin_graph.proofs.PinNames.{pins_apart}
-use Rattle.pin_graph.proofs.Members.{some_is, first_in, later_in, in_filter, passes_in, kept_in, any_in, any_back, listed_in}
-use Rattle.pin_graph.proofs.PinLaws.{HasNumber, pin_told}
+use Rattle.store_pins.proofs.PinNames.{pins_apart}
+use Rattle.timing_defs.proofs.Members.{some_is, first_in, later_in, in_filter, passes_in, kept_in, any_in, any_back, listed_in}
+use Rattle.store_pins.proofs.PinLaws.{HasNumber, pin_told}
 use Rattle.affected_cone.specs.declared.ends.EndSlacks.{EndSlacks}
 use Rattle.affected_cone.specs.Analysed.{is_end, ends_of, slack_in, IsEnd}
 use Rattle.affected_cone.specs.Floors.{floored}

@@ -13,7 +13,7 @@ use Rattle.node_rows.specs.declared.pin_wires.Wires.{Wires}
 use Rattle.node_rows.specs.WireTables.{AreWires}
 use Rattle.pin_graph.specs.Nodes.{node_at}
 use Rattle.pin_graph.specs.Graphs.{Graphed, IsGraph}
-use Rattle.pin_graph.proofs.Members.{in_flat_map}
+use Rattle.timing_defs.proofs.Members.{in_flat_map}
 use Rattle.pin_graph.proofs.NodeLaws.{has_node}
 use Rattle.arc_delays.proofs.RangeLaws.{rows_fine, within}
 use Rattle.timing_defs.specs.declared.kinds.Tran.{Tran}

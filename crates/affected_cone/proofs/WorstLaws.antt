@@ -15,7 +15,7 @@ use Rattle.netlist_store.specs.Linked.{IsLinked}
 use Rattle.netlist_store.specs.Numbering.{Stored, name_at, is_number, IsNumbered}
 use Rattle.itertools.specs.Extremes.{IsKLeast}
 use Rattle.level_workers.specs.Mapped.{IsMap}
-use Rattle.pin_graph.proofs.Members.{some_is, first_in, later_in, in_filter_map, in_filter_map_back}
+use Rattle.timing_defs.proofs.Members.{some_is, first_in, later_in, in_filter_map, in_filter_map_back}
 use Rattle.affected_cone.specs.declared.ends.EndSlacks.{EndSlacks}
 use Rattle.affected_cone.specs.Analysed.{is_end, ends_of, slack_in, IsEnd}
 use Rattle.affected_cone.specs.Ranks.{row_with, row_of, rows_of}

@@ -8,3 +8,4 @@ pub mod Known
 pub mod Rising
 pub mod Renewed
 pub mod Updated
+pub mod Cuts

@@ -15,6 +15,7 @@ use crate::found::find_all;
 use crate::totals::totals_of;
 use crate::updating::{Base, find_after};
 use arrival_engine::Arrivals;
+use cow_table::Held;
 use netlist_store::{Store, Touched};
 use pessimism_credit::ClockTree;
 use pin_graph::Graph;
@@ -34,7 +35,7 @@ pub struct Analysis {
     pub(crate) graph: Graph,
     pub(crate) arrivals: Arrivals,
     pub(crate) required: Required,
-    pub(crate) tree: ClockTree,
+    pub(crate) tree: Held<ClockTree>,
     pub(crate) ends: Items<EndSlacks>,
 }
 
@@ -86,7 +87,8 @@ impl Analysis {
     /// touched. Its rows are those of the full analysis of the edited store (`alike`). What the ECO does
     /// not lead to is shared with this analysis: slews and arrivals are evaluated where the ECO touched
     /// something or those before are others, required times where something after them is other, slacks
-    /// where walks lead from what it touched. Each evaluation of a node's arrivals or required times is a
+    /// where walks lead from what it touched, the clock tree where the ECO reaches a node of the clock network or
+    /// changes the network. Each evaluation of a node's arrivals or required times is a
     /// step: at least as many as nodes that the ECO affects forward, at most as many as these and those
     /// that it affects backward. Workers and faults as `full` has them.
     pub fn update<H: Threads + Sync, G: Gate, L>(
@@ -117,6 +119,7 @@ impl Analysis {
             graph: &self.graph,
             arrivals: &self.arrivals,
             required: &self.required,
+            tree: &self.tree,
             ends: self.ends.as_slice(),
         };
         let found = find_after(
@@ -185,7 +188,7 @@ pub fn ask(
         graph: &analysis.graph,
         arrivals: &analysis.arrivals,
         required: &analysis.required,
-        tree: &analysis.tree,
+        tree: analysis.tree.get(),
         ends: analysis.ends.as_slice(),
     };
     answer(alloc, &known, q)

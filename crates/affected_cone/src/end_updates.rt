@@ -1,16 +1,18 @@
 //! The slacks of endpoints after an ECO: those to which the edit leads are searched for, the others keep
 //! theirs.
 
-ghost use Rattle.std.specs.Prelude.{◌≡◌, ◌++◌, true, All, map, IfOk, OnOk};
-ghost use Rattle.std.specs.List.{filter_map};
-ghost use Rattle.std.specs.List.Sorted.{IsNonDecreasingBy, IsPermutation};
+ghost use Rattle.std.specs.Prelude.{◌≡◌, ◌++◌, nat_lt, not, true, All, map, IfOk, OnOk};
+ghost use Rattle.std.specs.List.{position, filter_map};
+ghost use Rattle.std.specs.List.Sorted.{IsNonDecreasingBy, IsPermutation, IsStrictlyIncreasing};
 ghost use Rattle.std.specs.Option.{option_to_list};
 ghost use Rattle.netlist_store.specs.Numbering.{IsNumbered};
 ghost use Rattle.netlist_store.specs.Applying.{IsEditOf};
 ghost use Rattle.level_workers.specs.Mapped.{IsMap};
 ghost use Rattle.edit_reach.specs.Reach.{HasSeeds, AreBehind};
 ghost use Rattle.affected_cone.specs.Analysed.{is_end, ends_of, IsEnd, IsSearch};
-ghost use Rattle.affected_cone.specs.Renewed.{stays, kept_end, end_number, pin_of, AreKeptEnds};
+ghost use Rattle.affected_cone.specs.Cuts.{from_number, begins_with, stays_before, cut_end, IsRisingOf, IsInOrder};
+ghost use Rattle.affected_cone.specs.Renewed.{kept_end, end_number, pin_of, AreKeptEnds};
+ghost use Rattle.affected_cone.specs.Rising.{AreRising};
 
 use crate::ends::{EndSlacks, Search, end_slacks, is_end, slacks_of};
 use edit_reach::dirty_pins;
@@ -22,18 +24,45 @@ use std::alloc::Global;
 use std::thread::Threads;
 use timing_defs::Items;
 
-/// Whether a pin is there, and the edit does not lead to it.
-fn stays(store: &Store, dirty: &IndexSet<u32>, pin: u32) -> bool
-    ensures { result ≡ stays store.now dirty.now.keys pin }
+/// The place of the first of some numbers that is not below another.
+fn first_from(numbers: &[u32], number: u32) -> Option<usize>
+    ensures { result ≡ position (λ n. not (nat_lt n number)) numbers.now }
 {
-    store.has_pin(pin) && !dirty.contains(&pin)
+    numbers.iter().position(|n| !(*n < number))
+}
+
+/// Numbers from the first on that is not below another.
+fn from_number(numbers: &[u32], number: u32) -> &[u32]
+    ensures { result.now ≡ from_number number numbers.now }
+{
+    match first_from(numbers, number) {
+        Some(at) => &numbers[at..],
+        None => &[],
+    }
+}
+
+/// Whether a number is the first of some.
+fn begins_with(numbers: &[u32], number: u32) -> bool
+    ensures { result ≡ begins_with number numbers.now }
+{
+    match numbers {
+        [first, ..] => *first == number,
+        [] => false,
+    }
+}
+
+/// Whether a pin is there, and is not the first of those to which the edit leads, from it on.
+fn stays(store: &Store, rest: &[u32], pin: u32) -> bool
+    ensures { result ≡ stays_before store.now rest.now pin }
+{
+    store.has_pin(pin) && !begins_with(rest, pin)
 }
 
 /// An endpoint, where it keeps its slacks.
-fn kept_end(store: &Store, dirty: &IndexSet<u32>, end: EndSlacks) -> Option<EndSlacks>
-    ensures { result ≡ kept_end store.now dirty.now.keys end }
+fn cut_end(store: &Store, rest: &[u32], end: EndSlacks) -> Option<EndSlacks>
+    ensures { result ≡ cut_end store.now rest.now end }
 {
-    if stays(store, dirty, end.pin) {
+    if stays(store, rest, end.pin) {
         Some(end)
     } else {
         None
@@ -60,18 +89,22 @@ fn add_end(ends: &mut Items<EndSlacks>, end: Option<EndSlacks>) -> Result<(), Me
     }
 }
 
-/// The endpoints that keep their slacks.
+/// The endpoints that keep their slacks: both lists rise, and are gone through once.
 fn kept_ends(
     alloc: Global,
     store: &Store,
-    dirty: &IndexSet<u32>,
+    dirty: &[u32],
     ends: &[EndSlacks],
 ) -> Result<Items<EndSlacks>, Memory>
-    ensures { IfOk result (λ kept. kept ≡ filter_map (kept_end store.now dirty.now.keys) ends.now) }
+    requires dirty { IsStrictlyIncreasing dirty.now }
+    requires ends { AreRising ends.now }
+    ensures { IfOk result (λ kept. kept ≡ filter_map (kept_end store.now dirty.now) ends.now) }
 {
     let mut kept = Items::new(alloc);
+    let mut rest = dirty;
     for end in ends {
-        add_end(&mut kept, kept_end(store, dirty, *end))?;
+        rest = from_number(rest, end.pin);
+        add_end(&mut kept, cut_end(store, rest, *end))?;
     }
     Ok(kept)
 }
@@ -138,26 +171,45 @@ fn add_ends(ends: &mut Items<EndSlacks>, more: &[EndSlacks]) -> Result<(), Memor
     Ok(())
 }
 
-/// Puts endpoints in the order of their numbers.
-fn sort_ends(ends: &mut Vec<EndSlacks>)
+/// Puts endpoints in the order of their numbers, in time of their number where they are a few rising lists one after
+/// another.
+fn sort_ends(ends: &mut Vec<EndSlacks>) -> Result<(), Memory>
     ensures same { IsPermutation ends.old.items ends.new.items }
-    ensures rising { IsNonDecreasingBy pin_of ends.new.items }
+    ensures rising { OnOk result (IsNonDecreasingBy pin_of ends.new.items) }
 {
-    ends.sort_unstable_by_key(
+    ends.sort_by_key(
         |end: &EndSlacks| -> u32
             ensures { result ≡ pin_of end.now }
         { end.pin },
-    );
+    )?;
+    Ok(())
 }
 
 /// Endpoints in the order of their numbers.
-fn in_order(ends: Items<EndSlacks>) -> Items<EndSlacks>
-    ensures same { IsPermutation ends result }
-    ensures rising { IsNonDecreasingBy pin_of result }
+fn in_order(ends: Items<EndSlacks>) -> Result<Items<EndSlacks>, Memory>
+    ensures { IfOk result (IsInOrder ends) }
 {
     let mut ends = ends.into_vec();
-    sort_ends(&mut ends);
-    Items::from_vec(ends)
+    sort_ends(&mut ends)?;
+    Ok(Items::from_vec(ends))
+}
+
+/// Numbers in rising order, each once.
+fn distinct(numbers: Items<u32>) -> Items<u32>
+    ensures { IsRisingOf numbers result }
+{
+    let mut numbers = numbers.into_vec();
+    numbers.sort_unstable();
+    numbers.dedup();
+    Items::from_vec(numbers)
+}
+
+/// Numbers in rising order.
+fn rising(alloc: Global, numbers: &[u32]) -> Result<Items<u32>, Memory>
+    ensures { IfOk result (IsRisingOf numbers.now) }
+{
+    let copy = Items::from_slice(alloc, numbers)?;
+    Ok(distinct(copy))
 }
 
 /// The slacks of all endpoints of an edited store, by those of the base and the pins to which the edit
@@ -177,17 +229,20 @@ fn renewed<H: Threads + Sync>(
 {
     // The base's graph is asked for by the contract alone.
     let _ = base;
-    let mut all = kept_ends(alloc, search.store, dirty, ends)?;
-    let again = ends_among(alloc, search.store, dirty.as_slice())?;
+    let numbers = rising(alloc, dirty.as_slice())?;
+    let pins = numbers.as_slice();
+    let mut all = kept_ends(alloc, search.store, pins, ends)?;
+    let again = ends_among(alloc, search.store, pins)?;
     let found = searched(rt, alloc, search, again.as_slice())?;
     add_ends(&mut all, found.as_slice())?;
-    Ok(in_order(all))
+    let sorted = in_order(all)?;
+    Ok(sorted)
 }
 
 /// The slacks of all endpoints of the store that an ECO made of a base, by those of the base's. `seeds` are
 /// the nodes at which the ECO begins to change paths, and `nodes` these and all behind them. An endpoint is
 /// searched for where one of `nodes` is of it or of another pin of its instance; every other one keeps its
-/// slacks. Takes time of these nodes and searches, and of the number of endpoints.
+/// slacks. Takes time of these nodes and searches, and goes through the list of endpoints once, without a search for each.
 pub(crate) fn ends_after<H: Threads + Sync>(
     rt: &H,
     alloc: Global,

@@ -11,9 +11,10 @@ ghost use Rattle.affected_cone.specs.Analysed.{ends_of, IsEnd, IsSearch};
 ghost use Rattle.affected_cone.specs.Found.{AreArrivals, AreRequired, IsFound};
 
 use crate::ends::{EndSlacks, Search, all_ends, slacks_of};
+use crate::trees::shared_tree;
 use arrival_engine::Arrivals;
+use cow_table::Held;
 use netlist_store::Store;
-use path_search::clock_tree;
 use pessimism_credit::ClockTree;
 use pin_graph::Graph;
 use required_engine::Required;
@@ -28,7 +29,7 @@ use timing_defs::{Fault, Items};
 pub(crate) struct Found {
     pub(crate) arrivals: Arrivals,
     pub(crate) required: Required,
-    pub(crate) tree: ClockTree,
+    pub(crate) tree: Held<ClockTree>,
     pub(crate) ends: Items<EndSlacks>,
 }
 
@@ -45,6 +46,31 @@ fn all_slacks<H: Threads + Sync>(
     slacks_of(rt, alloc, search, ends.as_slice())
 }
 
+/// The slacks of all endpoints, by arrivals and clock tree.
+fn slacks_over<H: Threads + Sync>(
+    rt: &H,
+    alloc: Global,
+    store: &Store,
+    graph: &Graph,
+    arrivals: &Arrivals,
+    tree: &ClockTree,
+) -> Result<Items<EndSlacks>, Memory>
+    requires sound { IsSound store.now.design }
+    requires graph { graph.now.stored ≡ store.now }
+    requires fine { NoOrigin store.now.design }
+    requires arrivals { AreArrivals store.now arrivals.now }
+    requires tree { IsClockTree graph.now tree.now }
+    ensures { IfOk result (IsMap (IsEnd store.now) (ends_of store.now)) }
+{
+    let search = Search {
+        store,
+        graph,
+        arrivals,
+        tree,
+    };
+    all_slacks(rt, alloc, &search)
+}
+
 /// What is found, from arrivals, required times and clock tree on.
 fn with_tree<H: Threads + Sync>(
     rt: &H,
@@ -53,7 +79,7 @@ fn with_tree<H: Threads + Sync>(
     graph: &Graph,
     arrivals: Arrivals,
     required: Required,
-    tree: ClockTree,
+    tree: Held<ClockTree>,
 ) -> Result<Found, Memory>
     requires sound { IsSound store.now.design }
     requires graph { graph.now.stored ≡ store.now }
@@ -63,13 +89,7 @@ fn with_tree<H: Threads + Sync>(
     requires tree { IsClockTree graph.now tree }
     ensures { IfOk result (IsFound store.now graph.now) }
 {
-    let search = Search {
-        store,
-        graph,
-        arrivals: &arrivals,
-        tree: &tree,
-    };
-    let ends = all_slacks(rt, alloc, &search)?;
+    let ends = slacks_over(rt, alloc, store, graph, &arrivals, tree.get())?;
     Ok(Found {
         arrivals,
         required,
@@ -95,7 +115,7 @@ fn with_required<H: Threads + Sync>(
     requires required { AreRequired store.now required.rows }
     ensures { IfOk result (IsFound store.now graph.now) }
 {
-    let tree = clock_tree(alloc, store, graph, &arrivals)?;
+    let tree = shared_tree(alloc, store, graph, &arrivals)?;
     with_tree(rt, alloc, store, graph, arrivals, required, tree)
 }
 

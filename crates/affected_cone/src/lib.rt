@@ -16,6 +16,7 @@ mod graph_slacks;
 mod ranking;
 mod sharing;
 mod totals;
+mod trees;
 mod updating;
 
 pub use analyses::{Analysis, ask};

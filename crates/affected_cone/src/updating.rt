@@ -18,11 +18,12 @@ ghost use Rattle.affected_cone.specs.Updated.{IsBase, IsReach};
 use crate::end_updates::ends_after;
 use crate::ends::{EndSlacks, Search};
 use crate::found::Found;
+use crate::trees::{leaves_network, shared_tree};
 use arrival_engine::Arrivals;
+use cow_table::Held;
 use edit_reach::nodes_behind;
 use indexmap::IndexSet;
 use netlist_store::{Store, Touched};
-use path_search::clock_tree;
 use pessimism_credit::ClockTree;
 use pin_graph::{Graph, seeds};
 use required_engine::Required;
@@ -38,6 +39,7 @@ pub(crate) struct Base<'a> {
     pub(crate) graph: &'a Graph,
     pub(crate) arrivals: &'a Arrivals,
     pub(crate) required: &'a Required,
+    pub(crate) tree: &'a Held<ClockTree>,
     pub(crate) ends: &'a [EndSlacks],
 }
 
@@ -178,6 +180,37 @@ fn ends_renewed<H: Threads + Sync>(
     )
 }
 
+/// The clock tree after an ECO: that of the base where the ECO leaves the clock network and reaches none of its
+/// nodes, else a new one.
+fn tree_after(
+    alloc: Global,
+    base: &Base<'_>,
+    store: &Store,
+    graph: &Graph,
+    touched: &Touched,
+    reach: &Reach,
+    arrivals: &Arrivals,
+) -> Result<Held<ClockTree>, Memory>
+    requires graph { graph.now.stored ≡ store.now }
+    requires range { AreRowsFine store.now.design }
+    requires base { IsBase base.now }
+    requires made { IsEditOf base.now.graph.now.stored (touch_of touched.now) store.now }
+    requires reach { IsReach base.now.graph.now.stored graph.now (touch_of touched.now) reach.now }
+    requires arrivals { AreArrivals store.now arrivals.now }
+    ensures { IfOk result (IsClockTree graph.now) }
+{
+    // What was touched is asked for by the contract alone.
+    let _ = touched;
+    base.graph.laws();
+    graph.laws();
+    base.graph.store().laws();
+    graph.store().laws();
+    if leaves_network(base.graph, graph, reach.nodes.as_slice()) {
+        return base.tree.share();
+    }
+    shared_tree(alloc, store, graph, arrivals)
+}
+
 /// What is found after an ECO, from arrivals, required times and clock tree on.
 fn with_tree<H: Threads + Sync>(
     rt: &H,
@@ -189,7 +222,7 @@ fn with_tree<H: Threads + Sync>(
     reach: &Reach,
     arrivals: Arrivals,
     required: Required,
-    tree: ClockTree,
+    tree: Held<ClockTree>,
 ) -> Result<Found, Memory>
     requires sound { IsSound store.now.design }
     requires graph { graph.now.stored ≡ store.now }
@@ -206,7 +239,7 @@ fn with_tree<H: Threads + Sync>(
         store,
         graph,
         arrivals: &arrivals,
-        tree: &tree,
+        tree: tree.get(),
     };
     let ends = ends_renewed(rt, alloc, base, &search, touched, reach)?;
     Ok(Found {
@@ -240,7 +273,7 @@ fn with_required<H: Threads + Sync>(
     requires required { AreRequired store.now required.rows }
     ensures { IfOk result (IsFound store.now graph.now) }
 {
-    let tree = clock_tree(alloc, store, graph, &arrivals)?;
+    let tree = tree_after(alloc, base, store, graph, touched, reach, &arrivals)?;
     with_tree(
         rt, alloc, base, store, graph, touched, reach, arrivals, required, tree,
     )

@@ -13,7 +13,7 @@ use Rattle.node_rows.specs.Evaluation.{is_wide_along}
 use Rattle.pin_graph.specs.declared.arcs.GraphArc.{GraphArc}
 use Rattle.pin_graph.specs.Nodes.{node_at}
 use Rattle.pin_graph.specs.Graphs.{Graphed, IsArc}
-use Rattle.pin_graph.proofs.Members.{first_in, later_in, in_flat_map}
+use Rattle.timing_defs.proofs.Members.{first_in, later_in, in_flat_map}
 use Rattle.pin_graph.proofs.NodeLaws.{HasNode, has_node}
 use Rattle.arc_delays.specs.Delays.{AreWithin}
 

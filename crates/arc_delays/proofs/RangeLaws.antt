@@ -35,9 +35,9 @@ use Rattle.node_rows.proofs.MergeLaws.{outermost_same, outermost_within}
 use Rattle.pin_graph.specs.Nodes.{node_number}
 use Rattle.pin_graph.specs.Graphs.{Graphed, IsGraph}
 use Rattle.pin_graph.specs.RowTables.{AreRowsFine}
-use Rattle.pin_graph.proofs.Members.{first_in, later_in, none_in, in_cases, any_in, in_map_back, in_flat_map, in_flat_map_back, kept_in}
-use Rattle.pin_graph.proofs.PinNames.{same_self}
-use Rattle.pin_graph.proofs.PinLaws.{pin_told}
+use Rattle.timing_defs.proofs.Members.{first_in, later_in, none_in, in_cases, any_in, in_map_back, in_flat_map, in_flat_map_back, kept_in}
+use Rattle.timing_defs.proofs.SameNames.{same_self}
+use Rattle.store_pins.proofs.PinLaws.{pin_told}
 use Rattle.pin_graph.proofs.JoinLaws.{net_listed}
 use Rattle.pin_graph.proofs.GraphRows.{Stands as IsInGraph, level as graph_level, placed as graph_placed}
 use Rattle.arc_delays.specs.Delays.{AreWithin}

@@ -22,7 +22,7 @@ use Rattle.node_rows.proofs.AlongLaws.{bound_of}
 use Rattle.pin_graph.specs.declared.arcs.GraphArc.{GraphArc}
 use Rattle.pin_graph.specs.Nodes.{node_at, node_bound}
 use Rattle.pin_graph.specs.Graphs.{Graphed, IsGraph, IsArc, fan_at}
-use Rattle.pin_graph.proofs.Members.{first_in, later_in, none_in}
+use Rattle.timing_defs.proofs.Members.{first_in, later_in, none_in}
 use Rattle.pin_graph.proofs.NodeLaws.{node_below, has_node}
 use Rattle.arc_delays.specs.declared.tables.ArcDelay.{ArcDelay}
 use Rattle.arc_delays.specs.Delays.{delay_numbered, delay_in, delay_told, arc_delay, AreDelays, AreDelaysAt, AreInto, AreAllInto, AreWithin}

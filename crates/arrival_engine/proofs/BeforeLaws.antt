@@ -37,8 +37,8 @@ use Rattle.pin_graph.specs.declared.arcs.GraphArc.{GraphArc}
 use Rattle.pin_graph.specs.Nodes.{node_at, node_bound, pin_under, tran_under}
 use Rattle.pin_graph.specs.Graphs.{Graphed, IsGraph, IsArc, fan_at, network_at, kind_between, to_of}
 use Rattle.pin_graph.specs.RowTables.{row_numbered}
-use Rattle.pin_graph.proofs.Members.{some_is, none_in, first_in, later_in, in_cases, in_flat_map}
-use Rattle.pin_graph.proofs.PinLaws.{pin_at_number}
+use Rattle.timing_defs.proofs.Members.{some_is, none_in, first_in, later_in, in_cases, in_flat_map}
+use Rattle.store_pins.proofs.PinLaws.{pin_at_number}
 use Rattle.pin_graph.proofs.NodeLaws.{HasNode, under_number, node_told, node_below, has_node, same_node_at}
 use Rattle.pin_graph.proofs.GraphRows.{Stands, level, placed}
 use Rattle.arc_delays.specs.declared.tables.ArcDelay.{ArcDelay}

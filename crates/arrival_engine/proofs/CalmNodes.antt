@@ -23,7 +23,7 @@ use Rattle.calm_laws.proofs.Forward.{delays_before, stays_fine, stays_near}
 use Rattle.pin_graph.specs.declared.arcs.GraphArc.{GraphArc}
 use Rattle.pin_graph.specs.Nodes.{node_at, node_bound, node_number}
 use Rattle.pin_graph.specs.Graphs.{Graphed, IsGraph, IsArc, kind_between}
-use Rattle.pin_graph.proofs.Members.{some_is}
+use Rattle.timing_defs.proofs.Members.{some_is}
 use Rattle.pin_graph.proofs.NodeLaws.{HasNode, node_told, has_node, same_node_at}
 use Rattle.pin_graph.proofs.GraphRows.{Stands, level, placed}
 use Rattle.arc_delays.specs.declared.tables.ArcDelay.{ArcDelay}

@@ -20,8 +20,8 @@ use Rattle.node_rows.specs.WireTables.{AreWires}
 use Rattle.node_rows.specs.NetTrees.{is_wide_net}
 use Rattle.node_rows.proofs.PinSums.{net_listed}
 use Rattle.node_rows.proofs.FineLaws.{IsCarried}
-use Rattle.pin_graph.proofs.Members.{in_map_back, kept_in}
-use Rattle.pin_graph.proofs.PinLaws.{told_at, there}
+use Rattle.timing_defs.proofs.Members.{in_map_back, kept_in}
+use Rattle.store_pins.proofs.PinLaws.{told_at, there}
 use Rattle.pin_graph.proofs.NodeLaws.{HasNode}
 
 not_not : (b : Bool) → not b ≡ false → b ≡ true

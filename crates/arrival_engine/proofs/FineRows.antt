@@ -19,8 +19,8 @@ use Rattle.timing_defs.specs.Range.{within_some, slew_inputs, fine_slew, arrival
 use Rattle.timing_defs.proofs.RowLaws.{ArePlacedNodes, row_is, first_in, later_in}
 use Rattle.node_rows.specs.Evaluation.{is_wide_in, is_wide, is_row_within}
 use Rattle.node_rows.proofs.FineLaws.{time_told, fine_slew_is, fine_arrival_is, IsFine, IsCarried, fine_more, wide_is_origin, no_origin}
-use Rattle.pin_graph.proofs.Members.{any_in}
-use Rattle.pin_graph.proofs.PinNames.{same_self}
+use Rattle.timing_defs.proofs.Members.{any_in}
+use Rattle.timing_defs.proofs.SameNames.{same_self}
 use Rattle.arrival_engine.specs.Analysed.{IsFineNode}
 
 times_within : (a : ℕ × Tran → Option ℤ) (edges : List (ℕ × Tran)) → ((edge : ℕ × Tran) → Contains edges edge → within_some (a edge) ≡ true)

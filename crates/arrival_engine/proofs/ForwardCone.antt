@@ -27,8 +27,8 @@ use Rattle.timing_defs.specs.Cones.{has_register_arc}
 use Rattle.levelizer.specs.Levels.{greatest}
 use Rattle.pin_graph.specs.RowTables.{row_numbered}
 use Rattle.std.proofs.Math.Nat.{le-max_left, le-max_right}
-use Rattle.pin_graph.proofs.Members.{some_is, none_in, in_cases, in_map, in_map_back, any_in, any_back}
-use Rattle.pin_graph.proofs.PinLaws.{pin_told}
+use Rattle.timing_defs.proofs.Members.{some_is, none_in, in_cases, in_map, in_map_back, any_in, any_back}
+use Rattle.store_pins.proofs.PinLaws.{pin_told}
 use Rattle.pin_graph.proofs.NodeLaws.{HasNode, node_told, node_below, has_node}
 use Rattle.pin_graph.proofs.GraphRows.{Stands, level, placed}
 use Rattle.calm_laws.proofs.QuietNodes.{named_in}

@@ -29,8 +29,8 @@ use Rattle.pin_graph.specs.declared.arcs.GraphArc.{GraphArc}
 use Rattle.pin_graph.specs.Nodes.{node_bound, node_number}
 use Rattle.pin_graph.specs.Graphs.{Graphed, IsGraph, fan_at, level_at}
 use Rattle.pin_graph.specs.RowTables.{AreRows, AreRowsFine, IsRangeFault}
-use Rattle.pin_graph.proofs.Members.{none_in, in_cases, in_map, in_flat_map_back}
-use Rattle.pin_graph.proofs.PinLaws.{there, told_at, pin_told}
+use Rattle.timing_defs.proofs.Members.{none_in, in_cases, in_map, in_flat_map_back}
+use Rattle.store_pins.proofs.PinLaws.{there, told_at, pin_told}
 use Rattle.pin_graph.proofs.NodeLaws.{HasNode, node_told, node_below, has_node}
 use Rattle.arc_delays.specs.declared.tables.ArcDelay.{ArcDelay}
 use Rattle.arc_delays.specs.Delays.{AreInto, AreAllInto, AreWithin}

@@ -26,7 +26,7 @@ use Rattle.pin_graph.specs.Nodes.{node_at, node_bound}
 use Rattle.pin_graph.specs.Seeds.{AreSeeds}
 use Rattle.pin_graph.specs.Graphs.{Graphed, IsGraph, IsArc, fan_at, level_at, of_node}
 use Rattle.pin_graph.specs.RowTables.{row_numbered}
-use Rattle.pin_graph.proofs.Members.{in_map_back, any_in, any_back}
+use Rattle.timing_defs.proofs.Members.{in_map_back, any_in, any_back}
 use Rattle.pin_graph.proofs.NodeLaws.{same_node_at}
 use Rattle.pin_graph.proofs.NodeCounts.{nodes_counted}
 use Rattle.arc_delays.specs.declared.tables.ArcDelay.{ArcDelay}

@@ -25,7 +25,7 @@ use Rattle.pin_graph.specs.declared.arcs.GraphArc.{GraphArc}
 use Rattle.pin_graph.specs.Nodes.{node_at, node_bound, pin_under, tran_under}
 use Rattle.pin_graph.specs.Graphs.{Graphed, IsGraph, fan_at, level_at, of_node}
 use Rattle.pin_graph.specs.RowTables.{row_numbered}
-use Rattle.pin_graph.proofs.Members.{in_map, in_map_back, any_in, any_back}
+use Rattle.timing_defs.proofs.Members.{in_map, in_map_back, any_in, any_back}
 use Rattle.pin_graph.proofs.NodeLaws.{HasNode, has_node, node_below, under_number, tran_of_number}
 use Rattle.arc_delays.specs.declared.tables.ArcDelay.{ArcDelay}
 use Rattle.arrival_engine.specs.Updated.{row_before, froms_of, heads_of, forward_cone, is_moved}

@@ -25,8 +25,8 @@ use Rattle.node_rows.specs.NetTrees.{is_wide_net}
 use Rattle.pin_graph.specs.Nodes.{node_at, node_bound, node_number, pin_under, tran_under}
 use Rattle.pin_graph.specs.Graphs.{Graphed, IsGraph}
 use Rattle.pin_graph.specs.RowTables.{row_numbered, AreRows, AreRowsFine}
-use Rattle.pin_graph.proofs.Members.{in_flat_map_back}
-use Rattle.pin_graph.proofs.PinLaws.{there, told_at, pin_told}
+use Rattle.timing_defs.proofs.Members.{in_flat_map_back}
+use Rattle.store_pins.proofs.PinLaws.{there, told_at, pin_told}
 use Rattle.pin_graph.proofs.NodeLaws.{HasNode, has_node, node_told, node_below}
 use Rattle.arc_delays.specs.declared.tables.ArcDelay.{ArcDelay}
 use Rattle.arc_delays.specs.Delays.{AreDelays, AreDelaysAt, sized_delays}

@@ -7,7 +7,7 @@ use Rattle.netlist_store.specs.Linked.{IsLinked}
 use Rattle.netlist_store.specs.Numbering.{IsNumbered}
 use Rattle.pin_graph.specs.Nodes.{node_number}
 use Rattle.pin_graph.specs.Graphs.{Graphed, IsGraph}
-use Rattle.pin_graph.proofs.PinLaws.{pin_told}
+use Rattle.store_pins.proofs.PinLaws.{pin_told}
 use Rattle.pin_graph.proofs.GraphRows.{Stands, level, placed, low_level}
 use Rattle.calm_laws.proofs.InDesign.{ArePlaces}
 

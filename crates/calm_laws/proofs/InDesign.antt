@@ -19,7 +19,7 @@ use Rattle.timing_defs.proofs.RowLaws.{ArePlacedNodes, AreHighNodes}
 use Rattle.timing_defs.proofs.SameNames.{same_is, same_self}
 use Rattle.timing_defs.proofs.Members.{some_is, none_in, in_map_back, in_flat_map, in_flat_map_back, in_filter, kept_in, passes_in, any_in, any_back, found_in, found_by}
 use Rattle.netlist_store.specs.Linked.{IsLinked}
-use Rattle.node_rows.proofs.PinNames.{pins_apart}
+use Rattle.store_pins.proofs.PinNames.{pins_apart}
 use Rattle.calm_laws.proofs.CellNodes.{tran_is, leads, enters}
 use Rattle.calm_laws.proofs.KnownCells.{owner_within}
 

@@ -15,7 +15,7 @@ use Rattle.timing_defs.proofs.Members.{some_is, found_in, found_by}
 use Rattle.netlist_store.specs.Numbering.{Stored}
 use Rattle.netlist_store.specs.Applying.{IsEditOf}
 use Rattle.netlist_store.proofs.Untouched.{IsLeft, IsFramed}
-use Rattle.node_rows.proofs.PinNames.{pins_apart}
+use Rattle.store_pins.proofs.PinNames.{pins_apart}
 use Rattle.eco_laws.specs.Kept.{IsAlikePin, IsPinKept, names_touched_inst}
 use Rattle.eco_laws.proofs.NetsLeft.{driver_left, net_load_left, wire_delay_left, wire_slew_left, net_wires_within_left}
 use Rattle.eco_laws.proofs.PinsKept.{owner_told}

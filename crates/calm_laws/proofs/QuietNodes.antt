@@ -20,7 +20,7 @@ use Rattle.timing_defs.specs.Paths.{Named, named, node_named, arc_delay, delay_b
 use Rattle.timing_defs.proofs.RowLaws.{ArePlacedNodes, row_is}
 use Rattle.timing_defs.proofs.SameNames.{same_is, same_self}
 use Rattle.timing_defs.proofs.Members.{some_is, any_in, any_back, found_in, found_passes, found_by}
-use Rattle.node_rows.proofs.PinNames.{pins_apart}
+use Rattle.store_pins.proofs.PinNames.{pins_apart}
 use Rattle.netlist_store.specs.Linked.{IsLinked}
 use Rattle.netlist_store.proofs.Untouched.{IsFramed}
 use Rattle.netlist_store.proofs.SeenPins.{Seen, seen, seen_owner}

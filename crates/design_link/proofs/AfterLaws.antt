@@ -25,10 +25,11 @@ use Rattle.design_link.specs.Counts.{large_count}
 use Rattle.design_link.specs.Failing.{rc_that, is_crowded, fails, fails_at, fails_here, least_failing, least_among}
 use Rattle.design_link.specs.Dangling.{dangling_ports, dangling_names}
 use Rattle.design_link.specs.After.{IsMadeOf, net_fault_among, dangling_among, data_fault_among, link_data_fault}
-use Rattle.design_link.proofs.PinNames.{same_is}
-use Rattle.design_link.proofs.PinLaws.{told_at}
-use Rattle.design_link.proofs.Members.{found_passes}
-use Rattle.design_link.proofs.Orders.{least_same, none_least}
+use Rattle.timing_defs.proofs.SameNames.{same_is}
+use Rattle.store_pins.proofs.PinLaws.{told_at}
+use Rattle.timing_defs.proofs.Members.{found_passes}
+use Rattle.store_pins.proofs.DriverLaws.{none_least}
+use Rattle.design_link.proofs.Orders.{least_same}
 use Rattle.design_link.proofs.Lists.{listed_filter}
 use Rattle.design_link.proofs.FailLaws.{where_fails, large_parts, net_all}
 

@@ -15,9 +15,10 @@ use Rattle.timing_defs.specs.Checks.{most}
 use Rattle.netlist_store.specs.Linked.{IsLinked}
 use Rattle.netlist_store.specs.Numbering.{Stored, name_at, number_of, is_number, AreNumbers, IsNumbered}
 use Rattle.design_link.specs.Counts.{names_below, with_name}
-use Rattle.design_link.proofs.PinNames.{same_is, distinct_parts, insts_apart, nets_apart, pins_apart}
-use Rattle.design_link.proofs.Members.{some_is, any_back, in_filter_map, in_filter_map_back, number_in}
-use Rattle.design_link.proofs.PinLaws.{told_at, below_bound, there}
+use Rattle.timing_defs.proofs.SameNames.{same_is}
+use Rattle.store_pins.proofs.PinNames.{distinct_parts, insts_apart, nets_apart, pins_apart}
+use Rattle.timing_defs.proofs.Members.{some_is, any_back, in_filter_map, in_filter_map_back, number_in}
+use Rattle.store_pins.proofs.PinLaws.{told_at, below_bound, there}
 use Rattle.design_link.proofs.Orders.{in_listed}
 use Rattle.design_link.proofs.Lists.{bool_iff, same_names, found_listed}
 

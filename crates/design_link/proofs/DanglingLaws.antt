@@ -20,8 +20,8 @@ use Rattle.timing_defs.specs.Rules.{as_pin, is_clock_name}
 use Rattle.timing_defs.specs.Checks.{port_named, is_port, is_inst, is_pin, is_any, dangling_object}
 use Rattle.netlist_store.specs.Numbering.{Stored, number_of, pin_numbered, IsNumbered}
 use Rattle.design_link.specs.Dangling.{is_there, word_of}
-use Rattle.design_link.proofs.Members.{some_is, in_flat_map_back, in_map_back, found_in}
-use Rattle.design_link.proofs.PinLaws.{told_at}
+use Rattle.timing_defs.proofs.Members.{some_is, in_flat_map_back, in_map_back, found_in}
+use Rattle.store_pins.proofs.PinLaws.{told_at}
 
 -- a pin of a name is first looked for among the ports
 ports_first : (ports : List Port) (rest : List Pin) (name : List ℕ)

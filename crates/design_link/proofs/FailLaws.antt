@@ -25,7 +25,7 @@ use Rattle.design_link.specs.declared.net_tests.NetTest.TheVariants.{TooManyNode
 use Rattle.design_link.specs.Counts.{names_below, large_count}
 use Rattle.design_link.specs.After.{net_fault_among}
 use Rattle.design_link.specs.Failing.{rc_that, is_crowded, fails, least_failing}
-use Rattle.design_link.proofs.PinNames.{same_is}
+use Rattle.timing_defs.proofs.SameNames.{same_is}
 use Rattle.design_link.proofs.Orders.{least_same}
 use Rattle.design_link.proofs.Lists.{same_flips, listed_filter, unlisted_is, found_listed}
 use Rattle.design_link.proofs.CountLaws.{nets_listed}

@@ -28,8 +28,8 @@ use Rattle.netlist_store.specs.Linked.{IsLinked, IsSized}
 use Rattle.timing_defs.specs.Documents.{is_cell, is_library}
 use Rattle.netlist_store.specs.Applying.{IsChecked}
 use Rattle.design_link.specs.Documents.{AreDocuments, agrees_in}
-use Rattle.design_link.proofs.PinNames.{same_is}
-use Rattle.design_link.proofs.Members.{some_is, found_passes}
+use Rattle.timing_defs.proofs.SameNames.{same_is}
+use Rattle.timing_defs.proofs.Members.{some_is, found_passes}
 
 -- the first that is some, item by item
 module _ {X Y : Type 0} (f : X → Option Y) where

@@ -7,7 +7,7 @@ use Rattle.std.specs.Str.{bytes_eq}
 use Rattle.std.proofs.lemmas.Bool.{cases_Bool, false≢true, and_parts, and_from, or_parts, or_cases, or_from, or_left, or_right, not-true, not_from_false, false_from_ne_true}
 use Rattle.timing_defs.specs.Netlist.{is_listed, are_distinct}
 use Rattle.timing_defs.specs.Documents.{differ}
-use Rattle.design_link.proofs.PinNames.{same_is, same_self}
+use Rattle.timing_defs.proofs.SameNames.{same_is, same_self}
 
 pub bool_iff : (a b : Bool) → (a ≡ true → b ≡ true) → (b ≡ true → a ≡ true) → a ≡ b
 bool_iff true b f g = sym (f refl)

@@ -16,9 +16,9 @@ use Rattle.netlist_store.specs.Linked.{IsLinked}
 use Rattle.netlist_store.specs.Numbering.{Stored, name_at, pin_numbered, IsNumbered}
 use Rattle.design_link.specs.Failing.{IsRcOf, rc_that}
 use Rattle.design_link.specs.Nodes.{is_node, HaveSameNodes}
-use Rattle.design_link.proofs.PinNames.{same_is}
-use Rattle.design_link.proofs.Members.{first_in, later_in, found_passes}
-use Rattle.design_link.proofs.PinLaws.{pin_at_number}
+use Rattle.timing_defs.proofs.SameNames.{same_is}
+use Rattle.timing_defs.proofs.Members.{first_in, later_in, found_passes}
+use Rattle.store_pins.proofs.PinLaws.{pin_at_number}
 use Rattle.design_link.proofs.NetPinLaws.{called, ArePinsOn, on_listed}
 use Rattle.design_link.proofs.NodeLaws.{nodes_append, few_nodes}
 

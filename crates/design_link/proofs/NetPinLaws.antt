@@ -1,25 +1,24 @@
 -- The pins on a net by their numbers, and those that drive it.
 
-use Rattle.std.proofs.Common.{◌≡◌, ℕ, ◌+◌, ◌<◌, ◌≤◌, Bool, true, false, not, cond, List, [], ◌∷◌, map, filter, length, get_or, take, Option, None, Some, refl, sym, ap, subst, ◌∙◌, inl, inr, arith, lt-ltb}
-use Rattle.std.specs.Prelude.{find, is_some, nat_eq, nat_lt, option_and_then, option_map, ◌&&◌, if◌then◌else◌, All, Contains, count_by}
+use Rattle.std.proofs.Common.{◌≡◌, ℕ, ◌+◌, ◌<◌, ◌≤◌, Bool, true, false, not, cond, List, [], ◌∷◌, map, filter, length, get_or, take, Option, None, Some, refl, sym, ap, ◌∙◌, inl, inr, arith}
+use Rattle.std.specs.Prelude.{is_some, nat_eq, nat_lt, option_and_then, option_map, ◌&&◌, if◌then◌else◌, All, Contains, count_by}
 use Rattle.std.specs.Option.{option_map_or, unwrap_or}
 use Rattle.std.specs.Str.{bytes_eq}
-use Rattle.std.proofs.lemmas.Bool.{cases_Bool, cases_lt, false≢true, and_parts, and_from, eqb-true, eq-eqb, not_from_false, false_from_ne_true}
-use Rattle.std.proofs.lemmas.List.{take_more, length-map, length-append, get_or_default}
+use Rattle.std.proofs.lemmas.Bool.{false≢true, and_parts, and_from, eq-eqb, not_from_false, false_from_ne_true}
+use Rattle.std.proofs.lemmas.List.{take_more, length-map, length-append}
 use Rattle.std.proofs.lemmas.List.Elements.{filter-append, All-contains}
 use Rattle.std.proofs.lemmas.List.Sums.{sum_by-cons}
-use Rattle.timing_defs.specs.declared.faults.Fault.TheVariants.{TooLarge, ManyDrivers}
-use Rattle.timing_defs.specs.declared.faults.Large.{Large}
 use Rattle.timing_defs.specs.declared.design.Design.{Design}
 use Rattle.timing_defs.specs.Netlist.{Pin, name_of, pins, net_of, is_on, is_driver, drivers, driver, is_listed, are_distinct}
-use Rattle.timing_defs.specs.Checks.{large, many_drivers, first_of_two, net_fault}
 use Rattle.netlist_store.specs.Linked.{IsLinked}
 use Rattle.netlist_store.specs.Numbering.{Stored, name_at, number_of, is_number, pin_numbered, net_number, is_on_number, IsNumbered}
-use Rattle.design_link.specs.Nodes.{drives_at}
-use Rattle.design_link.proofs.PinNames.{same_is, same_self, pins_apart}
-use Rattle.design_link.proofs.Members.{some_is, first_in, later_in, in_cases, none_in, in_map, in_map_back, in_filter, passes_in, kept_in}
-use Rattle.design_link.proofs.PinLaws.{HasNumber, told_at, there, pin_told, pin_of_number}
-use Rattle.design_link.proofs.Orders.{none_least, in_listed, listed_in}
+use Rattle.store_pins.specs.Drivers.{drives_at}
+use Rattle.timing_defs.proofs.SameNames.{same_self}
+use Rattle.store_pins.proofs.PinNames.{pins_apart}
+use Rattle.timing_defs.proofs.Members.{some_is, first_in, later_in, in_cases, none_in, in_map, in_map_back, in_filter, passes_in, kept_in}
+use Rattle.store_pins.proofs.PinLaws.{HasNumber, told_at, there, pin_told, pin_of_number}
+use Rattle.store_pins.proofs.DriverLaws.{on_net, on_at}
+use Rattle.design_link.proofs.Orders.{in_listed, listed_in}
 use Rattle.design_link.proofs.Lists.{bool_iff, same_names, distinct_filter}
 
 -- the name of a pin by its number
@@ -30,17 +29,6 @@ called s n = unwrap_or (name_at s.pins n) []
 counted_cons : (n x : ℕ) (xs : List ℕ) → count_by (nat_eq n) (x ∷ xs) ≡ cond (nat_eq n x) 1 0 + count_by (nat_eq n) xs
 counted_cons n x xs = sum_by-cons (λ y. cond (nat_eq n y) 1 0) x xs
 
-pub counted_in : (n : ℕ) (xs : List ℕ) → count_by (nat_eq n) xs ≡ 1 → Contains xs n
-counted_in n [] e = absurd (omega arith)
-counted_in n (x ∷ xs) e =
-    let parts = counted_cons n x xs in
-    elim (cases_Bool (nat_eq n x)) [
-      | inl h ↦ subst (λ (m : ℕ). Contains (x ∷ xs) m) (sym (eqb-true n x h)) (first_in x xs)
-      | inr h ↦
-          let none : cond {A = ℕ} (nat_eq n x) 1 0 ≡ 0 = rw h refl in
-          later_in x xs n (counted_in n xs (omega arith))
-    ]
-
 in_counted : (n : ℕ) (xs : List ℕ) → Contains xs n → 1 ≤ count_by (nat_eq n) xs
 in_counted n [] c = absurd (none_in n c)
 in_counted n (x ∷ xs) c =
@@ -49,10 +37,6 @@ in_counted n (x ∷ xs) c =
       | inl same ↦ let one : cond {A = ℕ} (nat_eq n x) 1 0 ≡ 1 = rw (eq-eqb n x (sym same)) refl in omega arith
       | inr d ↦ let more = in_counted n xs d in omega arith
     ]
-
-pub on_all : (s : Stored) (net : ℕ) (items : List ℕ) → ((pin : ℕ) → count_by (nat_eq pin) items ≡ (if is_on_number s net pin then 1 else 0))
-    → (pin : ℕ) → is_on_number s net pin ≡ true → Contains items pin
-on_all s net items counts pin on = counted_in pin items (counts pin ∙ ap (λ b. if b then 1 else 0) on)
 
 at_most_one : (b : Bool) (n : ℕ) → n ≡ (if b then 1 else 0) → n ≤ 1
 at_most_one true n e = omega arith
@@ -83,15 +67,6 @@ module _ (s : Stored) (num : IsNumbered s) where
           let part = counted_cons m.item x xs in
           let one : cond {A = ℕ} (nat_eq m.item x) 1 0 ≡ 1 = rw (eq-eqb m.item x same) refl in
           omega arith
-
--- a pin on a net
-pub on_net : (net : List ℕ) (o : Option (List ℕ)) → option_map_or (bytes_eq net) o false ≡ true → o ≡ Some net
-on_net net None e = absurd (false≢true e)
-on_net net (Some n) e = ap Some (sym (same_is net n e))
-
-pub on_at : (a : ℕ) (o : Option ℕ) → option_map_or (nat_eq a) o false ≡ true → o ≡ Some a
-on_at a None e = absurd (false≢true e)
-on_at a (Some b) e = ap Some (sym (eqb-true a b e))
 
 -- the pin of a number on a net
 pub record IsPinOn (s : Stored) (name : List ℕ) (n : ℕ) : Type 0 where
@@ -190,10 +165,6 @@ module _ (s : Stored) (num : IsNumbered s) (linked : IsLinked s.design) where
         ∙ length-map (filter (λ pin. test pin && is_on name pin) (pins s.design)) name_of
 
 -- counting the pins that drive
-pub drives_told : (o : Option Pin) (b : Bool) → option_map is_driver o ≡ Some b → b ≡ option_map_or is_driver o false
-drives_told None b e = absurd (cc)
-drives_told (Some p) b e = sym (some_is e)
-
 pub driving_more : (s : Stored) (items : List ℕ) (i count count2 : ℕ) → i < length items
     → count ≡ length (filter (drives_at s) (take i items)) → count2 ≡ count + (if drives_at s (get_or items i 0) then 1 else 0)
     → count2 ≡ length (filter (drives_at s) (take (i + 1) items))
@@ -217,78 +188,6 @@ module _ (s : Stored) (num : IsNumbered s) (linked : IsLinked s.design) where
       let here = there (name_at s.nets net) e in
       ap (option_map (λ name. length (drivers s.design name))) here.1
       ∙ ap Some (sym (had ∙ on_counted s num linked net here.0 items here.1 on is_driver))
-
--- the driver of a net of which there is one at most
-fault_parts : (a : Option Large) (b : Option (List ℕ)) → first_of_two (option_map TooLarge a) (option_map ManyDrivers b) ≡ None → b ≡ None
-fault_parts None None e = refl
-fault_parts None (Some n) e = absurd (cc)
-fault_parts (Some l) b e = absurd (cc)
-
-short_none : {X : Type 0} (xs : List X) (x : X) → length xs ≤ 0 → Contains xs x → ⊥
-short_none xs x l c = let low = c.1 in omega arith
-
-module _ {X : Type 0} (t : X → Bool) where
-  only_one : (xs : List X) (x : X) → length (filter t xs) ≤ 1 → Contains xs x → t x ≡ true → find t xs ≡ Some x
-  only_one [] x l c e = absurd (none_in x c)
-  only_one (y ∷ ys) x l c e = elim (cases_Bool (t y)) [
-    | inl h ↦
-        let long : length (y ∷ filter t ys) ≤ 1 = rw h at l in
-        elim (in_cases y ys x c) [
-          | inl same ↦ rw h (ap Some same)
-          | inr d ↦ absurd (short_none (filter t ys) x (omega arith) (in_filter t ys x d e))
-        ]
-    | inr h ↦
-        let long : length (filter t ys) ≤ 1 = rw h at l in
-        elim (in_cases y ys x c) [
-          | inl same ↦ absurd (false≢true (sym h ∙ ap t same ∙ e))
-          | inr d ↦ rw h (only_one ys x long d e)
-        ]
-  ]
-
-  none_finds : (xs : List X) → ((x : X) → Contains xs x → t x ≡ false) → find t xs ≡ None
-  none_finds [] h = refl
-  none_finds (x ∷ xs) h = let e = h x (first_in x xs) in rw e (none_finds xs (λ y c. h y (later_in x xs y c)))
-
-module _ (s : Stored) (num : IsNumbered s) (linked : IsLinked s.design) where
-  few_drivers : net_fault s.design ≡ None → (net : List ℕ) → is_listed s.design.nets net ≡ true → length (drivers s.design net) ≤ 1
-  few_drivers fault net e = elim (cases_lt 1 (length (drivers s.design net))) [
-    | inl many ↦
-        let none = none_least (filter (λ n. nat_lt 1 (length (drivers s.design n))) s.design.nets) (fault_parts (large s.design) (many_drivers s.design) fault) in
-        let member = in_filter (λ n. nat_lt 1 (length (drivers s.design n))) s.design.nets net (listed_in s.design.nets net e) (lt-ltb 1 (length (drivers s.design net)) many) in
-        absurd (none_in net (subst (λ (xs : List (List ℕ)). Contains xs net) none member))
-    | inr few ↦ few
-  ]
-
-  pub driver_found : net_fault s.design ≡ None → (net pin : ℕ) (items : List ℕ) → is_number s.nets net ≡ true → ArePinsOn s net items → Contains items pin
-      → option_map is_driver (pin_numbered s pin) ≡ Some true → pin_numbered s pin ≡ option_and_then (driver s.design) (name_at s.nets net)
-  driver_found fault net pin items e on c drives =
-      let here = there (name_at s.nets net) e in
-      let r = is_pin_on s num linked net pin here.0 here.1 (on.on pin c) in
-      let is : is_driver r.pin ≡ true = some_is (sym (ap (option_map is_driver) r.has.pin) ∙ drives) in
-      let listed : is_listed s.design.nets here.0 ≡ true = sym (num.net_names here.0) ∙ ap is_some (num.nets.distinct net here.0 here.1) in
-      let passes = and_from (is_driver r.pin) (is_on here.0 r.pin) is (ap (λ o. option_map_or (bytes_eq here.0) o false) r.on ∙ same_self here.0) in
-      r.has.pin
-      ∙ sym (ap (option_and_then (driver s.design)) here.1
-      ∙ only_one (λ pin. is_driver pin && is_on here.0 pin) (pins s.design) r.pin (few_drivers fault here.0 listed) r.has.within passes)
-
-  pub driver_missing : (net : ℕ) (items : List ℕ) → is_number s.nets net ≡ true → ArePinsOn s net items
-      → ((k : ℕ) → k < length items → option_map is_driver (pin_numbered s (get_or items k 0)) ≡ Some false) → None ≡ option_and_then (driver s.design) (name_at s.nets net)
-  driver_missing net items e on none =
-      let here = there (name_at s.nets net) e in
-      sym (ap (option_and_then (driver s.design)) here.1 ∙ none_finds (λ pin. is_driver pin && is_on here.0 pin) (pins s.design) (each here.0 here.1))
-    where
-      each : (name : List ℕ) → name_at s.nets net ≡ Some name → (p : Pin) → Contains (pins s.design) p → (is_driver p && is_on name p) ≡ false
-      each name here p c = false_from_ne_true (is_driver p && is_on name p) (twice p c)
-        where
-          twice : (q : Pin) → Contains (pins s.design) q → (is_driver q && is_on name q) ≡ true → ⊥
-          twice q d h =
-              let parts = and_parts (is_driver q) (is_on name q) h in
-              let n = pin_told s num linked q d in
-              let member = on.all n.0 (pin_is_on s num linked net n.0 name q here n.1 (on_net name (net_of q) parts.1)) in
-              let at : get_or items member.0 0 ≡ n.0 = get_or_default items member.0 0 n.0 member.1 ∙ member.2 in
-              let f : option_map is_driver (pin_numbered s n.0) ≡ Some false = ap (λ m. option_map is_driver (pin_numbered s m)) (sym at) ∙ none member.0 member.1 in
-              let g : option_map is_driver (pin_numbered s n.0) ≡ Some true = ap (option_map is_driver) n.1.pin ∙ ap Some parts.0 in
-              false≢true (some_is (sym f ∙ g))
 
 -- more than one driver
 pub crowded_is : (d : Design) (o : Option (List ℕ)) (count : ℕ) → option_map (λ name. length (drivers d name)) o ≡ Some count

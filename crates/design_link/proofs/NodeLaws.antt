@@ -18,7 +18,7 @@ use Rattle.timing_defs.specs.Documents.{differ}
 use Rattle.rc_tree.specs.Numbering.{node_at, AreApart}
 use Rattle.rc_tree.proofs.Listing.{joined, pin_added, inner_added, apart}
 use Rattle.design_link.specs.Nodes.{is_node, HaveSameNodes}
-use Rattle.design_link.proofs.PinNames.{same_is, same_self}
+use Rattle.timing_defs.proofs.SameNames.{same_is, same_self}
 use Rattle.design_link.proofs.Lists.{same_length}
 
 -- nodes that are the same

@@ -1,7 +1,7 @@
 -- The least of some names, by bytes.
 
 use Rattle.std.proofs.Common.{◌≡◌, ◌⊎◌, ℕ, ◌+◌, ◌<◌, true, false, List, [], ◌∷◌, length, get_or, Option, None, Some, refl, sym, ap, subst, ◌∙◌, inl, inr, arith, lt-ltb}
-use Rattle.std.specs.Prelude.{is_some, if◌then◌else◌, Contains}
+use Rattle.std.specs.Prelude.{if◌then◌else◌, Contains}
 use Rattle.std.specs.declared.cmp.Ordering.{Ordering}
 use Rattle.std.specs.declared.cmp.Ordering.TheVariants.{Less, Equal, Greater}
 use Rattle.std.specs.Ordering.{ordering_reverse, is_lt, is_gt, nat_cmp}
@@ -16,8 +16,9 @@ use Rattle.std.proofs.lemmas.List.{get_or_default}
 use Rattle.std.proofs.lemmas.List.Elements.{Contains-get_or}
 use Rattle.timing_defs.specs.Netlist.{is_listed}
 use Rattle.timing_defs.specs.Checks.{is_before, least_from, least}
-use Rattle.design_link.proofs.PinNames.{same_is, same_self}
-use Rattle.design_link.proofs.Members.{first_in, later_in, in_cases, none_in, any_in, any_back}
+use Rattle.timing_defs.proofs.SameNames.{same_is, same_self}
+use Rattle.timing_defs.proofs.Members.{first_in, later_in, in_cases, none_in, any_in, any_back}
+use Rattle.store_pins.proofs.DriverLaws.{none_least}
 
 -- names in order
 total : IsTotalOrder (slice_cmp nat_cmp)
@@ -134,14 +135,6 @@ least_nothing (x ∷ xs) f = absurd (f x (first_in x xs))
 pub record IsLeast (names : List (List ℕ)) (a : List ℕ) : Type 0 where
   pub member : Contains names a
   pub low : (x : List ℕ) → Contains names x → is_before x a ≡ false
-
-least_some : (a : List ℕ) (xs : List (List ℕ)) → is_some (least_from (Some a) xs) ≡ true
-least_some a [] = refl
-least_some a (x ∷ xs) = elim (cases_Bool (is_before x a)) [ inl h ↦ rw h (least_some x xs) | inr h ↦ rw h (least_some a xs) ]
-
-pub none_least : (xs : List (List ℕ)) → least xs ≡ None → xs ≡ []
-none_least [] e = refl
-none_least (x ∷ xs) e = absurd (false≢true (sym (ap is_some e) ∙ least_some x xs))
 
 pub record IsLeastFrom (b : List ℕ) (xs : List (List ℕ)) (a : List ℕ) : Type 0 where
   pub member : (b ≡ a) ⊎ Contains xs a

@@ -20,11 +20,12 @@ use Rattle.timing_defs.specs.Checks.{named_nodes, is_pin_of, has_resistor, pins_
 use Rattle.netlist_store.specs.Linked.{IsLinked}
 use Rattle.netlist_store.specs.Numbering.{Stored, name_at, number_of, pin_numbered, is_on_number, IsNumbered}
 use Rattle.design_link.specs.Nodes.{is_node, HaveSameNodes}
-use Rattle.design_link.proofs.PinNames.{same_self}
-use Rattle.design_link.proofs.Members.{some_is, first_in, later_in, in_filter, passes_in, kept_in}
-use Rattle.design_link.proofs.PinLaws.{HasNumber, told_at, there, pin_told, pin_of_number}
+use Rattle.timing_defs.proofs.SameNames.{same_self}
+use Rattle.timing_defs.proofs.Members.{some_is, first_in, later_in, in_filter, passes_in, kept_in}
+use Rattle.store_pins.proofs.PinLaws.{HasNumber, told_at, there, pin_told, pin_of_number}
 use Rattle.design_link.proofs.Lists.{bool_iff}
-use Rattle.design_link.proofs.NetPinLaws.{ArePinsOn, is_pin_on, pin_is_on, on_net}
+use Rattle.design_link.proofs.NetPinLaws.{ArePinsOn, is_pin_on, pin_is_on}
+use Rattle.store_pins.proofs.DriverLaws.{on_net}
 use Rattle.design_link.proofs.NodeLaws.{node_is, node_self}
 use Rattle.design_link.proofs.NetNodeLaws.{pin_node, node_at_number}
 

@@ -22,7 +22,7 @@ use Rattle.rc_tree.specs.declared.faults.RcFault.TheVariants.{Loop, Unreached, T
 use Rattle.rc_tree.specs.Trees.{is_amount, is_listed_pin, is_too_large, is_out_of_range, rc_fault, IsFaultOf, IsMeasured}
 use Rattle.rc_tree.proofs.Routes.{all_append, all_more}
 use Rattle.design_link.specs.Rooted.{bare, bare_pin, bare_pins, is_rooted, rooted_by}
-use Rattle.design_link.proofs.PinNames.{same_self}
+use Rattle.timing_defs.proofs.SameNames.{same_self}
 
 -- amounts
 amount_is : (x : ℤ) → is_told_amount x ≡ true → is_amount x ≡ true

@@ -15,9 +15,9 @@ use Rattle.timing_defs.specs.Documents.{is_net_rc}
 use Rattle.netlist_store.specs.Numbering.{Stored, name_at, pin_numbered, IsNumbered}
 use Rattle.design_link.specs.Failing.{IsRcOf}
 use Rattle.design_link.specs.Rooted.{is_rooted}
-use Rattle.design_link.proofs.PinNames.{same_is}
-use Rattle.design_link.proofs.Members.{found_in, found_passes, all_in}
-use Rattle.design_link.proofs.PinLaws.{there}
+use Rattle.timing_defs.proofs.SameNames.{same_is}
+use Rattle.timing_defs.proofs.Members.{found_in, found_passes, all_in}
+use Rattle.store_pins.proofs.PinLaws.{there}
 use Rattle.design_link.proofs.NetNodeLaws.{rc_net}
 
 module _ (s : Stored) (num : IsNumbered s) (linked : IsLinked s.design) where

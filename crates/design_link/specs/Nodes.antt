@@ -1,13 +1,10 @@
 -- Sets of nodes of a net, and what is read of its pins.
 
-use Rattle.std.specs.Prelude.{ℕ, ◌≡◌, Bool, false, List, ◌++◌, map}
+use Rattle.std.specs.Prelude.{◌≡◌, Bool, List, ◌++◌, map}
 use Rattle.std.specs.List.{list_any}
-use Rattle.std.specs.Option.{option_map_or}
 use Rattle.timing_defs.specs.declared.parasitics.RcNode.{RcNode}
 use Rattle.timing_defs.specs.declared.parasitics.RcNode.TheVariants.{Pin as rc_pin, Inner as rc_inner}
 use Rattle.timing_defs.specs.Wires.{same_rc}
-use Rattle.timing_defs.specs.Netlist.{is_driver}
-use Rattle.netlist_store.specs.Numbering.{Stored, pin_numbered}
 use Rattle.design_link.specs.declared.node_sets.NodeSet.{NodeSet}
 
 abbrev pub is_node : List RcNode → RcNode → Bool
@@ -20,7 +17,3 @@ HaveSameNodes xs ys = (node : RcNode) → is_node xs node ≡ is_node ys node
 -- the nodes of a set: pins, then inner nodes
 abbrev pub nodes_in : NodeSet → List RcNode
 nodes_in set = map rc_pin set.pins.keys ++ map rc_inner set.inners.keys
-
--- whether a number is that of a pin that drives
-abbrev pub drives_at : Stored → ℕ → Bool
-drives_at s pin = option_map_or is_driver (pin_numbered s pin) false

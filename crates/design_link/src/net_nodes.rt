@@ -8,11 +8,11 @@ ghost use Rattle.netlist_store.specs.Numbering.{name_at, is_number};
 ghost use Rattle.design_link.specs.Failing.{IsRcOf};
 ghost use Rattle.design_link.specs.Nodes.{nodes_in, HaveSameNodes};
 
-use crate::net_pins::pins_on;
 use crate::node_sets::NodeSet;
 use netlist_store::Store;
 use sta_units::Memory;
 use std::alloc::Global;
+use store_pins::pins_on;
 use timing_defs::NetRc;
 
 /// The most nodes of a net with parasitics.

@@ -9,12 +9,13 @@ ghost use Rattle.design_link.specs.Failing.{IsRcOf, IsReadyFor, fails, fails_at,
 
 use crate::least::least_name;
 use crate::net_nodes::is_large;
-use crate::net_pins::{driver_count, net_driver};
+use crate::net_pins::driver_count;
 use crate::rc_pins::pins_agree;
 use crate::rooted::is_rooted;
 use netlist_store::Store;
 use sta_units::Memory;
 use std::alloc::Global;
+use store_pins::net_driver;
 use timing_defs::{Items, Name, NetRc};
 
 /// What a net is tested for.

@@ -9,11 +9,11 @@ ghost use Rattle.netlist_store.specs.Numbering.{name_at, is_number, is_on_number
 ghost use Rattle.design_link.specs.Failing.{IsRcOf};
 ghost use Rattle.design_link.specs.Nodes.{is_node, nodes_in};
 
-use crate::net_pins::pins_on;
 use crate::node_sets::NodeSet;
 use netlist_store::Store;
 use sta_units::Memory;
 use std::alloc::Global;
+use store_pins::pins_on;
 use timing_defs::{Name, NetRc, RcCap, RcNode, RcRes};
 
 /// Whether a pin is on a net.

@@ -19,8 +19,8 @@ use Rattle.netlist_store.specs.Linked.{IsLinked}
 use Rattle.netlist_store.specs.Numbering.{Stored, name_at, number_of, is_number, inst_numbered, owner_number, IsNumbered}
 use Rattle.pin_graph.specs.Joins.{own_number}
 use Rattle.pin_graph.specs.Nodes.{pin_under}
-use Rattle.pin_graph.proofs.Members.{some_is, any_back, in_map, in_filter_map, in_flat_map}
-use Rattle.pin_graph.proofs.PinLaws.{HasNumber, pin_at_number, inst_told, own_back}
+use Rattle.timing_defs.proofs.Members.{some_is, any_back, in_map, in_filter_map, in_flat_map}
+use Rattle.store_pins.proofs.PinLaws.{HasNumber, pin_at_number, inst_told, own_back}
 use Rattle.edit_reach.proofs.Insertions.{grown}
 use Rattle.edit_reach.specs.Reach.{is_in, IsBeside, HasDirty}
 use Rattle.edit_reach.specs.Besides.{inst_under, pins_of_cell, inst_pins_at}

@@ -22,8 +22,8 @@ use Rattle.eco_laws.proofs.EditOf.{framed_of, numbers_kept}
 use Rattle.eco_laws.proofs.CellsKept.{same_endpoint}
 use Rattle.pin_graph.specs.Nodes.{node_number, pin_under}
 use Rattle.pin_graph.specs.Graphs.{Graphed, IsGraph}
-use Rattle.pin_graph.proofs.Members.{some_is, none_in, in_cases, in_map_back, in_flat_map_back}
-use Rattle.pin_graph.proofs.PinLaws.{HasNumber, IsInst, pin_told, pin_at_number, inst_told, own_in, own_back}
+use Rattle.timing_defs.proofs.Members.{some_is, none_in, in_cases, in_map_back, in_flat_map_back}
+use Rattle.store_pins.proofs.PinLaws.{HasNumber, IsInst, pin_told, pin_at_number, inst_told, own_in, own_back}
 use Rattle.pin_graph.proofs.NodeLaws.{under_number}
 use Rattle.pin_graph.proofs.GraphRows.{level}
 use Rattle.calm_laws.specs.Quiet.{IsQuietEnd}

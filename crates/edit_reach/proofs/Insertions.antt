@@ -12,7 +12,7 @@ use Rattle.indexmap.specs.IndexSet.{insert_key, insert_all}
 use Rattle.timing_defs.specs.Netlist.{Node, pin_named}
 use Rattle.netlist_store.specs.Numbering.{Stored, name_at}
 use Rattle.pin_graph.specs.Nodes.{node_at, node_bound, pin_under, tran_under}
-use Rattle.pin_graph.proofs.PinLaws.{below_bound}
+use Rattle.store_pins.proofs.PinLaws.{below_bound}
 use Rattle.edit_reach.specs.Reach.{is_in}
 
 -- a list after some insertions begins as it was, and has no others than those inserted

@@ -18,8 +18,8 @@ use Rattle.eco_laws.proofs.EditOf.{base_linked, edited_linked, framed_of}
 use Rattle.pin_graph.specs.declared.arcs.GraphArc.{GraphArc}
 use Rattle.pin_graph.specs.Nodes.{node_number, number_at}
 use Rattle.pin_graph.specs.Graphs.{Graphed, IsGraph, IsArc, kind_between, fan_at}
-use Rattle.pin_graph.proofs.Members.{some_is}
-use Rattle.pin_graph.proofs.PinLaws.{told_at, pin_told, pin_at_number}
+use Rattle.timing_defs.proofs.Members.{some_is}
+use Rattle.store_pins.proofs.PinLaws.{told_at, pin_told, pin_at_number}
 use Rattle.pin_graph.proofs.NodeLaws.{HasNode, node_told, node_below}
 use Rattle.pin_graph.proofs.GraphRows.{Stands as HasPlace, level, placed, low_level}
 use Rattle.calm_laws.proofs.NoSeedCalm.{HasCalm, no_seed_calm}

@@ -12,7 +12,7 @@ use Rattle.indexmap.specs.IndexSet.{insert_all}
 use Rattle.pin_graph.specs.declared.arcs.GraphArc.{GraphArc}
 use Rattle.pin_graph.specs.Nodes.{node_bound}
 use Rattle.pin_graph.specs.Graphs.{Graphed, IsGraph, to_of, fan_at}
-use Rattle.pin_graph.proofs.Members.{in_map}
+use Rattle.timing_defs.proofs.Members.{in_map}
 use Rattle.edit_reach.proofs.Insertions.{grown, from_low, place_of}
 use Rattle.edit_reach.specs.Reach.{is_in, AreBehind}
 

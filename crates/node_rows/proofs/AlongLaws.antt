@@ -26,7 +26,7 @@ use Rattle.node_rows.specs.declared.pin_wires.PinWire.{PinWire}
 use Rattle.node_rows.specs.Between.{leads, is_between, is_looked, outer_values, no_values, are_within}
 use Rattle.node_rows.specs.WireTables.{IsWire, told_delay, told_slew}
 use Rattle.node_rows.specs.Evaluation.{values_along, is_wide_along, node_of, IsJoined, told_values, told_wide, scaled_values}
-use Rattle.node_rows.proofs.Members.{some_is, in_map_back, kept_in}
+use Rattle.timing_defs.proofs.Members.{some_is, in_map_back, kept_in}
 
 -- tests
 all_parts : {X : Type 0} (p q : X → Bool) (xs : List X) → list_all (λ x. p x && q x) xs ≡ (list_all p xs && list_all q xs)

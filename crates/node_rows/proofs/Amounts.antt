@@ -21,8 +21,8 @@ use Rattle.netlist_store.specs.Linked.{IsLinked}
 use Rattle.timing_defs.specs.Documents.{is_amount, is_library}
 use Rattle.netlist_store.specs.Numbering.{Stored, pin_numbered}
 use Rattle.node_rows.specs.NetPins.{counted, cap_at}
-use Rattle.node_rows.proofs.Members.{all_in, found_in}
-use Rattle.node_rows.proofs.PinNames.{caps_good}
+use Rattle.timing_defs.proofs.Members.{all_in, found_in}
+use Rattle.store_pins.proofs.PinNames.{caps_good}
 use Rattle.node_rows.proofs.ConstraintLaws.{fit_of}
 
 pub amount_within : (x : ℤ) → is_amount x ≡ true → is_within x ≡ true

@@ -14,10 +14,10 @@ use Rattle.netlist_store.proofs.SeenPins.{Seen, seen, seen_on}
 use Rattle.netlist_store.proofs.Untouched.{IsLeft, IsFramed, left_by_eco, framed_by_eco}
 use Rattle.eco_laws.proofs.SeenLaws.{same_name, same_drives}
 use Rattle.eco_laws.proofs.NetsLeft.{driver_left, net_load_left, net_origin_left, wire_delay_left, wire_slew_left}
-use Rattle.node_rows.proofs.Members.{some_is, first_in, in_cases, none_in, in_map, in_map_back, in_filter, kept_in, passes_in}
-use Rattle.node_rows.proofs.PinNames.{same_self}
-use Rattle.node_rows.proofs.PinLaws.{told_at, there, pin_told, pin_of_number}
-use Rattle.node_rows.proofs.PinSums.{on_net}
+use Rattle.timing_defs.proofs.Members.{some_is, first_in, in_cases, none_in, in_map, in_map_back, in_filter, kept_in, passes_in}
+use Rattle.timing_defs.proofs.SameNames.{same_self}
+use Rattle.store_pins.proofs.PinLaws.{told_at, there, pin_told, pin_of_number}
+use Rattle.store_pins.proofs.DriverLaws.{on_net}
 use Rattle.node_rows.specs.declared.pin_wires.Wires.{Wires}
 use Rattle.node_rows.specs.WireTables.{AreWires}
 use Rattle.node_rows.specs.NetTrees.{is_wide_net}

@@ -26,9 +26,9 @@ use Rattle.node_rows.specs.declared.settings.NodeAt.{NodeAt}
 use Rattle.node_rows.specs.declared.settings.Before.{Before}
 use Rattle.node_rows.specs.Between.{is_between, has_tables}
 use Rattle.node_rows.specs.Evaluation.{node_of, IsJoined, is_row_within}
-use Rattle.node_rows.proofs.Members.{some_is, found_in, all_in}
-use Rattle.node_rows.proofs.PinNames.{arcs_good}
-use Rattle.node_rows.proofs.PinLaws.{IsOwner, owner_told}
+use Rattle.timing_defs.proofs.Members.{some_is, found_in, all_in}
+use Rattle.store_pins.proofs.PinNames.{arcs_good}
+use Rattle.store_pins.proofs.PinLaws.{IsOwner, owner_told}
 use Rattle.node_rows.proofs.AlongLaws.{bound_of, pin_of_node, tran_of_node, arcs_are}
 
 -- a node's number stands for a pin

@@ -19,9 +19,9 @@ use Rattle.node_rows.specs.declared.pin_wires.Wires.{Wires}
 use Rattle.node_rows.specs.WireTables.{split_load, load_told, wire_at, told_delay, told_slew, IsWire, AreWires}
 use Rattle.node_rows.specs.NetTrees.{is_wide_net}
 use Rattle.node_rows.specs.RenewedNets.{resized, AreSized, HasNet, HaveNetsBut}
-use Rattle.node_rows.proofs.Members.{some_is}
-use Rattle.node_rows.proofs.PinLaws.{below_bound, pin_of_number}
-use Rattle.node_rows.proofs.PinSums.{net_told}
+use Rattle.timing_defs.proofs.Members.{some_is}
+use Rattle.store_pins.proofs.PinLaws.{below_bound, pin_of_number}
+use Rattle.store_pins.proofs.DriverLaws.{net_of_number}
 
 -- the ends of a wire of an edited store in its base
 pub record AreEnds (s s2 : Stored) (name : List ℕ) (pin : ℕ) (to from : Pin) : Type 0 where
@@ -106,7 +106,7 @@ module _ (s s2 : Stored) (num : IsNumbered s) (linked : IsLinked s.design) (num2
           (let same : n ≡ name = some_is (sym e ∙ named) in
           ap (λ m. is_within (net_load s2.design split m)) same ∙ ap is_within (k.load split) ∙ are.within split net name there);
       wires = λ pin to from told on sinks led.
-          (let t = net_told s2 pin net to told on in
+          (let t = net_of_number s2 pin net to told on in
           let its : net_of to ≡ Some name = t.on ∙ sym t.told ∙ named in
           wire_as pin to from told its (k.wired pin to from told its sinks (subst (λ (o : Option (List ℕ)). Contains (driver_on s2.design o) from) its led)));
       fine =

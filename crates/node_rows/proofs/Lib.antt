@@ -10,14 +10,11 @@ pub mod InstForms
 pub mod KeptNets
 pub mod LoadForms
 pub mod LoadLaws
-pub mod Members
 pub mod MergeLaws
 pub mod NetFaults
 pub mod NetSteps
 pub mod PairLaws
 pub mod PinForms
-pub mod PinLaws
-pub mod PinNames
 pub mod PinSums
 pub mod PortLaws
 pub mod RenewLaws

@@ -18,8 +18,8 @@ use Rattle.netlist_store.specs.Linked.{IsLinked}
 use Rattle.timing_defs.specs.Documents.{is_amount}
 use Rattle.netlist_store.specs.Numbering.{Stored, name_at, is_number, pin_numbered, IsNumbered}
 use Rattle.node_rows.specs.NetPins.{IsOnNet, counted, cap_at}
-use Rattle.node_rows.proofs.Members.{some_is}
-use Rattle.node_rows.proofs.PinLaws.{there}
+use Rattle.timing_defs.proofs.Members.{some_is}
+use Rattle.store_pins.proofs.PinLaws.{there}
 use Rattle.node_rows.proofs.PinSums.{on_number}
 use Rattle.node_rows.proofs.TreeNets.{counted_on, rc_in, rc_name, rc_good}
 use Rattle.node_rows.proofs.WireForms.{bare_load, lumped_load}

@@ -12,9 +12,9 @@ use Rattle.netlist_store.specs.Linked.{IsLinked}
 use Rattle.netlist_store.specs.Numbering.{Stored, name_at, is_number, pin_numbered, net_number, IsNumbered}
 use Rattle.node_rows.specs.declared.pin_wires.Wires.{Wires}
 use Rattle.node_rows.specs.WireTables.{load_told, AreWires}
-use Rattle.node_rows.proofs.Members.{some_is}
-use Rattle.node_rows.proofs.PinLaws.{there, below_bound, pin_at_number}
-use Rattle.node_rows.proofs.PinSums.{net_told}
+use Rattle.timing_defs.proofs.Members.{some_is}
+use Rattle.store_pins.proofs.PinLaws.{there, below_bound, pin_at_number}
+use Rattle.store_pins.proofs.DriverLaws.{net_of_number}
 use Rattle.node_rows.proofs.AlongLaws.{bound_of}
 
 pub number_low : (names : List (Option (List ℕ))) (n : ℕ) → is_number names n ≡ true → n < length names
@@ -35,7 +35,7 @@ module _ (s : Stored) (num : IsNumbered s) (linked : IsLinked s.design) (w : Wir
       → (option_map (load_at s.design split) (pin_numbered s pin) ≡ Some load) × (unsigned_abs load ≤ limit)
   loaded split pin net load e on told =
       let p = pin_at_number s num linked pin e in
-      let k = net_told s pin net p.0 p.1.pin (sym on) in
+      let k = net_of_number s pin net p.0 p.1.pin (sym on) in
       let same : load ≡ net_load s.design split k.name = some_is (sym told ∙ are.loads split net k.name k.told) in (
         ap (option_map (load_at s.design split)) p.1.pin
             ∙ ap (λ o. Some (load_of s.design split o)) k.on ∙ ap Some (sym same),

@@ -11,7 +11,7 @@ use Rattle.timing_defs.specs.declared.kinds.Split.TheVariants.{Early, Late}
 use Rattle.timing_defs.specs.Rows.{outer_some, outermost}
 use Rattle.timing_defs.specs.Range.{within_some}
 use Rattle.timing_defs.proofs.ListLemmas.{bool_iff}
-use Rattle.node_rows.proofs.Members.{in_cases, none_in, any_in, any_back, first_in, later_in}
+use Rattle.timing_defs.proofs.Members.{in_cases, none_in, any_in, any_back, first_in, later_in}
 use Rattle.node_rows.proofs.ArcLaws.{outer_some_within}
 
 max_comm : (x y : ℤ) → int_max x y ≡ int_max y x

@@ -1,22 +1,21 @@
 -- What a design without faults of its nets and data has: one driver of a net, and parasitics that are
 -- trees over the pins of their nets.
 
-use Rattle.std.proofs.Common.{◌≡◌, ℕ, ◌≤◌, Bool, true, false, not, List, [], ◌∷◌, filter, length, Option, None, Some, refl, sym, ap, subst, ◌∙◌, inl, inr, arith}
-use Rattle.std.specs.Prelude.{find, nat_lt, is_some, option_map, ◌&&◌, ◌||◌, if◌then◌else◌, Contains}
+use Rattle.std.proofs.Common.{◌≡◌, ℕ, Bool, true, false, not, List, filter, length, Option, None, Some, refl, sym, ap, subst, ◌∙◌}
+use Rattle.std.specs.Prelude.{nat_lt, is_some, option_map, ◌&&◌, ◌||◌, if◌then◌else◌, Contains}
 use Rattle.std.specs.List.{list_all}
 use Rattle.std.specs.Option.{option_map_or}
-use Rattle.std.specs.Str.{bytes_eq}
-use Rattle.std.proofs.lemmas.Bool.{cases_Bool, cases_lt, false≢true, and_parts, and_from, not-true, false_from_ne_true, lt-ltb}
+use Rattle.std.proofs.lemmas.Bool.{false≢true, and_parts, not-true, false_from_ne_true}
 use Rattle.timing_defs.specs.declared.parasitics.NetRc.{NetRc}
 use Rattle.timing_defs.specs.declared.design.Design.{Design}
 use Rattle.timing_defs.specs.declared.faults.Fault.{Fault}
 use Rattle.timing_defs.specs.declared.faults.Fault.TheVariants.{TooLarge, ManyDrivers, ClockNotTree, ConstraintDangling, RcNotTree, RcPinsDiffer}
 use Rattle.timing_defs.specs.declared.faults.Large.TheVariants.{Pins, Insts, Nets, Net as large_net}
-use Rattle.timing_defs.specs.Netlist.{Pin, pins, net_of, is_on, is_driver, drivers, driver, is_listed}
+use Rattle.timing_defs.specs.Netlist.{Pin, pins, is_on, driver}
 use Rattle.timing_defs.specs.Wires.{is_lumped, path_between, root_node}
-use Rattle.timing_defs.specs.Checks.{is_before, least_from, least, most, nets_where, large, is_large_net, many_drivers, clock_not_tree, dangling, has_cycle, reaches_all, is_tree, rc_not_tree, named_nodes, is_pin_of, has_resistor, pins_agree, rc_pins_differ, first_of_two, net_fault, data_fault}
-use Rattle.node_rows.proofs.PinNames.{same_is, same_self}
-use Rattle.node_rows.proofs.Members.{in_cases, none_in, in_map, in_filter, any_back}
+use Rattle.timing_defs.specs.Checks.{least, most, nets_where, large, is_large_net, many_drivers, clock_not_tree, dangling, has_cycle, reaches_all, is_tree, rc_not_tree, named_nodes, is_pin_of, has_resistor, pins_agree, rc_pins_differ, first_of_two, net_fault, data_fault}
+use Rattle.timing_defs.proofs.Members.{none_in, in_map, in_filter}
+use Rattle.store_pins.proofs.DriverLaws.{none_least}
 
 -- the parts of no fault
 neither : (a b : Option Fault) → first_of_two a b ≡ None → (a ≡ None) × (b ≡ None)
@@ -27,47 +26,11 @@ unmapped : {X Y : Type 0} (f : X → Y) (o : Option X) → option_map f o ≡ No
 unmapped f None e = refl
 unmapped f (Some x) e = absurd (cc)
 
--- no least name is one of no names
-least_some : (a : List ℕ) (xs : List (List ℕ)) → is_some (least_from (Some a) xs) ≡ true
-least_some a [] = refl
-least_some a (x ∷ xs) = elim (cases_Bool (is_before x a)) [ inl h ↦ rw h (least_some x xs) | inr h ↦ rw h (least_some a xs) ]
-
-none_least : (xs : List (List ℕ)) → least xs ≡ None → xs ≡ []
-none_least [] e = refl
-none_least (x ∷ xs) e = absurd (false≢true (sym (ap is_some e) ∙ least_some x xs))
-
 -- where no net is named, none of the parasitics passes
 none_named : (test : NetRc → Bool) (d : Design) → least (nets_where test d) ≡ None → (rc : NetRc) → Contains d.rcs rc → test rc ≡ false
 none_named test d e rc c =
     false_from_ne_true (test rc) (λ h. none_in rc.net (subst (λ (xs : List (List ℕ)). Contains xs rc.net) (none_least (nets_where test d) e)
     (in_map (λ (r : NetRc). r.net) (filter test d.rcs) rc (in_filter test d.rcs rc c h))))
-
--- at most one passes
-short_none : {X : Type 0} (xs : List X) (x : X) → length xs ≤ 0 → Contains xs x → ⊥
-short_none xs x l c = let low = c.1 in omega arith
-
-module _ {X : Type 0} (t : X → Bool) where
-  only_one : (xs : List X) (x : X) → length (filter t xs) ≤ 1 → Contains xs x → t x ≡ true → find t xs ≡ Some x
-  only_one [] x l c e = absurd (none_in x c)
-  only_one (y ∷ ys) x l c e = elim (cases_Bool (t y)) [
-    | inl h ↦
-        let long : length (y ∷ filter t ys) ≤ 1 = rw h at l in
-        elim (in_cases y ys x c) [
-          | inl same ↦ rw h (ap Some same)
-          | inr d ↦ absurd (short_none (filter t ys) x (omega arith) (in_filter t ys x d e))
-        ]
-    | inr h ↦
-        let long : length (filter t ys) ≤ 1 = rw h at l in
-        elim (in_cases y ys x c) [
-          | inl same ↦ absurd (false≢true (sym h ∙ ap t same ∙ e))
-          | inr d ↦ rw h (only_one ys x long d e)
-        ]
-  ]
-
-listed_back : (names : List (List ℕ)) (name : List ℕ) → is_listed names name ≡ true → Contains names name
-listed_back names name e =
-    let r = any_back (bytes_eq name) names e in
-    subst (λ (n : List ℕ). Contains names n) (sym (same_is name r.item r.passes)) r.within
 
 -- too large: the parts
 not_large : (a b c : Bool) (o : Option (List ℕ))
@@ -78,23 +41,6 @@ not_large false false true o e = absurd (cc)
 not_large false false false o e = unmapped large_net o e
 
 module _ (d : Design) (fault : net_fault d ≡ None) where
-  few_drivers : (net : List ℕ) → is_listed d.nets net ≡ true → length (drivers d net) ≤ 1
-  few_drivers net e = elim (cases_lt 1 (length (drivers d net))) [
-    | inl many ↦
-        let none = none_least (filter (λ n. nat_lt 1 (length (drivers d n))) d.nets)
-        (unmapped ManyDrivers (many_drivers d) (neither (option_map TooLarge (large d)) (option_map ManyDrivers (many_drivers d)) fault).1) in
-        let member = in_filter (λ n. nat_lt 1 (length (drivers d n))) d.nets net (listed_back d.nets net e) (lt-ltb 1 (length (drivers d net)) many) in
-        absurd (none_in net (subst (λ (xs : List (List ℕ)). Contains xs net) none member))
-    | inr few ↦ few
-  ]
-
-  -- the one driver of a net
-  pub is_the_driver : (net : List ℕ) (p : Pin) → is_listed d.nets net ≡ true → Contains (pins d) p → is_driver p ≡ true → net_of p ≡ Some net
-      → driver d net ≡ Some p
-  is_the_driver net p e c drives on =
-      only_one (λ pin. is_driver pin && is_on net pin) (pins d) p (few_drivers net e) c
-      (and_from (is_driver p) (is_on net p) drives (ap (λ o. option_map_or (bytes_eq net) o false) on ∙ same_self net))
-
   pub small_net : (rc : NetRc) → Contains d.rcs rc → is_large_net d rc ≡ false
   small_net rc c =
       let none : large d ≡ None = unmapped TooLarge (large d) (neither (option_map TooLarge (large d)) (option_map ManyDrivers (many_drivers d)) fault).0 in

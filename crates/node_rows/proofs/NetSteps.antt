@@ -21,16 +21,16 @@ use Rattle.node_rows.specs.declared.pin_wires.PinWire.{PinWire}
 use Rattle.node_rows.specs.WireTables.{IsWire, split_load}
 use Rattle.node_rows.specs.NetTrees.{is_wide_net}
 use Rattle.node_rows.specs.FoundNets.{AreNetWires, IsNetLoad}
-use Rattle.node_rows.proofs.Members.{some_is}
-use Rattle.node_rows.proofs.PinLaws.{there}
-use Rattle.node_rows.proofs.PinSums.{net_told}
+use Rattle.timing_defs.proofs.Members.{some_is}
+use Rattle.store_pins.proofs.PinLaws.{there}
+use Rattle.store_pins.proofs.DriverLaws.{net_of_number}
 use Rattle.node_rows.proofs.WireForms.{no_ress, no_delay, bare_wire, lumped_wire}
 
 module _ (s : Stored) (net : ℕ) (old : List (Option PinWire)) where
   pub gap_wires : is_number s.nets net ≡ false → AreNetWires s net old old
   gap_wires none = record {
     len = refl;
-    wired = λ bare pin to from told on sinks led. let k = net_told s pin net to told on in absurd (false≢true (sym none ∙ ap is_some k.told));
+    wired = λ bare pin to from told on sinks led. let k = net_of_number s pin net to told on in absurd (false≢true (sym none ∙ ap is_some k.told));
     kept = λ pin other on apart. refl;
   }
 
@@ -42,7 +42,7 @@ module _ (s : Stored) (net : ℕ) (old : List (Option PinWire)) where
   plain_wires rc is lumped = record {
     len = refl;
     wired = λ bare pin to from told on sinks led.
-        (let k = net_told s pin net to told on in
+        (let k = net_of_number s pin net to told on in
         let its : rc_of s.design k.name ≡ rc = sym (ap (option_and_then (rc_of s.design)) k.told) ∙ sym is in
         subst (λ (o : Option PinWire). IsWire s.design from to o) (sym (bare pin on)) (no_wire s.design from to k.name k.on rc its lumped));
     kept = λ pin other on apart. refl;

@@ -17,9 +17,11 @@ use Rattle.timing_defs.proofs.ListLemmas.{bool_iff}
 use Rattle.netlist_store.specs.Linked.{joins_nets, IsLinked}
 use Rattle.netlist_store.specs.Numbering.{Stored, name_at, number_of, pin_numbered, net_number, is_on_number, IsNumbered}
 use Rattle.node_rows.specs.NetPins.{IsOnNet}
-use Rattle.node_rows.proofs.PinNames.{same_is, same_self, pins_apart}
-use Rattle.node_rows.proofs.Members.{some_is, first_in, later_in, in_filter, passes_in, kept_in, any_in, any_back, listed_in, all_in, found_in, in_map_back, in_flat_map_back}
-use Rattle.node_rows.proofs.PinLaws.{HasNumber, told_at, pin_told, pin_of_number}
+use Rattle.timing_defs.proofs.SameNames.{same_self}
+use Rattle.store_pins.proofs.PinNames.{pins_apart}
+use Rattle.timing_defs.proofs.Members.{some_is, first_in, later_in, in_filter, passes_in, kept_in, any_in, any_back, listed_in, all_in, found_in, in_map_back, in_flat_map_back}
+use Rattle.store_pins.proofs.PinLaws.{HasNumber, pin_told, pin_of_number}
+use Rattle.store_pins.proofs.DriverLaws.{on_net, on_at, net_of_number}
 use Rattle.node_rows.proofs.CountLaws.{count_cons, same_sums}
 
 pub sum_map : {X Y : Type 0} (g : Y → ℤ) (f : X → Y) (xs : List X) → sum_of g (map f xs) ≡ sum_of (λ x. g (f x)) xs
@@ -55,33 +57,6 @@ distinct_filter keep (x ∷ xs) h =
       | inl k ↦ rw k (ap (λ b. not b && are_distinct (map name_of (filter keep xs))) none ∙ distinct_filter keep xs parts.1)
       | inr k ↦ rw k (distinct_filter keep xs parts.1)
     ]
-
-pub on_net : (net : List ℕ) (o : Option (List ℕ)) → option_map_or (bytes_eq net) o false ≡ true → o ≡ Some net
-on_net net None e = absurd (false≢true e)
-on_net net (Some n) e = ap Some (sym (same_is net n e))
-
-on_at : (a : ℕ) (o : Option ℕ) → option_map_or (nat_eq a) o false ≡ true → o ≡ Some a
-on_at a None e = absurd (false≢true e)
-on_at a (Some b) e = ap Some (sym (eqb-true a b e))
-
--- the name of the net of a pin's number
-pub record IsNetOf (s : Stored) (p : Pin) (net : ℕ) : Type 0 where
-  pub name : List ℕ
-  pub on : net_of p ≡ Some name
-  pub number : number_of s.nets name ≡ Some net
-  pub told : name_at s.nets net ≡ Some name
-
-pub net_told : (s : Stored) (pin net : ℕ) (p : Pin) → pin_numbered s pin ≡ Some p → net_number s pin ≡ Some net → IsNetOf s p net
-net_told s pin net p e f = by (net_of p) refl
-  where
-    told : option_and_then (number_of s.nets) (net_of p) ≡ Some net
-    told = sym (ap (λ o. option_and_then (number_of s.nets) (option_and_then net_of o)) e) ∙ f
-
-    by : (o : Option (List ℕ)) → net_of p ≡ o → IsNetOf s p net
-    by None h = let g : None ≡ Some net = sym (ap (option_and_then (number_of s.nets)) h) ∙ told in absurd (cc)
-    by (Some name) h =
-        let g : number_of s.nets name ≡ Some net = sym (ap (option_and_then (number_of s.nets)) h) ∙ told in
-        record { name = name; on = h; number = g; told = told_at s.nets name net g }
 
 -- the net of a pin is listed
 conn_listed : (nets : List (List ℕ)) (conns : List Conn) (own net : List ℕ) → list_all (λ conn. option_map_or (is_listed nets) conn.net true) conns ≡ true
@@ -161,7 +136,7 @@ module _ (s : Stored) (num : IsNumbered s) (linked : IsLinked s.design) where
             let f : false ≡ true = sym (ap (λ o. option_map_or (nat_eq net) (option_and_then (number_of s.nets) (option_and_then net_of o)) false) h) ∙ e in
             absurd (false≢true f)
         by (Some p) h =
-            let k = net_told s n net p h (on_at net (net_number s n) e) in
+            let k = net_of_number s n net p h (on_at net (net_number s n) e) in
             let same : net_of p ≡ Some name = k.on ∙ sym k.told ∙ is in
             let there = pin_of_number s num linked n p h in (
               p,

@@ -23,11 +23,11 @@ use Rattle.node_rows.specs.NetTrees.{is_wide_net}
 use Rattle.node_rows.specs.FoundNets.{with_wires, AreNetWires, IsFoundNet}
 use Rattle.node_rows.specs.RenewedNets.{without_wires, AreSized, HasNet, IsRenewed, HaveNetsBut}
 use Rattle.node_rows.proofs.LoadLaws.{number_low}
-use Rattle.node_rows.proofs.Members.{any_in, any_back, some_is}
-use Rattle.node_rows.proofs.PinNames.{same_is}
-use Rattle.node_rows.proofs.PinLaws.{told_at, below_bound, there}
-use Rattle.node_rows.proofs.PinSums.{net_told}
-use Rattle.node_rows.proofs.TreeNets.{counted_in, counted_on}
+use Rattle.timing_defs.proofs.Members.{any_in, any_back, some_is}
+use Rattle.timing_defs.proofs.SameNames.{same_is}
+use Rattle.store_pins.proofs.PinLaws.{told_at, below_bound, there}
+use Rattle.store_pins.proofs.DriverLaws.{counted_in, net_of_number}
+use Rattle.node_rows.proofs.TreeNets.{counted_on}
 use Rattle.node_rows.proofs.TreePins.{get_same, get_other, wire_kept}
 use Rattle.node_rows.proofs.UpToLaws.{led_net}
 
@@ -205,6 +205,6 @@ module _ (s : Stored) (w : Wires) (had : HaveNetsBut s [] w) where
     within = λ split net name named. (had.nets net name named refl).within split name named;
     wires = λ pin to from told sinks led.
         (let on = led_net s num linked pin to from told led in
-        let k = net_told s pin on.0 to told on.1 in
+        let k = net_of_number s pin on.0 to told on.1 in
         (had.nets on.0 k.name k.told refl).wires pin to from told on.1 sinks led);
   }

@@ -30,7 +30,7 @@ use Rattle.node_rows.specs.declared.settings.Before.{Before}
 use Rattle.node_rows.specs.declared.rows.SplitRow.{SplitRow}
 use Rattle.node_rows.specs.Between.{no_values}
 use Rattle.node_rows.specs.Evaluation.{values_along, is_wide_looked, is_wide_scaled, is_wide_end, is_wide_along, is_wide_in, is_wide, node_of, AreBefore, HaveRows, told_values, told_wide, merged_over, arrival_over, times_on, are_wide_times, told_slew_over, told_row, is_wide_split, IsRow}
-use Rattle.node_rows.proofs.Members.{some_is, in_map_back, kept_in, found_in, all_in, any_in, any_back, none_in, in_cases, first_in}
+use Rattle.timing_defs.proofs.Members.{some_is, in_map_back, kept_in, found_in, all_in, any_in, any_back, none_in, in_cases, first_in}
 use Rattle.node_rows.proofs.ConstraintLaws.{fit_of}
 use Rattle.node_rows.proofs.MergeLaws.{AreMatched, outermost_same, any_same, outermost_map, outermost_within, filter_map_agree, any_agree, none_any}
 

@@ -25,8 +25,8 @@ use Rattle.node_rows.specs.declared.settings.NodeAt.{NodeAt}
 use Rattle.node_rows.specs.declared.settings.Before.{Before}
 use Rattle.node_rows.specs.PortTables.{is_slew_at, slew_of_port, delay_of_port}
 use Rattle.node_rows.specs.Evaluation.{node_of, told_slew_over, has_clock, merged_over, arrival_over}
-use Rattle.node_rows.proofs.Members.{some_is, found_in, all_in}
-use Rattle.node_rows.proofs.PinLaws.{HasNumber, pin_at_number}
+use Rattle.timing_defs.proofs.Members.{some_is, found_in, all_in}
+use Rattle.store_pins.proofs.PinLaws.{HasNumber, pin_at_number}
 use Rattle.node_rows.proofs.ConstraintLaws.{fit_of}
 
 -- a slew that is written for a port lies within the limit

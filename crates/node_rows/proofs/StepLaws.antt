@@ -19,7 +19,7 @@ use Rattle.node_rows.specs.declared.settings.NodeAt.{NodeAt}
 use Rattle.node_rows.specs.declared.settings.Before.{Before}
 use Rattle.node_rows.specs.Between.{are_within}
 use Rattle.node_rows.specs.Evaluation.{IsJoined, AreBefore, told_values, told_wide, merged_over, times_on, are_wide_times, is_row_within}
-use Rattle.node_rows.proofs.Members.{first_in, later_in}
+use Rattle.timing_defs.proofs.Members.{first_in, later_in}
 use Rattle.node_rows.proofs.ArcLaws.{more, each_at, outer_some_within}
 
 -- the first of a list and one more

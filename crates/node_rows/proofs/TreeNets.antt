@@ -5,7 +5,7 @@ use Rattle.std.specs.Prelude.{nat_abs, nat_eq, nat_lt, count_by, int_le, is_some
 use Rattle.std.specs.List.{AllByRecursion, list_all, list_any, flat_map}
 use Rattle.std.specs.Option.{option_map_or, unwrap_or, option_to_list}
 use Rattle.std.specs.Str.{bytes_eq}
-use Rattle.std.proofs.lemmas.Bool.{cases_Bool, false≢true, and_parts, and_from, or_cases, leb-true, le-ltb, eqb-true, eq-eqb}
+use Rattle.std.proofs.lemmas.Bool.{cases_Bool, false≢true, and_parts, and_from, or_cases, leb-true, le-ltb, eq-eqb}
 use Rattle.std.proofs.lemmas.List.Elements.{Contains-append_left, Contains-append_right, Contains-append_cases}
 use Rattle.sta_units.specs.Numbers.{limit, is_within, root_of}
 use Rattle.timing_defs.specs.declared.kinds.Split.{Split}
@@ -33,25 +33,15 @@ use Rattle.node_rows.specs.NetPins.{IsOnNet, cap_at, pin_cap_at}
 use Rattle.node_rows.specs.NetTrees.{IsTreeNet, IsSink, pin_word}
 use Rattle.node_rows.specs.WireTables.{IsWire, split_wire}
 use Rattle.node_rows.specs.declared.pin_wires.PinWire.{PinWire}
-use Rattle.node_rows.proofs.PinNames.{same_is, same_self}
-use Rattle.node_rows.proofs.Members.{IsMapped, first_in, later_in, in_cases, none_in, in_map, in_map_back, in_flat_map, in_filter, kept_in, any_in, any_back, all_in, found_in, found_passes}
-use Rattle.node_rows.proofs.PinLaws.{HasNumber}
+use Rattle.timing_defs.proofs.SameNames.{same_is, same_self}
+use Rattle.timing_defs.proofs.Members.{IsMapped, first_in, later_in, in_cases, none_in, in_map, in_map_back, in_flat_map, in_filter, kept_in, any_in, any_back, all_in, found_in, found_passes}
+use Rattle.store_pins.proofs.PinLaws.{HasNumber}
+use Rattle.store_pins.proofs.DriverLaws.{counted_in, is_the_driver}
 use Rattle.node_rows.proofs.CountLaws.{count_cons}
 use Rattle.node_rows.proofs.PinSums.{number, numbered, on_number, number_on}
 use Rattle.node_rows.proofs.Amounts.{at_amount}
-use Rattle.node_rows.proofs.NetFaults.{IsRcTree, is_the_driver, small_net, rc_tree_is}
+use Rattle.node_rows.proofs.NetFaults.{IsRcTree, small_net, rc_tree_is}
 use Rattle.node_rows.proofs.TreeForms.{charge, pin_charge, elmore_same, impulse_same, charges_same, load_same}
-
--- what is counted once is a member
-pub counted_in : (n : ℕ) (xs : List ℕ) → count_by (nat_eq n) xs ≡ 1 → Contains xs n
-counted_in n [] e = absurd (omega arith)
-counted_in n (x ∷ xs) e = elim (cases_Bool (nat_eq n x)) [
-  | inl h ↦ subst (λ (m : ℕ). Contains (x ∷ xs) m) (sym (eqb-true n x h)) (first_in x xs)
-  | inr h ↦
-      let parts = count_cons n x xs in
-      let none : cond {A = ℕ} (nat_eq n x) 1 0 ≡ 0 = rw h refl in
-      later_in x xs n (counted_in n xs (omega arith))
-]
 
 pub counted_on : (s : Stored) (net : ℕ) (items : List ℕ) → IsOnNet s net items → (n : ℕ) → Contains items n → is_on_number s net n ≡ true
 counted_on s net items each n c = elim (cases_Bool (is_on_number s net n)) [

@@ -14,7 +14,7 @@ use Rattle.timing_defs.specs.declared.kinds.Split.TheVariants.{Early, Late}
 use Rattle.timing_defs.specs.declared.parasitics.RcNode.TheVariants.{Pin as rc_pin, Inner as rc_inner}
 use Rattle.timing_defs.specs.declared.parasitics.NetRc.{NetRc}
 use Rattle.timing_defs.specs.declared.rows.PinCap.{PinCap}
-use Rattle.timing_defs.specs.Netlist.{Pin, is_driver}
+use Rattle.timing_defs.specs.Netlist.{Pin}
 use Rattle.timing_defs.specs.Wires.{pin_cap}
 use Rattle.netlist_store.specs.Numbering.{Stored, name_at, is_number, pin_numbered}
 use Rattle.rc_tree.specs.Trees.{Told, IsTreeOf, delay_of, impulse_of}
@@ -24,11 +24,11 @@ use Rattle.node_rows.specs.declared.pin_wires.PinWire.{PinWire}
 use Rattle.node_rows.specs.declared.net_trees.NetTrees.{NetTrees}
 use Rattle.node_rows.specs.declared.found_nets.WireTo.{WireTo}
 use Rattle.node_rows.specs.WireTables.{wire_at, split_wire}
-use Rattle.node_rows.specs.NetPins.{counted, cap_at, pin_cap_at, has_one_cap, drives_at}
+use Rattle.node_rows.specs.NetPins.{counted, cap_at, pin_cap_at, has_one_cap}
 use Rattle.node_rows.specs.NetTrees.{IsSink, HasWire, late_of, pin_word}
 use Rattle.node_rows.specs.FoundNets.{with_wires, ArePut, AreWiresTo}
 use Rattle.node_rows.proofs.LoadLaws.{number_low}
-use Rattle.node_rows.proofs.Members.{some_is, in_cases, none_in}
+use Rattle.timing_defs.proofs.Members.{some_is, in_cases, none_in}
 
 -- a pin with its capacitance
 counted_all : (s : Stored) (split : Split) (o : Option Pin) (x : ℤ) → option_map (pin_cap s.design split) o ≡ Some x → x ≡ option_map_or (counted s.design split true) o (pos 0)
@@ -55,14 +55,6 @@ caps_alike s (pin ∷ pins) h =
     let same : cap_at s Early true pin ≡ cap_at s Late true pin = (Decides-int_eq (cap_at s Early true pin) (cap_at s Late true pin)).0 parts.0 in
     ap (λ (z : ℤ). record { pin = pin_word s pin; cap = record { 0 = z } } ∷ map (pin_cap_at s Early) pins) same
     ∙ ap (λ (rest : List PinCap). pin_cap_at s Late pin ∷ rest) (caps_alike s pins parts.1)
-
--- whether a pin drives
-pub drives_is : (s : Stored) (pin : ℕ) (r : Bool) → option_map is_driver (pin_numbered s pin) ≡ Some r → drives_at s pin ≡ r
-drives_is s pin r e = by (pin_numbered s pin) e
-  where
-    by : (o : Option Pin) → option_map is_driver o ≡ Some r → option_map_or is_driver o false ≡ r
-    by None f = absurd (cc)
-    by (Some p) f = some_is f
 
 -- what a tree tells of a pin that is one of its nodes
 pub sink_told : (net : NetRc) (root : List ℕ) (caps : List PinCap) (told : Told) → IsTreeOf net root caps told → (name : List ℕ) (n : ℕ) → n < length told.nodes

@@ -24,15 +24,17 @@ use Rattle.rc_tree.proofs.Routes.{same_rc_self}
 use Rattle.node_rows.specs.declared.pin_wires.NetLoad.{NetLoad}
 use Rattle.node_rows.specs.declared.pin_wires.PinWire.{PinWire}
 use Rattle.node_rows.specs.declared.net_trees.NetTrees.{NetTrees}
-use Rattle.node_rows.specs.NetPins.{IsOnNet, drives_at, pin_cap_at}
+use Rattle.node_rows.specs.NetPins.{IsOnNet, pin_cap_at}
+use Rattle.store_pins.specs.Drivers.{drives_at}
 use Rattle.node_rows.specs.NetTrees.{IsSoundNets, IsTreeNet, AreTrees, HasWire, is_wide_net, late_of, pin_word}
 use Rattle.node_rows.specs.WireTables.{IsWire, split_load, wire_at}
 use Rattle.node_rows.specs.FoundNets.{AreNetWires, IsNetLoad}
-use Rattle.node_rows.proofs.Members.{some_is, later_in, any_in, any_back, found_in, found_passes, found_some, in_filter}
+use Rattle.timing_defs.proofs.Members.{some_is, later_in, any_in, any_back, found_in, found_passes, found_some, in_filter}
 use Rattle.node_rows.proofs.NetFaults.{has_driver}
-use Rattle.node_rows.proofs.PinLaws.{pin_of_number}
-use Rattle.node_rows.proofs.PinSums.{number, numbered, net_told, on_number, number_on}
-use Rattle.node_rows.proofs.TreeNets.{counted_in, counted_on, rc_in, rc_name, pin_named_there, tree_list_is, load_is, early_origin, late_origin, wired_to}
+use Rattle.store_pins.proofs.PinLaws.{pin_of_number}
+use Rattle.store_pins.proofs.DriverLaws.{counted_in, net_of_number}
+use Rattle.node_rows.proofs.PinSums.{number, numbered, on_number, number_on}
+use Rattle.node_rows.proofs.TreeNets.{counted_on, rc_in, rc_name, pin_named_there, tree_list_is, load_is, early_origin, late_origin, wired_to}
 
 -- the net of parasitics that are told by a number
 pub named_by : (d : Design) (o : Option (List ℕ)) (rc : NetRc) → option_and_then (rc_of d) o ≡ Some rc → o ≡ Some rc.net
@@ -138,7 +140,7 @@ module _ (s : Stored) (num : IsNumbered s) (linked : IsLinked s.design) (rc : Ne
         wired : (pin : ℕ) (to from : Pin) → pin_numbered s pin ≡ Some to → net_number s pin ≡ Some net → is_driver to ≡ false → Contains (driver_on s.design (net_of to)) from
             → IsWire s.design from to (wire_at wires pin)
         wired pin to from told on sinks led =
-            let k = net_told s pin net to told on in
+            let k = net_of_number s pin net to told on in
             let sits : net_of to ≡ Some rc.net = k.on ∙ sym k.told ∙ its_name in
             let h = put pin (among pin on) in
             subst (λ (o : Option PinWire). IsWire s.design from to o) (sym h.there)

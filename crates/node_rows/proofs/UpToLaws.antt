@@ -17,9 +17,10 @@ use Rattle.node_rows.specs.declared.pin_wires.PinWire.{PinWire}
 use Rattle.node_rows.specs.declared.pin_wires.Wires.{Wires}
 use Rattle.node_rows.specs.WireTables.{split_load, load_told, wire_at, IsWire, AreWires}
 use Rattle.node_rows.specs.NetTrees.{AreUpTo, is_wide_net}
-use Rattle.node_rows.proofs.Members.{none_in}
-use Rattle.node_rows.proofs.PinLaws.{below_bound, pin_of_number, there as some_there}
-use Rattle.node_rows.proofs.PinSums.{net_told, net_listed}
+use Rattle.timing_defs.proofs.Members.{none_in}
+use Rattle.store_pins.proofs.PinLaws.{below_bound, pin_of_number, there as some_there}
+use Rattle.store_pins.proofs.DriverLaws.{net_of_number}
+use Rattle.node_rows.proofs.PinSums.{net_listed}
 
 get_left : {X : Type 0} (xs : List X) (x : X) (n : ℕ) → n < length xs → slice_get (xs ++ x ∷ []) n ≡ slice_get xs n
 get_left [] x n low = absurd (omega arith)
@@ -93,7 +94,7 @@ module _ (s : Stored) where
         within = λ split net name named. had.within split net name (below_bound s.nets name net named) named;
         wires = λ pin to from told sinks drives.
             (let n = led_net num linked pin to from told drives in
-            let k = net_told s pin n.0 to told n.1 in
+            let k = net_of_number s pin n.0 to told n.1 in
             had.wires pin n.0 to from (below_bound s.nets k.name n.0 k.told) told n.1 sinks drives);
       }
 

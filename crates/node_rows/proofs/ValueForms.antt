@@ -23,7 +23,7 @@ use Rattle.node_rows.specs.Between.{is_between, is_looked, outer_values, no_valu
 use Rattle.node_rows.specs.WireTables.{IsWire, AreWires, wire_at, told_delay, told_slew}
 use Rattle.node_rows.specs.Evaluation.{IsJoined, IsAlong, told_values, told_wide, scaled_values}
 use Rattle.node_rows.proofs.AlongLaws.{no_slew, no_inst, port_of, looked_large, cell_told, cell_fine, scaled_large, bound_of, pin_of_node, wired, wire_large, wire_none, wire_told, end_large}
-use Rattle.node_rows.proofs.Members.{some_is}
+use Rattle.timing_defs.proofs.Members.{some_is}
 use Rattle.node_rows.proofs.InstForms.{arcs_there}
 
 -- the arcs of a cell, by what is looked up of them

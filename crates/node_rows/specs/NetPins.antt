@@ -28,6 +28,3 @@ pin_cap_at s split pin = record { pin = unwrap_or (name_at s.pins pin) []; cap =
 -- a pin has the same capacitance in both splits
 abbrev pub has_one_cap : Stored → ℕ → Bool
 has_one_cap s pin = int_eq (cap_at s Early true pin) (cap_at s Late true pin)
-
-abbrev pub drives_at : Stored → ℕ → Bool
-drives_at s pin = option_map_or is_driver (pin_numbered s pin) false

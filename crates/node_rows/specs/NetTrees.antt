@@ -25,7 +25,8 @@ use Rattle.node_rows.specs.declared.pin_wires.PinWire.{PinWire}
 use Rattle.node_rows.specs.declared.pin_wires.Wires.{Wires}
 use Rattle.node_rows.specs.declared.net_trees.NetTrees.{NetTrees}
 use Rattle.node_rows.specs.WireTables.{IsWire, load_told, wire_at, split_wire}
-use Rattle.node_rows.specs.NetPins.{IsOnNet, drives_at, pin_cap_at}
+use Rattle.node_rows.specs.NetPins.{IsOnNet, pin_cap_at}
+use Rattle.store_pins.specs.Drivers.{drives_at}
 
 -- the delay and the impulse of the wire from a root to a pin, over pins with these capacitances
 pub record IsSink (net : NetRc) (root : List ℕ) (pins : List PinCap) (name : List ℕ) (wire : SinkWire) : Type 0 where

@@ -7,9 +7,9 @@ ghost use Rattle.netlist_store.specs.Numbering.{is_number, pin_numbered, owner_n
 ghost use Rattle.node_rows.specs.Evaluation.{IsSetting};
 ghost use Rattle.node_rows.specs.Entries.{IsDrivingCell, IsEntry};
 
-use crate::pins::{drives, own_name};
 use crate::scaling::factor_of;
 use crate::settings::Setting;
+use store_pins::{drives, own_name};
 use timing_defs::{CellArc, Split};
 
 /// The cell of the instance that has an output pin, with what all arcs to the pin have in common.

@@ -7,13 +7,14 @@ ghost use Rattle.timing_defs.specs.Wires.{sum_of, net_load, rc_of};
 ghost use Rattle.netlist_store.specs.Numbering.{is_number, name_at};
 ghost use Rattle.timing_defs.specs.Documents.{is_amount};
 ghost use Rattle.node_rows.specs.PortTables.{ArePorts};
-ghost use Rattle.node_rows.specs.NetPins.{cap_at, IsOnNet};
+ghost use Rattle.node_rows.specs.NetPins.{cap_at};
 
-use crate::pins::{drives, pin_cap};
+use crate::pins::pin_cap;
 use crate::ports::Ports;
 use netlist_store::Store;
 use nldm_lookup::OutOfRange;
 use sta_units::Af;
+use store_pins::{drives, pins_on};
 use timing_defs::{NetRc, RcCap, Split};
 
 /// The greatest load, in aF.
@@ -85,15 +86,6 @@ fn in_range(load: u128) -> Result<i64, OutOfRange>
     } else {
         Err(OutOfRange)
     }
-}
-
-/// The pins on a net.
-pub(crate) fn pins_on(store: &Store, net: u32) -> &[u32]
-    requires { is_number store.now.nets net ≡ true }
-    ensures numbers { All (λ pin. is_number store.now.pins pin ≡ true) result.now }
-    ensures on { IsOnNet store.now net result.now }
-{
-    store.net_pins(net)
 }
 
 /// The load of a net without parasitics: that of its sinks. `OutOfRange` exactly where it leaves its

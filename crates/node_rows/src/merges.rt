@@ -13,13 +13,13 @@ ghost use Rattle.node_rows.specs.Evaluation.{IsSetting, AreBefore, told_values, 
 
 use crate::arcs::{ArcValues, outer_some, same_tran};
 use crate::entries::entry_of;
-use crate::pins::drives;
 use crate::settings::{Before, NodeAt, Setting};
 use crate::unfit::Unfit;
 use crate::values::values_into;
 use netlist_store::Store;
 use sta_units::{Fs, LIM};
 use std::alloc::Global;
+use store_pins::drives;
 use timing_defs::{Clock, EdgeTime, EdgeTimes, Items, Name, NodeRow, Split, Tran};
 
 /// What the arcs into a node bring, in the order of the nodes before it.

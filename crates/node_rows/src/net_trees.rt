@@ -10,18 +10,20 @@ ghost use Rattle.timing_defs.specs.declared.rows.PinCap.{PinCap};
 ghost use Rattle.netlist_store.specs.Numbering.{is_number, name_at};
 ghost use Rattle.rc_tree.specs.Trees.{IsTreeOf, is_node};
 ghost use Rattle.node_rows.specs.PortTables.{ArePorts};
-ghost use Rattle.node_rows.specs.NetPins.{pin_cap_at, has_one_cap, drives_at};
+ghost use Rattle.node_rows.specs.NetPins.{pin_cap_at, has_one_cap};
+ghost use Rattle.store_pins.specs.Drivers.{drives_at};
 ghost use Rattle.node_rows.specs.NetTrees.{IsSink, late_of};
 ghost use Rattle.node_rows.specs.FoundNets.{AreWiresTo};
 
 use crate::found_nets::WireTo;
 use crate::pin_wires::{PinWire, SinkWire};
-use crate::pins::{drives, pin_cap};
+use crate::pins::pin_cap;
 use crate::ports::Ports;
 use netlist_store::Store;
 use rc_tree::Tree;
 use sta_units::{Af, Fs, Memory};
 use std::alloc::Global;
+use store_pins::is_driving;
 use timing_defs::{Items, Name, NetRc, PinCap, Split};
 
 /// The trees of a net in both splits. Without a late tree the early one is that of both.
@@ -104,14 +106,6 @@ pub(crate) fn have_one_cap(store: &Store, ports: &Ports, pins: &[u32]) -> bool
         }
     }
     true
-}
-
-/// Whether a pin drives its net.
-fn is_driving(store: &Store, pin: u32) -> bool
-    requires { is_number store.now.pins pin ≡ true }
-    ensures { result ≡ drives_at store.now pin }
-{
-    drives(store, pin)
 }
 
 /// The first of some pins that drives.

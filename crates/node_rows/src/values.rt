@@ -14,12 +14,12 @@ ghost use Rattle.node_rows.specs.Evaluation.{IsJoined, IsSetting, IsAlong, told_
 use crate::arcs::{ArcEnds, ArcValues, arc_values};
 use crate::entries::{DrivingCell, Entry};
 use crate::pin_wires::PinWire;
-use crate::pins::own_name;
 use crate::scaling::{factor_of, scaled};
 use crate::settings::{Before, NodeAt, Setting};
 use netlist_store::Store;
 use nldm_lookup::OutOfRange;
 use sta_units::{LIM, root};
+use store_pins::own_name;
 use timing_defs::{NodeRow, Split};
 
 /// What nothing brings.

@@ -20,7 +20,7 @@ ghost use Rattle.node_rows.specs.FoundNets.{IsFoundNet, IsNetAnswer};
 ghost use Rattle.node_rows.specs.Evaluation.{IsUnfit};
 
 use crate::found_nets::{FoundNet, put_found};
-use crate::loads::{bare_load, lumped_load, pins_on};
+use crate::loads::{bare_load, lumped_load};
 use crate::net_trees::{NetTrees, driver_of, have_one_cap, pin_caps, wires_to};
 use crate::pin_wires::{NetLoad, PinWire, Wires};
 use crate::ports::Ports;
@@ -33,6 +33,7 @@ use sta_outside::NoGate;
 use sta_units::{Af, Memory};
 use std::alloc::Global;
 use std::thread::Threads;
+use store_pins::pins_on;
 use timing_defs::{Fault, Items, Name, NetRc, PinCap, Place, Split};
 
 /// Why a tree is not made: memory is wanting, or a quantity of it leaves its limit.

@@ -10,7 +10,6 @@ ghost use Rattle.node_rows.specs.FoundNets.{IsFoundNet};
 ghost use Rattle.node_rows.specs.RenewedNets.{resized, no_load, without_wires, AreSized, IsRenewed, HaveNetsBut};
 
 use crate::found_nets::{FoundNet, put_wires};
-use crate::loads::pins_on;
 use crate::pin_wires::{NetLoad, PinWire, Wires};
 use crate::ports::Ports;
 use crate::wire_tables::{fault_of, found_net};
@@ -18,6 +17,7 @@ use cow_table::CowTable;
 use netlist_store::{Store, Touched};
 use sta_units::{Af, Again, Memory};
 use std::alloc::Global;
+use store_pins::pins_on;
 use timing_defs::{Fault, Name};
 
 /// Adds copies of an item up to that many items.

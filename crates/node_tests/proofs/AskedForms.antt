@@ -26,9 +26,9 @@ use Rattle.netlist_store.specs.Linked.{IsLinked}
 use Rattle.pin_graph.specs.Nodes.{node_at, node_bound, pin_under}
 use Rattle.pin_graph.specs.Graphs.{network_at, IsGraph}
 use Rattle.pin_graph.specs.RowTables.{AreRows, row_numbered}
-use Rattle.pin_graph.proofs.Members.{some_is}
-use Rattle.pin_graph.proofs.PinNames.{tests_good}
-use Rattle.pin_graph.proofs.PinLaws.{inst_of_number, own_in}
+use Rattle.timing_defs.proofs.Members.{some_is}
+use Rattle.store_pins.proofs.PinNames.{tests_good}
+use Rattle.store_pins.proofs.PinLaws.{inst_of_number, own_in}
 use Rattle.pin_graph.proofs.NodeLaws.{has_node}
 use Rattle.node_tests.specs.declared.needs.TestEnds.{TestEnds}
 use Rattle.node_tests.specs.declared.node_test.NodeTest.{NodeTest}

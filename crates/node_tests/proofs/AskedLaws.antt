@@ -23,8 +23,8 @@ use Rattle.netlist_store.specs.Numbering.{name_at, is_number, inst_numbered, IsN
 use Rattle.netlist_store.specs.Linked.{IsLinked}
 use Rattle.pin_graph.specs.Nodes.{pin_under}
 use Rattle.pin_graph.specs.Graphs.{IsGraph}
-use Rattle.pin_graph.proofs.Members.{some_is}
-use Rattle.pin_graph.proofs.PinLaws.{HasNumber, IsInst, pin_of_number, inst_of_number}
+use Rattle.timing_defs.proofs.Members.{some_is}
+use Rattle.store_pins.proofs.PinLaws.{HasNumber, IsInst, pin_of_number, inst_of_number}
 use Rattle.pin_graph.proofs.NodeLaws.{HasNode, has_node}
 use Rattle.node_tests.specs.declared.needs.TestEnds.{TestEnds}
 use Rattle.node_tests.specs.declared.node_test.NodeTest.{NodeTest}

@@ -19,8 +19,8 @@ use Rattle.netlist_store.specs.Linked.{IsLinked}
 use Rattle.pin_graph.specs.declared.arcs.GraphArc.{GraphArc}
 use Rattle.pin_graph.specs.Nodes.{node_at, node_bound, pin_under, tran_under}
 use Rattle.pin_graph.specs.Graphs.{Graphed, fan_at, network_at, level_at, IsGraph, IsArc, kind_between}
-use Rattle.pin_graph.proofs.Members.{some_is, first_in, none_in}
-use Rattle.pin_graph.proofs.PinLaws.{pin_of_number}
+use Rattle.timing_defs.proofs.Members.{some_is, first_in, none_in}
+use Rattle.store_pins.proofs.PinLaws.{pin_of_number}
 use Rattle.pin_graph.proofs.NodeLaws.{HasNode, node_told, node_below, has_node, same_node_at}
 use Rattle.pin_graph.proofs.GraphRows.{Stands, level, level_is, placed, low_level}
 use Rattle.node_tests.specs.Walks.{has_clock, clock_of, first_from, IsAbove, IsTop, StartsOn}

@@ -21,9 +21,9 @@ use Rattle.netlist_store.specs.Numbering.{Stored, is_number, inst_numbered, pin_
 use Rattle.netlist_store.specs.Linked.{IsLinked}
 use Rattle.pin_graph.specs.Nodes.{node_at, node_bound, pin_under}
 use Rattle.pin_graph.specs.Graphs.{Graphed, network_at, IsGraph}
-use Rattle.pin_graph.proofs.Members.{some_is, none_in, in_map, in_map_back, any_in, any_back}
+use Rattle.timing_defs.proofs.Members.{some_is, none_in, in_map, in_map_back, any_in, any_back}
 use Rattle.pin_graph.proofs.WalkLaws.{both_same}
-use Rattle.node_rows.proofs.PinLaws.{pin_at_number, owner_told}
+use Rattle.store_pins.proofs.PinLaws.{pin_at_number, owner_told}
 use Rattle.node_tests.specs.Registers.{pin_node, late_pins}
 use Rattle.node_tests.specs.Endpoints.{is_clocked_test, is_on_network, is_clocked_by}
 use Rattle.node_tests.proofs.ClimbLaws.{node_pin}

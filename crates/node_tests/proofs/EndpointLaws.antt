@@ -16,8 +16,8 @@ use Rattle.timing_defs.specs.Clocking.{cell_tests}
 use Rattle.timing_defs.specs.Tests.{tests_pin, is_endpoint}
 use Rattle.netlist_store.specs.Numbering.{Stored, is_number, inst_numbered, pin_numbered, owner_number, IsNumbered}
 use Rattle.netlist_store.specs.Linked.{IsLinked}
-use Rattle.pin_graph.proofs.Members.{some_is}
-use Rattle.node_rows.proofs.PinLaws.{pin_at_number, owner_told}
+use Rattle.timing_defs.proofs.Members.{some_is}
+use Rattle.store_pins.proofs.PinLaws.{pin_at_number, owner_told}
 
 -- a pin that drives its net is no endpoint
 pub driver_end : (d : Design) (o : Option Pin) → option_map is_driver o ≡ Some true → option_map (is_endpoint d) o ≡ Some false

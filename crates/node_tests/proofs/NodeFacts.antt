@@ -20,8 +20,8 @@ use Rattle.netlist_store.specs.Linked.{IsLinked}
 use Rattle.pin_graph.specs.Nodes.{node_number}
 use Rattle.pin_graph.specs.Graphs.{Graphed, IsGraph}
 use Rattle.pin_graph.specs.RowTables.{AreRowsFine}
-use Rattle.pin_graph.proofs.Members.{in_flat_map}
-use Rattle.pin_graph.proofs.PinLaws.{pin_told}
+use Rattle.timing_defs.proofs.Members.{in_flat_map}
+use Rattle.store_pins.proofs.PinLaws.{pin_told}
 use Rattle.pin_graph.proofs.JoinLaws.{net_listed}
 use Rattle.pin_graph.proofs.GraphRows.{Stands, level, placed}
 use Rattle.node_rows.proofs.FineLaws.{fine_slew_is}

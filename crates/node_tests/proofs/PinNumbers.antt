@@ -10,8 +10,8 @@ use Rattle.timing_defs.specs.Netlist.{pins, cell_of, cell_pin, cell_pins}
 use Rattle.netlist_store.specs.Numbering.{Stored, inst_numbered, IsNumbered}
 use Rattle.netlist_store.specs.Linked.{IsLinked}
 use Rattle.pin_graph.specs.Nodes.{node_at, node_bound, node_number, number_at}
-use Rattle.pin_graph.proofs.Members.{some_is}
-use Rattle.pin_graph.proofs.PinLaws.{pin_told, inst_of_number, own_in}
+use Rattle.timing_defs.proofs.Members.{some_is}
+use Rattle.store_pins.proofs.PinLaws.{pin_told, inst_of_number, own_in}
 use Rattle.pin_graph.proofs.NodeLaws.{HasNode, node_told, node_below}
 use Rattle.node_tests.specs.Registers.{pin_node, late_pins}
 

@@ -23,7 +23,7 @@ use Rattle.timing_defs.specs.Clocking.{cell_tests}
 use Rattle.timing_defs.specs.Tests.{data_split, same_kind, is_test_of, library_tests}
 use Rattle.timing_defs.specs.Edits.{cells_agree, same_set, same_cell_pin, same_arc, same_test}
 use Rattle.timing_defs.specs.Documents.{is_cell_test, has_pin, is_pin_of}
-use Rattle.pin_graph.proofs.Members.{first_in, later_in, all_in, any_back, found_by}
+use Rattle.timing_defs.proofs.Members.{first_in, later_in, all_in, any_back, found_by}
 
 none_kept : {X : Type 0} (p : X → Bool) (xs : List X) → ((x : X) → Contains xs x → p x ≡ true → ⊥) → filter p xs ≡ []
 none_kept p [] none = refl

@@ -20,8 +20,8 @@ use Rattle.netlist_store.specs.Numbering.{Stored, name_at, is_number, inst_numbe
 use Rattle.netlist_store.specs.Linked.{IsLinked}
 use Rattle.pin_graph.specs.Nodes.{node_at, node_bound, pin_under, tran_under}
 use Rattle.pin_graph.specs.RowTables.{AreRows}
-use Rattle.pin_graph.proofs.Members.{some_is}
-use Rattle.node_rows.proofs.PinLaws.{HasNumber, pin_at_number, IsOwner, owner_told}
+use Rattle.timing_defs.proofs.Members.{some_is}
+use Rattle.store_pins.proofs.PinLaws.{HasNumber, pin_at_number, IsOwner, owner_told}
 use Rattle.node_tests.specs.declared.node_test.NodeTest.{NodeTest}
 use Rattle.node_tests.specs.Outputs.{is_delay_of, delay_test}
 use Rattle.node_tests.specs.NodeTests.{AreTests, tests_numbered, is_wide_numbered}

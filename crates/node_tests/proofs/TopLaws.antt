@@ -30,9 +30,9 @@ use Rattle.timing_defs.specs.Documents.{is_cell_test}
 use Rattle.netlist_store.specs.Numbering.{Stored, is_number, pin_numbered, IsNumbered}
 use Rattle.netlist_store.specs.Linked.{IsLinked}
 use Rattle.pin_graph.specs.Nodes.{node_at, pin_under, tran_under}
-use Rattle.pin_graph.proofs.Members.{none_in, in_cases}
-use Rattle.pin_graph.proofs.PinNames.{pinned, tests_good}
-use Rattle.pin_graph.proofs.PinLaws.{own_back}
+use Rattle.timing_defs.proofs.Members.{none_in, in_cases}
+use Rattle.store_pins.proofs.PinNames.{pinned, tests_good}
+use Rattle.store_pins.proofs.PinLaws.{own_back}
 use Rattle.pin_graph.proofs.NodeLaws.{HasNode, has_node}
 use Rattle.node_rows.specs.Evaluation.{IsPlaced}
 use Rattle.node_tests.specs.declared.node_test.NodeTest.{NodeTest}

@@ -10,11 +10,12 @@ ghost use Rattle.node_tests.specs.Registers.{late_pins};
 ghost use Rattle.node_tests.specs.Endpoints.{is_clocked_test, is_on_network, is_clocked_by};
 
 use crate::needs::same_kind;
-use crate::pins::{drives, own_name, pin_node};
+use crate::pins::pin_node;
 use netlist_store::Store;
 use pin_graph::Graph;
 use sta_units::Memory;
 use std::alloc::Global;
+use store_pins::{drives, own_name};
 use timing_defs::{Cell, CellPin, CellTest, Kind, Split, Tran};
 
 /// Whether some test stands at the data pin of that name in its cell.

@@ -7,11 +7,11 @@ ghost use Rattle.node_tests.specs.NodeTests.{AreTests, tests_numbered, is_wide_n
 
 use crate::node_test::NodeTest;
 use crate::outputs::output_tests;
-use crate::pins::{drives, own_name};
 use crate::registers::{Asked, register_tests};
 use netlist_store::Store;
 use pin_graph::Graph;
 use std::alloc::Global;
+use store_pins::{drives, own_name};
 use timing_defs::{Fault, Items, Kind, Rows};
 
 /// The tests of a node of a kind, in the order of the definition: at a data pin of a register its setup or

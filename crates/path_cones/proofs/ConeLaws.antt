@@ -15,7 +15,7 @@ use Rattle.timing_defs.specs.declared.kinds.Kind.{Kind}
 use Rattle.timing_defs.specs.Tests.{data_split}
 use Rattle.netlist_store.specs.Numbering.{Stored}
 use Rattle.pin_graph.specs.declared.arcs.GraphArc.{GraphArc}
-use Rattle.pin_graph.proofs.Members.{some_is, any_back, in_filter_map_back}
+use Rattle.timing_defs.proofs.Members.{some_is, any_back, in_filter_map_back}
 use Rattle.worst_walks.specs.declared.cones.WalkArc.{WalkArc}
 use Rattle.worst_walks.specs.Walks.{delay_in, AreApart}
 use Rattle.path_cones.specs.Reaching.{is_among, AreOnce}

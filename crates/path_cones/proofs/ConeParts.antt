@@ -30,8 +30,8 @@ use Rattle.levelizer.specs.Levels.{greatest}
 use Rattle.pin_graph.specs.declared.arcs.GraphArc.{GraphArc}
 use Rattle.pin_graph.specs.Nodes.{node_at, node_number, node_bound}
 use Rattle.pin_graph.specs.Graphs.{Graphed, IsGraph, IsArc, fan_at, level_at, network_at, kind_between}
-use Rattle.pin_graph.proofs.Members.{some_is, none_in, in_map, any_in, any_back, number_in}
-use Rattle.pin_graph.proofs.PinNames.{same_is, same_self}
+use Rattle.timing_defs.proofs.Members.{some_is, none_in, in_map, any_in, any_back, number_in}
+use Rattle.timing_defs.proofs.SameNames.{same_is, same_self}
 use Rattle.pin_graph.proofs.LevelBound.{level_low}
 use Rattle.pin_graph.proofs.NodeLaws.{HasNode, node_told, has_node, same_node_at}
 use Rattle.pin_graph.proofs.GraphRows.{placed}

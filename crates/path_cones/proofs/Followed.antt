@@ -17,7 +17,7 @@ use Rattle.netlist_store.specs.Numbering.{Stored, IsNumbered}
 use Rattle.pin_graph.specs.declared.arcs.GraphArc.{GraphArc}
 use Rattle.pin_graph.specs.Nodes.{node_bound}
 use Rattle.pin_graph.specs.Graphs.{Graphed, IsGraph, fan_at, level_at, network_at}
-use Rattle.pin_graph.proofs.Members.{some_is, none_in, any_back, in_filter_map_back}
+use Rattle.timing_defs.proofs.Members.{some_is, none_in, any_back, in_filter_map_back}
 use Rattle.pin_graph.proofs.ArcLaws.{mapped_more}
 use Rattle.worst_walks.specs.declared.cones.WalkArc.{WalkArc}
 use Rattle.worst_walks.specs.Walks.{delay_in, AreApart}

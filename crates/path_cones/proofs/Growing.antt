@@ -14,7 +14,7 @@ use Rattle.netlist_store.specs.Numbering.{Stored, name_at}
 use Rattle.pin_graph.specs.declared.arcs.GraphArc.{GraphArc}
 use Rattle.pin_graph.specs.Nodes.{node_at, node_bound, pin_under, tran_under}
 use Rattle.pin_graph.specs.Graphs.{Graphed, IsGraph, IsArc, from_of, fan_at, network_at}
-use Rattle.pin_graph.proofs.PinLaws.{below_bound}
+use Rattle.store_pins.proofs.PinLaws.{below_bound}
 use Rattle.path_cones.specs.Reaching.{is_among, AreAmong, followed, AreReached, AreOnce}
 
 -- a list after some insertions begins as it was, and has no others than those inserted

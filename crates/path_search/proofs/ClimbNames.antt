@@ -22,8 +22,8 @@ use Rattle.levelizer.specs.Levels.{greatest}
 use Rattle.pin_graph.specs.declared.arcs.GraphArc.{GraphArc}
 use Rattle.pin_graph.specs.Nodes.{node_at, node_bound, node_number, pin_under, tran_under}
 use Rattle.pin_graph.specs.Graphs.{Graphed, IsGraph, IsArc, fan_at, level_at, kind_between}
-use Rattle.pin_graph.proofs.Members.{some_is, first_in, none_in}
-use Rattle.pin_graph.proofs.PinLaws.{below_bound, pin_told}
+use Rattle.timing_defs.proofs.Members.{some_is, first_in, none_in}
+use Rattle.store_pins.proofs.PinLaws.{below_bound, pin_told}
 use Rattle.pin_graph.proofs.JoinLaws.{then_back, mapped_back}
 use Rattle.pin_graph.proofs.NodeLaws.{has_node, node_below, node_told}
 use Rattle.node_tests.specs.Walks.{first_from}

@@ -24,7 +24,7 @@ use Rattle.worst_walks.proofs.Offers.{walked, joined, end_within}
 use Rattle.path_search.specs.Launches.{IsLaunched, IsCourse, IsLaunchSlack, begin_names, edge_of_launch, launch_slacks, signed}
 use Rattle.path_search.specs.Offers.{IsOffer}
 use Rattle.path_search.proofs.PathParts.{map_append}
-use Rattle.pin_graph.proofs.Members.{first_in, none_in, in_map, in_map_back}
+use Rattle.timing_defs.proofs.Members.{first_in, none_in, in_map, in_map_back}
 use Rattle.path_search.proofs.RankLaws.{Each, each_more, each_append, lists_agree}
 use Rattle.path_search.proofs.Shifts.{less, slacks_shift}
 use Rattle.path_search.proofs.ConeTails.{AreNodes, IsPlace, tail_of, walk_of}

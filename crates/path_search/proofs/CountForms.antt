@@ -14,7 +14,7 @@ use Rattle.netlist_store.specs.Numbering.{Stored, name_at, is_number, IsNumbered
 use Rattle.netlist_store.specs.Linked.{IsLinked}
 use Rattle.pin_graph.specs.Nodes.{node_at, node_bound, pin_under, tran_under}
 use Rattle.pin_graph.specs.Graphs.{Graphed, IsGraph}
-use Rattle.pin_graph.proofs.Members.{some_is}
+use Rattle.timing_defs.proofs.Members.{some_is}
 use Rattle.pin_graph.proofs.NodeLaws.{has_node, node_below, under_number}
 use Rattle.node_tests.specs.NodeTests.{IsClockNode, tests_numbered}
 use Rattle.node_tests.proofs.ClimbLaws.{node_pin}

@@ -15,7 +15,7 @@ use Rattle.netlist_store.specs.Numbering.{Stored, IsNumbered}
 use Rattle.netlist_store.specs.Linked.{IsLinked}
 use Rattle.pin_graph.specs.Nodes.{node_at}
 use Rattle.pin_graph.specs.Graphs.{Graphed, IsGraph}
-use Rattle.pin_graph.proofs.Members.{none_in, in_cases, some_is, first_in, later_in, in_map, in_map_back, in_filter, kept_in, passes_in}
+use Rattle.timing_defs.proofs.Members.{none_in, in_cases, some_is, first_in, later_in, in_map, in_map_back, in_filter, kept_in, passes_in}
 use Rattle.node_tests.specs.NodeTests.{IsClockNode, tests_numbered}
 use Rattle.pessimism_credit.specs.declared.rows.TreeRow.{TreeRow}
 use Rattle.path_search.specs.declared.counted.Counted.{Counted}

@@ -18,8 +18,8 @@ use Rattle.timing_defs.specs.Rows.{arrival}
 use Rattle.timing_defs.specs.Tests.{Test, data_split, network_walk, first_edge, library_tests, need_at, test_on, test_along, register_tests, port_tests, output_test, tests_at}
 use Rattle.timing_defs.specs.Paths.{Named, named, is_network_named, same_named, last_common, spread_at, credit}
 use Rattle.std.specs.Str.{bytes_eq}
-use Rattle.pin_graph.proofs.Members.{none_in, in_map_back, in_flat_map_back, in_filter_map_back, kept_in}
-use Rattle.pin_graph.proofs.PinLaws.{own_in, own_back, own_pins}
+use Rattle.timing_defs.proofs.Members.{none_in, in_map_back, in_flat_map_back, in_filter_map_back, kept_in}
+use Rattle.store_pins.proofs.PinLaws.{own_in, own_back, own_pins}
 use Rattle.pin_graph.proofs.JoinLaws.{then_back, mapped_back}
 use Rattle.path_search.specs.Runs.{AreSteps, IsTimed}
 use Rattle.path_search.specs.Launches.{IsByWalk, IsAlone, IsParted, walk_names}

@@ -32,8 +32,8 @@ use Rattle.netlist_store.specs.Linked.{IsLinked}
 use Rattle.pin_graph.specs.Nodes.{node_at, node_bound, pin_under}
 use Rattle.pin_graph.specs.Graphs.{Graphed, IsGraph, place_at}
 use Rattle.pin_graph.specs.RowTables.{AreRowsFine}
-use Rattle.pin_graph.proofs.Members.{some_is, any_in, in_flat_map, first_in, later_in}
-use Rattle.pin_graph.proofs.PinNames.{same_self}
+use Rattle.timing_defs.proofs.Members.{some_is, any_in, in_flat_map, first_in, later_in}
+use Rattle.timing_defs.proofs.SameNames.{same_self}
 use Rattle.pin_graph.proofs.NodeLaws.{has_node, node_below, under_number}
 use Rattle.node_tests.specs.declared.node_test.NodeTest.{NodeTest}
 use Rattle.node_tests.specs.NodeTests.{IsClockNode, IsTest, AreTests, tests_numbered, is_wide_numbered, IsTestFault}

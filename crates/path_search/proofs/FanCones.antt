@@ -25,11 +25,11 @@ use Rattle.netlist_store.specs.Linked.{IsLinked}
 use Rattle.netlist_store.specs.Numbering.{Stored, IsNumbered}
 use Rattle.pin_graph.specs.Nodes.{node_at, node_bound, node_number, pin_under}
 use Rattle.pin_graph.specs.Graphs.{Graphed, IsGraph, level_at, network_at}
-use Rattle.pin_graph.proofs.PinLaws.{pin_told}
+use Rattle.store_pins.proofs.PinLaws.{pin_told}
 use Rattle.pin_graph.proofs.NodeLaws.{has_node, node_told, node_below}
-use Rattle.pin_graph.proofs.Members.{some_is, first_in}
+use Rattle.timing_defs.proofs.Members.{some_is, first_in}
 use Rattle.pin_graph.proofs.JoinLaws.{then_back, mapped_back, unless_some}
-use Rattle.pin_graph.proofs.PinNames.{same_is, same_self}
+use Rattle.timing_defs.proofs.SameNames.{same_is, same_self}
 use Rattle.node_tests.proofs.ClimbLaws.{node_pin}
 use Rattle.worst_walks.specs.declared.cones.WalkArc.{WalkArc}
 use Rattle.worst_walks.specs.declared.cones.Launch.{Launch}

@@ -17,8 +17,8 @@ use Rattle.pin_graph.specs.declared.arcs.GraphArc.{GraphArc}
 use Rattle.pin_graph.specs.Nodes.{node_at, node_bound, pin_under, tran_under}
 use Rattle.pin_graph.specs.Graphs.{Graphed, IsGraph, fan_at, network_at, place_at}
 use Rattle.pin_graph.specs.RowTables.{AreRowsFine, row_numbered}
-use Rattle.pin_graph.proofs.Members.{some_is, first_in}
-use Rattle.pin_graph.proofs.PinLaws.{pin_at_number}
+use Rattle.timing_defs.proofs.Members.{some_is, first_in}
+use Rattle.store_pins.proofs.PinLaws.{pin_at_number}
 use Rattle.pin_graph.proofs.NodeLaws.{has_node, node_below}
 use Rattle.node_tests.specs.declared.node_test.NodeTest.{NodeTest}
 use Rattle.node_tests.specs.NodeTests.{AreTests, tests_numbered}

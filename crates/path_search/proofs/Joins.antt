@@ -11,7 +11,7 @@ use Rattle.timing_defs.specs.Netlist.{Node}
 use Rattle.timing_defs.specs.Rows.{plus_some, start_at}
 use Rattle.timing_defs.specs.Tests.{first_edge}
 use Rattle.timing_defs.specs.Paths.{Named, named, walk_delay, is_network_named, launch_node, last_of}
-use Rattle.pin_graph.proofs.Members.{some_is}
+use Rattle.timing_defs.proofs.Members.{some_is}
 use Rattle.path_search.specs.Runs.{AreSteps, end_of, IsTimed}
 use Rattle.path_search.specs.Launches.{IsWhole, IsByWalk, IsAlone, IsParted}
 use Rattle.path_search.proofs.Prefixes.{walk_is_told}

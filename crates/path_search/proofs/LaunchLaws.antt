@@ -26,7 +26,7 @@ use Rattle.pin_graph.specs.declared.arcs.GraphArc.{GraphArc}
 use Rattle.pin_graph.specs.Nodes.{node_at, node_bound, pin_under}
 use Rattle.pin_graph.specs.Graphs.{Graphed, IsGraph, IsArc, fan_at, network_at, place_at, kind_between}
 use Rattle.pin_graph.specs.RowTables.{AreRowsFine, row_numbered}
-use Rattle.pin_graph.proofs.Members.{some_is, none_in, first_in}
+use Rattle.timing_defs.proofs.Members.{some_is, none_in, first_in}
 use Rattle.pin_graph.proofs.JoinLaws.{mapped_back}
 use Rattle.pin_graph.proofs.NodeLaws.{HasNode, has_node, node_told, node_below, same_node_at, under_number}
 use Rattle.pin_graph.proofs.GraphRows.{placed}

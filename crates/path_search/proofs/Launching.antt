@@ -14,7 +14,7 @@ use Rattle.timing_defs.specs.Clocking.{is_network}
 use Rattle.timing_defs.specs.Rows.{arrival}
 use Rattle.timing_defs.specs.Tests.{Test, data_split, network_walk, first_edge}
 use Rattle.timing_defs.specs.Paths.{Named, named, node_named, last_of, start_of, path_slacks}
-use Rattle.pin_graph.proofs.Members.{some_is}
+use Rattle.timing_defs.proofs.Members.{some_is}
 use Rattle.pin_graph.proofs.JoinLaws.{then_back, mapped_back}
 use Rattle.path_search.specs.Runs.{end_of, IsTimed}
 use Rattle.path_search.specs.Launches.{IsWhole, IsByWalk, IsAlone, IsParted, IsLaunched, IsTail, IsFound, before_end, begin_names, edge_of_launch, edge_of_start, launch_slacks}

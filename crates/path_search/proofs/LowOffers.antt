@@ -24,7 +24,7 @@ use Rattle.timing_defs.specs.Rows.{edge_time, launch_edges, outer_some, outermos
 use Rattle.timing_defs.specs.Rules.{cycles, is_tested, with_cycles}
 use Rattle.timing_defs.specs.Tests.{separation_on, uncertainty_on}
 use Rattle.netlist_store.specs.Linked.{IsLinked}
-use Rattle.pin_graph.proofs.Members.{first_in, in_filter_map, later_in, some_is}
+use Rattle.timing_defs.proofs.Members.{first_in, in_filter_map, later_in, some_is}
 use Rattle.path_rules.specs.Clocks.{IsClock}
 use Rattle.path_rules.specs.Ranges.{range_of}
 use Rattle.path_rules.proofs.CycleRanges.{ranged}

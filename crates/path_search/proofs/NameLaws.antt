@@ -7,9 +7,8 @@ use Rattle.timing_defs.specs.Netlist.{Pin, pin_named}
 use Rattle.timing_defs.specs.Paths.{owner_named}
 use Rattle.netlist_store.specs.Numbering.{Stored, name_at, is_number, owner_number, IsNumbered}
 use Rattle.netlist_store.specs.Linked.{IsLinked}
-use Rattle.pin_graph.proofs.Members.{some_is}
-use Rattle.pin_graph.proofs.PinLaws.{pin_at_number}
-use Rattle.node_rows.proofs.PinLaws.{owner_told}
+use Rattle.timing_defs.proofs.Members.{some_is}
+use Rattle.store_pins.proofs.PinLaws.{pin_at_number, owner_told}
 
 pub owner_is : (s : Stored) → IsNumbered s → IsLinked s.design → (pin inst : ℕ) → is_number s.pins pin ≡ true → Some inst ≡ owner_number s pin → (i : Inst)
     → name_at s.insts inst ≡ Some i.name → (copy : List ℕ) → copy ≡ i.name → (name : List ℕ) → name_at s.pins pin ≡ Some name → Some copy ≡ owner_named s.design name

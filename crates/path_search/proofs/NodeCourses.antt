@@ -20,11 +20,11 @@ use Rattle.netlist_store.specs.Linked.{IsLinked}
 use Rattle.netlist_store.specs.Numbering.{Stored, IsNumbered}
 use Rattle.pin_graph.specs.Nodes.{node_at, node_number}
 use Rattle.pin_graph.specs.Graphs.{Graphed, IsGraph, network_at}
-use Rattle.pin_graph.proofs.PinLaws.{pin_told}
+use Rattle.store_pins.proofs.PinLaws.{pin_told}
 use Rattle.pin_graph.proofs.NodeLaws.{node_told}
-use Rattle.pin_graph.proofs.Members.{some_is}
+use Rattle.timing_defs.proofs.Members.{some_is}
 use Rattle.pin_graph.proofs.JoinLaws.{then_back, mapped_back, unless_some}
-use Rattle.pin_graph.proofs.PinNames.{same_is, same_self}
+use Rattle.timing_defs.proofs.SameNames.{same_is, same_self}
 use Rattle.worst_walks.specs.Walks.{walk_sum}
 use Rattle.path_cones.specs.Delays.{arc_numbered, followed_delay, signed as turned}
 use Rattle.path_search.specs.Launches.{IsCourse, IsLaunched, IsLaunchSlack, IsReached, IsTail, launch_slacks, signed}

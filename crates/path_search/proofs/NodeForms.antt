@@ -17,7 +17,7 @@ use Rattle.netlist_store.specs.Numbering.{Stored, IsNumbered}
 use Rattle.pin_graph.specs.Nodes.{node_at, node_bound}
 use Rattle.pin_graph.specs.Graphs.{Graphed, IsGraph, level_at}
 use Rattle.pin_graph.specs.RowTables.{AreRowsFine, row_numbered}
-use Rattle.pin_graph.proofs.Members.{some_is}
+use Rattle.timing_defs.proofs.Members.{some_is}
 use Rattle.arc_delays.specs.declared.tables.ArcDelay.{ArcDelay}
 use Rattle.arc_delays.specs.Delays.{AreDelays}
 use Rattle.path_cones.specs.Following.{arcs_followed}

@@ -29,7 +29,7 @@ use Rattle.netlist_store.specs.Numbering.{IsNumbered}
 use Rattle.pin_graph.specs.Nodes.{node_at}
 use Rattle.pin_graph.specs.Graphs.{Graphed, IsGraph, place_at}
 use Rattle.pin_graph.specs.RowTables.{AreRowsFine}
-use Rattle.pin_graph.proofs.Members.{all_in, first_in, later_in, some_is}
+use Rattle.timing_defs.proofs.Members.{all_in, first_in, later_in, some_is}
 use Rattle.path_rules.specs.declared.ranges.CycleRange.{CycleRange}
 use Rattle.path_rules.specs.Ranges.{greater, widened, range_over, range_of, plain_range}
 use Rattle.path_rules.proofs.CycleRanges.{ranged}

@@ -26,7 +26,7 @@ use Rattle.pin_graph.specs.Nodes.{node_at, node_bound}
 use Rattle.pin_graph.specs.Graphs.{Graphed, IsGraph, level_at, network_at}
 use Rattle.pin_graph.specs.RowTables.{AreRowsFine, row_numbered}
 use Rattle.pin_graph.proofs.JoinLaws.{then_back, mapped_back}
-use Rattle.pin_graph.proofs.Members.{found_in, in_filter_map_back, some_is, none_in, any_in, in_cases}
+use Rattle.timing_defs.proofs.Members.{found_in, in_filter_map_back, some_is, none_in, any_in, in_cases}
 use Rattle.arc_delays.specs.declared.tables.ArcDelay.{ArcDelay}
 use Rattle.arc_delays.specs.Delays.{AreDelays}
 use Rattle.worst_walks.specs.declared.cones.WalkArc.{WalkArc}

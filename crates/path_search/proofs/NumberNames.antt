@@ -21,10 +21,10 @@ use Rattle.timing_defs.specs.Paths.{Named, named, named_cmp, tran_cmp}
 use Rattle.netlist_store.specs.Linked.{IsLinked}
 use Rattle.netlist_store.specs.Numbering.{Stored, name_at, number_of, is_number, pin_numbered, IsNumbered}
 use Rattle.pin_graph.specs.Nodes.{node_at, node_number, node_bound, pin_under, tran_under}
-use Rattle.pin_graph.proofs.PinNames.{same_is}
-use Rattle.pin_graph.proofs.PinLaws.{pin_at_number}
+use Rattle.timing_defs.proofs.SameNames.{same_is}
+use Rattle.store_pins.proofs.PinLaws.{pin_at_number}
 use Rattle.pin_graph.proofs.JoinLaws.{then_back, mapped_back}
-use Rattle.pin_graph.proofs.Members.{some_is}
+use Rattle.timing_defs.proofs.Members.{some_is}
 use Rattle.pin_graph.proofs.NodeLaws.{has_node, node_below, under_number}
 use Rattle.path_search.specs.Ranks.{pin_name_at, number_cmp, rank_at, node_of, place_rank}
 use Rattle.path_search.specs.PinCones.{name_told}

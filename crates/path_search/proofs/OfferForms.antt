@@ -10,7 +10,7 @@ use Rattle.netlist_store.specs.Numbering.{Stored, is_number, IsNumbered}
 use Rattle.netlist_store.specs.Linked.{IsLinked}
 use Rattle.pin_graph.specs.Nodes.{node_at, pin_under, tran_under}
 use Rattle.pin_graph.specs.Graphs.{Graphed, IsGraph}
-use Rattle.pin_graph.proofs.PinLaws.{pin_at_number}
+use Rattle.store_pins.proofs.PinLaws.{pin_at_number}
 use Rattle.node_tests.specs.NodeTests.{tests_numbered}
 use Rattle.pessimism_credit.specs.declared.rows.TreeRow.{TreeRow}
 use Rattle.path_search.specs.declared.ends.EndTest.{EndTest}

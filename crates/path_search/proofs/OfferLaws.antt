@@ -20,7 +20,7 @@ use Rattle.netlist_store.specs.Numbering.{Stored, IsNumbered}
 use Rattle.netlist_store.specs.Linked.{IsLinked}
 use Rattle.pin_graph.specs.Nodes.{node_at}
 use Rattle.pin_graph.specs.Graphs.{Graphed, IsGraph, place_at}
-use Rattle.pin_graph.proofs.Members.{none_in, in_cases, some_is, first_in, later_in}
+use Rattle.timing_defs.proofs.Members.{none_in, in_cases, some_is, first_in, later_in}
 use Rattle.pin_graph.proofs.NodeLaws.{has_node}
 use Rattle.node_tests.specs.declared.node_test.NodeTest.{NodeTest}
 use Rattle.node_tests.specs.NodeTests.{IsTest, IsClockNode, tests_numbered}

@@ -11,7 +11,7 @@ use Rattle.timing_defs.specs.Tests.{data_split}
 use Rattle.timing_defs.specs.Paths.{named}
 use Rattle.netlist_store.specs.Numbering.{Stored}
 use Rattle.pin_graph.specs.Nodes.{node_at}
-use Rattle.pin_graph.proofs.Members.{none_in, in_cases}
+use Rattle.timing_defs.proofs.Members.{none_in, in_cases}
 use Rattle.worst_walks.specs.declared.cones.Launch.{Launch}
 use Rattle.path_search.specs.Launches.{IsLaunched, launch_slacks}
 use Rattle.path_search.specs.Offers.{IsOfferAt, AreOffers}

@@ -14,7 +14,7 @@ use Rattle.timing_defs.specs.Clocking.{is_network, is_clock_port}
 use Rattle.timing_defs.specs.Rows.{arcs_in, delay, arrival, plus_some, launch_edges}
 use Rattle.timing_defs.specs.Tests.{network_walk, first_edge}
 use Rattle.timing_defs.specs.Paths.{Named, named, node_named, delay_between, walk_delay, start_of, is_network_named, launch_node}
-use Rattle.pin_graph.proofs.Members.{some_is}
+use Rattle.timing_defs.proofs.Members.{some_is}
 use Rattle.path_search.specs.Runs.{longer, IsTimed}
 use Rattle.path_search.specs.Launches.{IsWhole, IsByWalk, IsParted}
 use Rattle.path_search.proofs.Prefixes.{network_port, from_network, from_one, walk_more, walk_starts}

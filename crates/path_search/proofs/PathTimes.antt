@@ -11,7 +11,7 @@ use Rattle.timing_defs.specs.Netlist.{Node}
 use Rattle.timing_defs.specs.Rows.{arrival, delay, plus_some, launch_edges}
 use Rattle.timing_defs.specs.Tests.{network_walk}
 use Rattle.timing_defs.specs.Paths.{Named, named, node_named, delay_between, walk_delay, times_along, path_times}
-use Rattle.pin_graph.proofs.Members.{some_is}
+use Rattle.timing_defs.proofs.Members.{some_is}
 use Rattle.path_search.specs.Runs.{AreSteps, end_of, IsTimed, IsNetworkWalk}
 use Rattle.path_search.specs.Launches.{IsWhole, IsByWalk, IsAlone, IsParted, IsLaunched, IsTail, begin_names, time_at, before_end, before_last, begin_times}
 use Rattle.path_search.proofs.Prefixes.{from_one, walk_is_told, off_walk}

@@ -18,8 +18,8 @@ use Rattle.netlist_store.specs.Linked.{IsLinked}
 use Rattle.netlist_store.specs.Numbering.{Stored, is_number, IsNumbered}
 use Rattle.pin_graph.specs.Nodes.{node_at, node_number, node_bound, number_at, pin_under}
 use Rattle.pin_graph.specs.Graphs.{Graphed}
-use Rattle.pin_graph.proofs.Members.{some_is, in_map_back, kept_in}
-use Rattle.pin_graph.proofs.PinLaws.{pin_told}
+use Rattle.timing_defs.proofs.Members.{some_is, in_map_back, kept_in}
+use Rattle.store_pins.proofs.PinLaws.{pin_told}
 use Rattle.pin_graph.proofs.NodeLaws.{node_told, node_below}
 use Rattle.worst_walks.specs.declared.cones.WalkEnd.{WalkEnd}
 use Rattle.path_cones.specs.declared.fans.FanIn.{FanIn}

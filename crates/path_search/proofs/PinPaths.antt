@@ -18,7 +18,7 @@ use Rattle.netlist_store.specs.Linked.{IsLinked}
 use Rattle.netlist_store.specs.Numbering.{Stored, is_number, IsNumbered}
 use Rattle.pin_graph.specs.Nodes.{node_at, node_bound, pin_under}
 use Rattle.pin_graph.specs.Graphs.{Graphed, IsGraph, level_at}
-use Rattle.pin_graph.proofs.Members.{some_is}
+use Rattle.timing_defs.proofs.Members.{some_is}
 use Rattle.worst_walks.specs.declared.cones.Launch.{Launch}
 use Rattle.worst_walks.specs.declared.cones.WalkEnd.{WalkEnd}
 use Rattle.worst_walks.specs.declared.cones.Walk.{Walk}

@@ -24,7 +24,7 @@ use Rattle.netlist_store.specs.Numbering.{IsNumbered}
 use Rattle.pin_graph.specs.Nodes.{node_at}
 use Rattle.pin_graph.specs.Graphs.{Graphed, IsGraph, network_at}
 use Rattle.pin_graph.specs.RowTables.{row_numbered}
-use Rattle.pin_graph.proofs.Members.{none_in, in_cases, some_is, in_filter_map_back, found_in, found_passes}
+use Rattle.timing_defs.proofs.Members.{none_in, in_cases, some_is, in_filter_map_back, found_in, found_passes}
 use Rattle.pin_graph.proofs.JoinLaws.{then_back, mapped_back, unless_some}
 use Rattle.path_cones.specs.Delays.{arc_numbered, followed_delay, signed as turned}
 use Rattle.path_search.specs.Launches.{signed}

@@ -15,7 +15,7 @@ use Rattle.timing_defs.specs.Clocking.{is_network, is_clock_port, is_clock_pin, 
 use Rattle.timing_defs.specs.Rows.{arcs_in}
 use Rattle.timing_defs.specs.Tests.{walk_within, network_walk}
 use Rattle.timing_defs.proofs.RowLaws.{first_in, later_in}
-use Rattle.pin_graph.proofs.Members.{some_is, none_in}
+use Rattle.timing_defs.proofs.Members.{some_is, none_in}
 use Rattle.pin_graph.proofs.JoinLaws.{mapped_back}
 use Rattle.node_tests.proofs.OneBefore.{port_first, one_before, before_network}
 use Rattle.path_search.specs.Runs.{IsNext, AreSteps, end_of, longer, IsTimed, IsNetworkWalk}

@@ -28,9 +28,9 @@ use Rattle.node_rows.proofs.FineLaws.{IsFine, IsCarried, fine_arrival_is, fine_m
 use Rattle.pin_graph.specs.Nodes.{node_number}
 use Rattle.pin_graph.specs.Graphs.{Graphed, IsGraph}
 use Rattle.pin_graph.specs.RowTables.{AreRowsFine}
-use Rattle.pin_graph.proofs.Members.{none_in, in_map, in_map_back, in_flat_map, in_filter, kept_in, all_in, found_passes}
-use Rattle.pin_graph.proofs.PinNames.{same_is, same_self}
-use Rattle.pin_graph.proofs.PinLaws.{pin_told}
+use Rattle.timing_defs.proofs.Members.{none_in, in_map, in_map_back, in_flat_map, in_filter, kept_in, all_in, found_passes}
+use Rattle.timing_defs.proofs.SameNames.{same_is, same_self}
+use Rattle.store_pins.proofs.PinLaws.{pin_told}
 use Rattle.pin_graph.proofs.JoinLaws.{net_listed}
 use Rattle.pin_graph.proofs.GraphRows.{Stands, level, placed}
 

@@ -31,7 +31,7 @@ use Rattle.path_rules.specs.Exceptions.{rule_of}
 use Rattle.pessimism_credit.specs.declared.rows.TreeRow.{TreeRow}
 use Rattle.pessimism_credit.specs.Credit.{IsTree, root_path, last_common, pessimism_at, credit_of}
 use Rattle.pessimism_credit.proofs.Climbs.{pessimism_there, pessimism_past, early_there, late_there}
-use Rattle.pin_graph.proofs.Members.{all_in}
+use Rattle.timing_defs.proofs.Members.{all_in}
 use Rattle.path_search.specs.Slacks.{credit_told}
 use Rattle.path_search.proofs.TakenConstraints.{taken}
 

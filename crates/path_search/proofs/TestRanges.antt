@@ -28,8 +28,8 @@ use Rattle.netlist_store.specs.Numbering.{IsNumbered}
 use Rattle.netlist_store.specs.Linked.{IsLinked}
 use Rattle.pin_graph.specs.Graphs.{Graphed, IsGraph}
 use Rattle.pin_graph.specs.RowTables.{AreRowsFine}
-use Rattle.pin_graph.proofs.Members.{none_in, in_map_back, in_flat_map_back, in_filter_map_back, kept_in, all_in, any_in}
-use Rattle.pin_graph.proofs.PinLaws.{own_in, own_back, own_pins}
+use Rattle.timing_defs.proofs.Members.{none_in, in_map_back, in_flat_map_back, in_filter_map_back, kept_in, all_in, any_in}
+use Rattle.store_pins.proofs.PinLaws.{own_in, own_back, own_pins}
 use Rattle.pin_graph.proofs.JoinLaws.{then_back, mapped_back}
 use Rattle.node_tests.proofs.NodeFacts.{slews_fine}
 use Rattle.path_search.specs.Slacks.{IsTestFine}

@@ -22,9 +22,9 @@ use Rattle.netlist_store.specs.Linked.{IsLinked}
 use Rattle.pin_graph.specs.declared.arcs.GraphArc.{GraphArc}
 use Rattle.pin_graph.specs.Nodes.{node_at, node_bound, node_number}
 use Rattle.pin_graph.specs.Graphs.{Graphed, IsGraph, IsArc, fan_at, place_at, of_node, kind_between}
-use Rattle.pin_graph.proofs.Members.{some_is, first_in, any_in, any_back}
-use Rattle.pin_graph.proofs.PinNames.{same_self}
-use Rattle.pin_graph.proofs.PinLaws.{pin_told}
+use Rattle.timing_defs.proofs.Members.{some_is, first_in, any_in, any_back}
+use Rattle.timing_defs.proofs.SameNames.{same_self}
+use Rattle.store_pins.proofs.PinLaws.{pin_told}
 use Rattle.pin_graph.proofs.NodeLaws.{HasNode, has_node, node_told, node_below, one_number, same_node_at}
 use Rattle.pessimism_credit.specs.declared.rows.TreeRow.{TreeRow}
 use Rattle.pessimism_credit.specs.Credit.{parent_of, path_end, root_path, last_common, pessimism_at, credit_of}

@@ -23,7 +23,7 @@ use Rattle.pin_graph.specs.declared.arcs.GraphArc.{GraphArc}
 use Rattle.pin_graph.specs.Nodes.{node_at, node_bound, pin_under}
 use Rattle.pin_graph.specs.Graphs.{Graphed, IsGraph, AreClockNodes, fan_at, place_at, of_node}
 use Rattle.pin_graph.specs.RowTables.{AreRows, AreRowsFine}
-use Rattle.pin_graph.proofs.Members.{some_is, first_in, found_in}
+use Rattle.timing_defs.proofs.Members.{some_is, first_in, found_in}
 use Rattle.pin_graph.proofs.NodeLaws.{has_node, same_node_at}
 use Rattle.pin_graph.proofs.JoinLaws.{then_back}
 use Rattle.node_tests.proofs.ClimbLaws.{node_pin}

@@ -20,7 +20,7 @@ use Rattle.pin_graph.specs.Pulls.{is_left, pins_behind, network_heads, network_t
 use Rattle.pin_graph.specs.PinValues.{IsLonger, pin_level, fed_flag, feeds_flag}
 use Rattle.pin_graph.specs.Renewed.{IsEdited, AreDirty, AreResettled, AreFlagged, IsOff, is_noted}
 use Rattle.pin_graph.proofs.LinksLeft.{ports_left, pins_before_same, tails_same, clock_same, heads_same}
-use Rattle.pin_graph.proofs.Members.{any_back}
+use Rattle.timing_defs.proofs.Members.{any_back}
 use Rattle.pin_graph.proofs.PinRules.{levels_rule, fed_rule, feeds_rule, levels_settled, levels_kept, fed_kept, feeds_kept, fed_settled, feeds_settled, fed_low, feeds_low}
 
 -- one default more at the end reads as before

@@ -35,9 +35,9 @@ use Rattle.eco_laws.proofs.EditOf.{inst_kept_of}
 use Rattle.pin_graph.specs.Alike.{pin_shape, arc_shape, shape_of, shape_in, named_shape, same_shape, IsSameInst, IsSameNet, AreAlike}
 use Rattle.pin_graph.specs.Kept.{HaveSameLinks}
 use Rattle.pin_graph.proofs.AlikeLaws.{same_links}
-use Rattle.pin_graph.proofs.PinNames.{same_is}
-use Rattle.pin_graph.proofs.Members.{any_back}
-use Rattle.pin_graph.proofs.PinLaws.{told_at}
+use Rattle.timing_defs.proofs.SameNames.{same_is}
+use Rattle.timing_defs.proofs.Members.{any_back}
+use Rattle.store_pins.proofs.PinLaws.{told_at}
 use Rattle.pin_graph.proofs.JoinLaws.{then_back}
 
 -- cells of one shape

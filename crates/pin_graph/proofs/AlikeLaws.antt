@@ -24,14 +24,15 @@ use Rattle.netlist_store.specs.Numbering.{Stored, name_at, number_of, inst_numbe
 use Rattle.netlist_store.proofs.SeenPins.{Seen, seen, seen_owner, seen_on}
 use Rattle.pin_graph.specs.declared.pin_arcs.PinArc.{PinArc}
 use Rattle.pin_graph.specs.Alike.{PinShape, ArcShape, Shape, pin_shape, arc_shape, shape_of, shape_in, named_shape, IsSameNet, AreAlike}
-use Rattle.pin_graph.specs.Joins.{numbered_arc, inst_arcs, pin_arcs, driver_number, net_before, before}
+use Rattle.pin_graph.specs.Joins.{numbered_arc, inst_arcs, pin_arcs, net_before, before}
+use Rattle.store_pins.specs.Drivers.{driver_number}
 use Rattle.pin_graph.specs.Networks.{edge_from, inst_tests, clock_ports, clock_pins}
 use Rattle.pin_graph.specs.Kept.{HaveSameLinks}
-use Rattle.pin_graph.proofs.PinNames.{same_is, same_self}
-use Rattle.pin_graph.proofs.Members.{some_is, none_in, in_map, in_map_back, in_flat_map_back, in_filter, passes_in, kept_in, found_in, found_passes, found_some}
-use Rattle.pin_graph.proofs.PinLaws.{told_at, there, HasNumber, pin_found, pin_told, pin_of_number, inst_found, own_in}
+use Rattle.timing_defs.proofs.SameNames.{same_is, same_self}
+use Rattle.timing_defs.proofs.Members.{some_is, none_in, in_map, in_map_back, in_flat_map_back, in_filter, passes_in, kept_in, found_in, found_passes, found_some}
+use Rattle.store_pins.proofs.PinLaws.{told_at, there, HasNumber, pin_found, pin_told, pin_of_number, inst_found, own_in}
 use Rattle.pin_graph.proofs.WalkLaws.{both_same}
-use Rattle.pin_graph.proofs.DriverLaws.{is_the_driver, on_net, driving}
+use Rattle.store_pins.proofs.DriverLaws.{is_the_driver, on_net, driving}
 use Rattle.pin_graph.proofs.JoinLaws.{then_back, mapped_back, numbered_as, net_listed}
 
 -- numberings of the same names

@@ -15,7 +15,7 @@ use Rattle.netlist_store.specs.Applying.{IsEditOf}
 use Rattle.eco_laws.specs.Kept.{is_on_any, has_touched_inst}
 use Rattle.eco_laws.proofs.Numbers.{alike_after}
 use Rattle.pin_graph.specs.Seeds.{is_owned_at, gone_at}
-use Rattle.pin_graph.proofs.PinLaws.{pin_at_number}
+use Rattle.store_pins.proofs.PinLaws.{pin_at_number}
 
 and_false : (a : Bool) → (a && false) ≡ false
 and_false true = refl

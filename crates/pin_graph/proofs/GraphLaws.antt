@@ -21,7 +21,7 @@ use Rattle.pin_graph.specs.Nodes.{node_at, node_bound}
 use Rattle.pin_graph.specs.NodeArcs.{is_cell, node_arcs, raw_into, net_arc, has_comb_from, has_edge_from, AreJoined, AreMerged}
 use Rattle.pin_graph.specs.Kept.{AreTurned}
 use Rattle.pin_graph.specs.Graphs.{kind_between, from_of, to_of, IsArc, AreArcs}
-use Rattle.pin_graph.proofs.Members.{in_filter, passes_in, kept_in, any_in, any_back}
+use Rattle.timing_defs.proofs.Members.{in_filter, passes_in, kept_in, any_in, any_back}
 use Rattle.pin_graph.proofs.WalkLaws.{both_same}
 use Rattle.pin_graph.proofs.NodeLaws.{HasNode, IsOf, has_node, node_told, node_below, same_node_at, raw_back, net_there, library_there, cell_there}
 

@@ -17,7 +17,7 @@ use Rattle.pin_graph.specs.NodeArcs.{node_arcs, node_link, AreNodes, AreMerged}
 use Rattle.pin_graph.specs.NodeGraphs.{IsFound}
 use Rattle.pin_graph.specs.Nodes.{node_bound}
 use Rattle.pin_graph.specs.Placing.{ArePlaced, AreInOrder}
-use Rattle.pin_graph.proofs.PinLaws.{told_at, below_bound}
+use Rattle.store_pins.proofs.PinLaws.{told_at, below_bound}
 use Rattle.pin_graph.proofs.JoinLaws.{net_arc_back, placed_back}
 use Rattle.pin_graph.proofs.NodeLaws.{raw_within}
 

@@ -26,7 +26,7 @@ use Rattle.pin_graph.specs.NodeArcs.{marked, node_link, AreNodes}
 use Rattle.pin_graph.specs.Kept.{AreNumberPlaces}
 use Rattle.pin_graph.specs.Placing.{network_link, port_nodes, ArePlaced}
 use Rattle.pin_graph.specs.Graphs.{Graphed, fan_at, of_node, ArePlaces}
-use Rattle.pin_graph.proofs.Members.{none_in, in_cases, in_map, in_filter_map, in_filter_map_back, in_flat_map, in_flat_map_back, in_filter, passes_in, kept_in, any_in, any_back}
+use Rattle.timing_defs.proofs.Members.{none_in, in_cases, in_map, in_filter_map, in_filter_map_back, in_flat_map, in_flat_map_back, in_filter, passes_in, kept_in, any_in, any_back}
 use Rattle.pin_graph.proofs.NetworkLaws.{ports_begin}
 use Rattle.pin_graph.proofs.WalkLaws.{both_same, levels_rise}
 use Rattle.pin_graph.proofs.NodeLaws.{has_node, under_number, number_again}

@@ -23,8 +23,8 @@ use Rattle.levelizer.specs.Levels.{greatest}
 use Rattle.pin_graph.specs.declared.arcs.GraphArc.{GraphArc}
 use Rattle.pin_graph.specs.Nodes.{node_number, number_at}
 use Rattle.pin_graph.specs.Graphs.{Graphed, IsGraph, IsArc, fan_at, level_at, kind_between}
-use Rattle.pin_graph.proofs.Members.{some_is, none_in, in_map, in_map_back, in_flat_map, in_flat_map_back, kept_in, passes_in, any_back, found_in}
-use Rattle.pin_graph.proofs.PinLaws.{pin_found, pin_told, own_in, own_back, own_pins}
+use Rattle.timing_defs.proofs.Members.{some_is, none_in, in_map, in_map_back, in_flat_map, in_flat_map_back, kept_in, passes_in, any_back, found_in}
+use Rattle.store_pins.proofs.PinLaws.{pin_found, pin_told, own_in, own_back, own_pins}
 use Rattle.timing_defs.proofs.RowLaws.{ArePlacedNodes, AreHighNodes}
 use Rattle.pin_graph.proofs.LevelBound.{level_low}
 use Rattle.pin_graph.proofs.NodeLaws.{HasNode, node_told, node_below, has_node}

@@ -22,11 +22,12 @@ use Rattle.netlist_store.specs.Linked.{joins_nets, IsLinked}
 use Rattle.netlist_store.specs.Numbering.{Stored, number_of, inst_numbered, pin_numbered, IsNumbered}
 use Rattle.levelizer.specs.declared.links.Link.{Link}
 use Rattle.pin_graph.specs.declared.pin_arcs.PinArc.{PinArc}
-use Rattle.pin_graph.specs.Joins.{own_number, pin_arc, arc_between, numbered_arc, inst_arcs, arcs_of, pin_arcs, driver_number, net_before, before, link_from, link_into, net_links, link_of, pin_links}
-use Rattle.pin_graph.proofs.PinNames.{same_is, same_self}
-use Rattle.pin_graph.proofs.Members.{some_is, none_in, in_map, in_map_back, in_flat_map, in_flat_map_back, in_filter_map, in_filter_map_back, in_filter, passes_in, kept_in, any_in, any_back, all_in, found_in, number_in}
-use Rattle.pin_graph.proofs.PinLaws.{HasNumber, pin_told, pin_of_number, inst_told, inst_of_number, own_in, own_back, own_pins, joining}
-use Rattle.pin_graph.proofs.DriverLaws.{IsDriving, driving, is_the_driver, on_net}
+use Rattle.pin_graph.specs.Joins.{own_number, pin_arc, arc_between, numbered_arc, inst_arcs, arcs_of, pin_arcs, net_before, before, link_from, link_into, net_links, link_of, pin_links}
+use Rattle.store_pins.specs.Drivers.{driver_number}
+use Rattle.timing_defs.proofs.SameNames.{same_is, same_self}
+use Rattle.timing_defs.proofs.Members.{some_is, none_in, in_map, in_map_back, in_flat_map, in_flat_map_back, in_filter_map, in_filter_map_back, in_filter, passes_in, kept_in, any_in, any_back, all_in, found_in, number_in}
+use Rattle.store_pins.proofs.PinLaws.{HasNumber, pin_told, pin_of_number, inst_told, inst_of_number, own_in, own_back, own_pins, joining}
+use Rattle.store_pins.proofs.DriverLaws.{IsDriving, driving, is_the_driver, on_net}
 
 pub then_back : {X Y : Type 0} (f : X → Option Y) (o : Option X) (y : Y) → option_and_then f o ≡ Some y → (x : X) × (o ≡ Some x) × (f x ≡ Some y)
 then_back f None y e = absurd (cc)

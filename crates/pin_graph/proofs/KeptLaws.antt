@@ -30,8 +30,8 @@ use Rattle.pin_graph.specs.Placing.{AreInOrder}
 use Rattle.pin_graph.specs.Trees.{AreAllApart}
 use Rattle.pin_graph.specs.Graphs.{Graphed, fan_at, IsFans, AreNodeLevels, IsGraph}
 use Rattle.pin_graph.specs.Kept.{graph_in, AreTurned, AreNumberPlaces, AreFlags, AreTables, IsKept, IsKeptGraph, HaveSameLinks}
-use Rattle.pin_graph.proofs.Members.{none_in, in_map, in_filter}
-use Rattle.pin_graph.proofs.DriverLaws.{none_least}
+use Rattle.timing_defs.proofs.Members.{none_in, in_map, in_filter}
+use Rattle.store_pins.proofs.DriverLaws.{none_least}
 use Rattle.pin_graph.proofs.JoinLaws.{links_lead}
 use Rattle.pin_graph.proofs.WalkLaws.{levels_rise}
 use Rattle.pin_graph.proofs.LoopLaws.{no_loop}

@@ -13,7 +13,7 @@ use Rattle.pin_graph.specs.Joins.{pin_links}
 use Rattle.pin_graph.specs.Networks.{IsNetwork}
 use Rattle.pin_graph.specs.Nodes.{pin_under, node_bound}
 use Rattle.pin_graph.specs.NodeArcs.{node_arcs, node_link, AreNodes, AreMerged}
-use Rattle.pin_graph.proofs.Members.{in_map_back, in_filter, passes_in, kept_in}
+use Rattle.timing_defs.proofs.Members.{in_map_back, in_filter, passes_in, kept_in}
 use Rattle.pin_graph.proofs.JoinLaws.{links_lead}
 use Rattle.pin_graph.proofs.WalkLaws.{levels_rise}
 use Rattle.pin_graph.proofs.NodeLaws.{raw_under}

@@ -14,13 +14,10 @@ pub mod LevelBound
 pub mod LevelLaws
 pub mod LoopLaws
 pub mod LowLevels
-pub mod Members
 pub mod MergeLaws
 pub mod NetworkLaws
 pub mod NodeLaws
 pub mod OwnLaws
-pub mod PinLaws
-pub mod PinNames
 pub mod PlaceLaws
 pub mod PulledLaws
 pub mod RelinkLaws

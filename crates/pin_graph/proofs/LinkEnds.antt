@@ -17,7 +17,7 @@ use Rattle.pin_graph.specs.declared.pin_arcs.PinArc.{PinArc}
 use Rattle.pin_graph.specs.Joins.{pin_arcs, before, link_from, link_into, net_links, link_of, pin_links}
 use Rattle.pin_graph.specs.Networks.{is_comb_arc, comb_link, network_links, turned}
 use Rattle.pin_graph.specs.Pulls.{arcs_into, arcs_from, from_pin, to_pin, pins_before, is_driven_by, sinks_of, pins_behind, network_tails, network_heads}
-use Rattle.pin_graph.proofs.Members.{some_is, in_map, in_map_back, in_filter_map, in_filter_map_back, in_filter, passes_in, kept_in, any_in, any_back, number_in}
+use Rattle.timing_defs.proofs.Members.{some_is, in_map, in_map_back, in_filter_map, in_filter_map_back, in_filter, passes_in, kept_in, any_in, any_back, number_in}
 use Rattle.pin_graph.proofs.JoinLaws.{mapped_back}
 use Rattle.pin_graph.proofs.WalkLaws.{both_same}
 use Rattle.pin_graph.proofs.ArcLaws.{mapped_numbers_more}

@@ -25,8 +25,8 @@ use Rattle.pin_graph.specs.Networks.{is_comb_arc, input_port, port_number, clock
 use Rattle.pin_graph.specs.Seeds.{is_touched_at}
 use Rattle.pin_graph.specs.Pulls.{arcs_into, arcs_from, from_pin, to_pin, pins_before, is_driven_by, sinks_of, pins_behind, network_tails, network_heads, own_arcs, own_clocks, is_gone, is_left}
 use Rattle.pin_graph.proofs.AlikeLaws.{IsTwin, same_input}
-use Rattle.pin_graph.proofs.Members.{in_filter, passes_in, any_in, any_back, number_in}
-use Rattle.pin_graph.proofs.PinLaws.{told_at, pin_of_number, pin_at_number}
+use Rattle.timing_defs.proofs.Members.{in_filter, passes_in, any_in, any_back, number_in}
+use Rattle.store_pins.proofs.PinLaws.{told_at, pin_of_number, pin_at_number}
 use Rattle.pin_graph.proofs.JoinLaws.{then_back, net_arc_back}
 use Rattle.pin_graph.proofs.WalkLaws.{both_same}
 use Rattle.pin_graph.proofs.PullLaws.{driven_so, driven_by, into_is, from_is, clock_is, sink_back}

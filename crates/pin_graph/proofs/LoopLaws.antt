@@ -26,9 +26,9 @@ use Rattle.levelizer.specs.declared.links.Link.{Link}
 use Rattle.levelizer.specs.Levels.{IsJoined, IsWalk, IsCycle, HasNoCycle, AreWithin}
 use Rattle.pin_graph.specs.Joins.{pin_links}
 use Rattle.pin_graph.specs.Loops.{number_name}
-use Rattle.pin_graph.proofs.PinNames.{same_is, same_self}
-use Rattle.pin_graph.proofs.Members.{some_is, any_in, any_back, in_map_back, found_in, found_passes}
-use Rattle.pin_graph.proofs.PinLaws.{HasNumber, told_at, there, pin_found, pin_told, pin_at_number}
+use Rattle.timing_defs.proofs.SameNames.{same_is, same_self}
+use Rattle.timing_defs.proofs.Members.{some_is, any_in, any_back, in_map_back, found_in, found_passes}
+use Rattle.store_pins.proofs.PinLaws.{HasNumber, told_at, there, pin_found, pin_told, pin_at_number}
 use Rattle.pin_graph.proofs.JoinLaws.{links_lead, lead_links, walks_in}
 
 -- names in order

@@ -8,7 +8,7 @@ use Rattle.levelizer.specs.declared.links.Link.{Link}
 use Rattle.levelizer.specs.Levels.{greatest, fan_in, AreLevels, AreWithin}
 use Rattle.pin_graph.specs.declared.arcs.GraphArc.{GraphArc}
 use Rattle.pin_graph.specs.Kept.{AreTurned}
-use Rattle.pin_graph.proofs.Members.{number_in, in_map_back, kept_in}
+use Rattle.timing_defs.proofs.Members.{number_in, in_map_back, kept_in}
 use Rattle.pin_graph.proofs.GraphRows.{greatest_at}
 use Rattle.pin_graph.proofs.LevelBound.{level_low}
 

@@ -14,7 +14,7 @@ use Rattle.pin_graph.specs.declared.arcs.GraphKind.{GraphKind}
 use Rattle.pin_graph.specs.declared.arcs.GraphKind.TheVariants.{Net, Cell, Register}
 use Rattle.pin_graph.specs.declared.arcs.GraphArc.{GraphArc}
 use Rattle.pin_graph.specs.NodeArcs.{is_cell, has_comb_from, has_edge_from, joined_kind, joined_arc, none_arc, noted_place, IsAlike, AreJoined, AreMerged, AreNodes, AreNoted, IsJoinedTo}
-use Rattle.pin_graph.proofs.Members.{none_in, first_in, later_in, passes_in, kept_in, any_in, any_back}
+use Rattle.timing_defs.proofs.Members.{none_in, first_in, later_in, passes_in, kept_in, any_in, any_back}
 
 pub any_push : {X : Type 0} (p : X → Bool) (xs : List X) (x : X) → list_any p (xs ++ x ∷ []) ≡ (list_any p xs || p x)
 any_push p xs x = list_any-append p xs (x ∷ []) ∙ ap (λ b. list_any p xs || b) (or_false (p x))

@@ -28,12 +28,13 @@ use Rattle.levelizer.specs.declared.links.Link.{Link}
 use Rattle.levelizer.specs.Levels.{AreWithin, AreLevels}
 use Rattle.levelizer.specs.Reaching.{has_mark, is_led_to, AreReached}
 use Rattle.pin_graph.specs.declared.pin_arcs.PinArc.{PinArc}
-use Rattle.pin_graph.specs.Joins.{own_number, pin_arc, arc_between, numbered_arc, pin_arcs, driver_number, net_before, before, link_from, link_into, net_links, link_of, pin_links}
+use Rattle.pin_graph.specs.Joins.{own_number, pin_arc, arc_between, numbered_arc, pin_arcs, net_before, before, link_from, link_into, net_links, link_of, pin_links}
+use Rattle.store_pins.specs.Drivers.{driver_number}
 use Rattle.pin_graph.specs.Networks.{is_comb_arc, comb_link, network_links, turned, input_port, port_number, clock_port, clock_ports, edge_from, inst_tests, tests_of, clock_pins, IsNetwork}
-use Rattle.pin_graph.proofs.PinNames.{same_is, same_self}
-use Rattle.pin_graph.proofs.Members.{some_is, none_in, first_in, in_cases, in_map, in_map_back, in_flat_map, in_flat_map_back, in_filter_map, in_filter_map_back, in_filter, passes_in, kept_in, any_in, any_back, number_in}
-use Rattle.pin_graph.proofs.PinLaws.{told_at, below_bound, HasNumber, IsOwn, pin_told, pin_of_number, inst_told, inst_of_number, own_in, own_back, own_pins, joining, clocking}
-use Rattle.pin_graph.proofs.DriverLaws.{driving, on_net}
+use Rattle.timing_defs.proofs.SameNames.{same_is, same_self}
+use Rattle.timing_defs.proofs.Members.{some_is, none_in, first_in, in_cases, in_map, in_map_back, in_flat_map, in_flat_map_back, in_filter_map, in_filter_map_back, in_filter, passes_in, kept_in, any_in, any_back, number_in}
+use Rattle.store_pins.proofs.PinLaws.{told_at, below_bound, HasNumber, IsOwn, pin_told, pin_of_number, inst_told, inst_of_number, own_in, own_back, own_pins, joining, clocking}
+use Rattle.store_pins.proofs.DriverLaws.{driving, on_net}
 use Rattle.pin_graph.proofs.JoinLaws.{then_back, mapped_back, unless_some, IsPlaced, IsNetArc, numbered_as, own_pin, placed_back, placed_in, net_arc_back, net_after, links_lead, sinks_in, net_link}
 use Rattle.pin_graph.proofs.WalkLaws.{both_same, IsBeside, IsFromPin, steps_are_marks, levels_rise, level_short}
 

@@ -16,9 +16,10 @@ use Rattle.netlist_store.specs.Numbering.{Stored, number_of, IsNumbered}
 use Rattle.level_cone.proofs.Counts.{count_cons, count_split, count_never, count_one, either_once}
 use Rattle.pin_graph.specs.Nodes.{node_at, node_number, node_bound, pin_under}
 use Rattle.pin_graph.specs.Graphs.{of_node}
-use Rattle.pin_graph.proofs.Members.{some_is, first_in, later_in, in_cases, in_flat_map, in_flat_map_back, in_map, any_in, any_back}
-use Rattle.pin_graph.proofs.PinNames.{same_self, pins_apart}
-use Rattle.pin_graph.proofs.PinLaws.{HasNumber, pin_told}
+use Rattle.timing_defs.proofs.Members.{some_is, first_in, later_in, in_cases, in_flat_map, in_flat_map_back, in_map, any_in, any_back}
+use Rattle.timing_defs.proofs.SameNames.{same_self}
+use Rattle.store_pins.proofs.PinNames.{pins_apart}
+use Rattle.store_pins.proofs.PinLaws.{HasNumber, pin_told}
 use Rattle.pin_graph.proofs.NodeLaws.{HasNode, node_told, node_below, has_node, under_number}
 
 -- a list whose items have different numbers

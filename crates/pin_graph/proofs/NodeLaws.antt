@@ -28,13 +28,14 @@ use Rattle.pin_graph.specs.declared.arcs.GraphKind.{GraphKind}
 use Rattle.pin_graph.specs.declared.arcs.GraphKind.TheVariants.{Net as net_kind, Cell as cell_kind, Register}
 use Rattle.pin_graph.specs.declared.arcs.GraphArc.{GraphArc}
 use Rattle.pin_graph.specs.declared.pin_arcs.PinArc.{PinArc}
-use Rattle.pin_graph.specs.Joins.{own_number, pin_arc, arc_between, numbered_arc, pin_arcs, driver_number, net_before, before, link_from, link_into, net_links, link_of, pin_links}
+use Rattle.pin_graph.specs.Joins.{own_number, pin_arc, arc_between, numbered_arc, pin_arcs, net_before, before, link_from, link_into, net_links, link_of, pin_links}
+use Rattle.store_pins.specs.Drivers.{driver_number}
 use Rattle.pin_graph.specs.Networks.{is_comb_arc, IsNetwork}
 use Rattle.pin_graph.specs.Nodes.{node_number, pin_under, tran_under, node_at, node_bound}
 use Rattle.pin_graph.specs.NodeArcs.{marked, may_enter, stands, node_arc, standing_arc, net_arc, net_pair, net_arcs_into, net_node_arcs, node_arcs}
-use Rattle.pin_graph.proofs.PinNames.{same_is, same_self}
-use Rattle.pin_graph.proofs.Members.{some_is, none_in, first_in, in_cases, in_map, in_map_back, in_flat_map, in_flat_map_back, in_filter_map, in_filter_map_back, in_filter, passes_in, kept_in, number_in}
-use Rattle.pin_graph.proofs.PinLaws.{HasNumber, pin_of_number, own_back, own_pins}
+use Rattle.timing_defs.proofs.SameNames.{same_is, same_self}
+use Rattle.timing_defs.proofs.Members.{some_is, none_in, first_in, in_cases, in_map, in_map_back, in_flat_map, in_flat_map_back, in_filter_map, in_filter_map_back, in_filter, passes_in, kept_in, number_in}
+use Rattle.store_pins.proofs.PinLaws.{HasNumber, pin_of_number, own_back, own_pins}
 use Rattle.pin_graph.proofs.JoinLaws.{mapped_back, IsPlaced, IsNetArc, placed_back, placed_in, net_arc_back}
 use Rattle.pin_graph.proofs.NetworkLaws.{dir_flips}
 

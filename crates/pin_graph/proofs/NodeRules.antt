@@ -13,7 +13,7 @@ use Rattle.pin_graph.specs.Nodes.{node_bound}
 use Rattle.pin_graph.specs.Graphs.{Graphed, fan_at, from_of, to_of, AreNodeLevels}
 use Rattle.pin_graph.specs.PinValues.{level_over, IsLonger}
 use Rattle.pin_graph.specs.NodeValues.{level_behind, node_level, nodes_behind, AreOpposite}
-use Rattle.pin_graph.proofs.Members.{first_in, later_in, in_map, in_map_back, any_in}
+use Rattle.timing_defs.proofs.Members.{first_in, later_in, in_map, in_map_back, any_in}
 use Rattle.pin_graph.proofs.RuleLists.{greatest_last, level_below}
 
 pub behind_alike : (t u : List ℕ) (arcs : List GraphArc) → ((arc : GraphArc) → Contains arcs arc → slice_index t arc.from ≡ slice_index u arc.from)

@@ -40,9 +40,9 @@ use Rattle.pin_graph.proofs.NodeLaws.{raw_within}
 use Rattle.pin_graph.proofs.RuleLists.{nothing_in}
 use Rattle.pin_graph.proofs.GonePins.{number_of_pin}
 use Rattle.pin_graph.proofs.LinksLeft.{left_is, into_same, ports_left}
-use Rattle.pin_graph.proofs.Members.{any_back, any_in, kept_in, passes_in}
+use Rattle.timing_defs.proofs.Members.{any_back, any_in, kept_in, passes_in}
 use Rattle.pin_graph.proofs.NodeRules.{nodes_rule, nodes_settled, nodes_kept}
-use Rattle.pin_graph.proofs.PinLaws.{pin_at_number}
+use Rattle.store_pins.proofs.PinLaws.{pin_at_number}
 use Rattle.pin_graph.proofs.RawLeft.{raw_left}
 use Rattle.pin_graph.proofs.RelinkLaws.{longer_both}
 use Rattle.pin_graph.proofs.SeedLaws.{nodes_listed}

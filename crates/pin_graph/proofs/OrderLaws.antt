@@ -14,7 +14,7 @@ use Rattle.pin_graph.specs.Nodes.{node_bound}
 use Rattle.pin_graph.specs.Graphs.{Graphed, AreClockNodes}
 use Rattle.pin_graph.specs.Placing.{at_level, leveled, node_in, node_of, AreOrdered, AreInPlace, AreInOrder}
 use Rattle.pin_graph.proofs.ArcLaws.{mapped_numbers_more}
-use Rattle.pin_graph.proofs.PinLaws.{there}
+use Rattle.store_pins.proofs.PinLaws.{there}
 
 -- what passes once stands at one place
 module _ {X : Type 0} (t : X → Bool) where

@@ -9,7 +9,7 @@ use Rattle.timing_defs.specs.declared.library.CellPin.{CellPin}
 use Rattle.timing_defs.specs.declared.netlist.Inst.{Inst}
 use Rattle.netlist_store.specs.Numbering.{Stored}
 use Rattle.pin_graph.specs.Joins.{own_number, own_numbers}
-use Rattle.pin_graph.proofs.PinNames.{same_is}
+use Rattle.timing_defs.proofs.SameNames.{same_is}
 
 -- what is known at the place of a pin of that name
 module _ (s : Stored) (inst : Inst) where

@@ -20,7 +20,7 @@ use Rattle.pin_graph.specs.Networks.{is_comb_arc, turned, network_links, clock_p
 use Rattle.pin_graph.specs.Pulls.{arcs_into, arcs_from, from_pin, to_pin, pins_before, is_driven_by, sinks_of, pins_behind, network_tails, network_heads}
 use Rattle.pin_graph.specs.Marks.{flag_of, is_one}
 use Rattle.pin_graph.specs.PinValues.{level_over, pin_level, is_set, fed_flag, feeds_flag, IsLonger}
-use Rattle.pin_graph.proofs.Members.{in_cases, none_in, in_map, in_map_back, passes_in, kept_in, any_back}
+use Rattle.timing_defs.proofs.Members.{in_cases, none_in, in_map, in_map_back, passes_in, kept_in, any_back}
 use Rattle.pin_graph.proofs.JoinLaws.{net_arc_back}
 use Rattle.pin_graph.proofs.LoopLaws.{within}
 use Rattle.pin_graph.proofs.NetworkLaws.{ports_within, pins_within}

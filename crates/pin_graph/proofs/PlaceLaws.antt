@@ -20,7 +20,7 @@ use Rattle.pin_graph.specs.Nodes.{node_number, pin_under}
 use Rattle.pin_graph.specs.NodeArcs.{marked, node_link, AreNodes}
 use Rattle.pin_graph.specs.Placing.{network_link, port_nodes, at_level, leveled, node_in, AreClocked, AreOrdered, AreInPlace, ArePlaced}
 use Rattle.pin_graph.proofs.WalkLaws.{both_same}
-use Rattle.pin_graph.proofs.Members.{some_is, none_in, in_cases, in_filter_map, in_filter_map_back, in_flat_map_back, number_in}
+use Rattle.timing_defs.proofs.Members.{some_is, none_in, in_cases, in_filter_map, in_filter_map_back, in_flat_map_back, number_in}
 
 -- the list of places, as it grows
 module _ (n : ℕ) (nodes : List AtLevel) where

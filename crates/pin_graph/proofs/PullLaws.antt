@@ -20,11 +20,12 @@ use Rattle.timing_defs.specs.Clocking.{cell_arcs, cell_tests}
 use Rattle.netlist_store.specs.Linked.{IsLinked}
 use Rattle.netlist_store.specs.Numbering.{Stored, name_at, number_of, is_number, inst_numbered, pin_numbered, owner_number, net_number, is_on_number, IsNumbered}
 use Rattle.pin_graph.specs.declared.pin_arcs.PinArc.{PinArc}
-use Rattle.pin_graph.specs.Joins.{own_number, pin_arc, numbered_arc, inst_arcs, arcs_of, pin_arcs, driver_at, before}
+use Rattle.pin_graph.specs.Joins.{own_number, pin_arc, numbered_arc, inst_arcs, arcs_of, pin_arcs, before}
+use Rattle.store_pins.specs.Drivers.{driver_at}
 use Rattle.pin_graph.specs.Networks.{is_comb_arc, edge_from, inst_tests, tests_of, clock_pins}
 use Rattle.pin_graph.specs.Pulls.{arcs_into, arcs_from, to_pin, is_driven_by, sinks_of, own_arcs, own_clocks, net_driven, driven_net, is_sink}
-use Rattle.pin_graph.proofs.Members.{some_is, none_in, in_filter_map, in_filter_map_back, in_flat_map, in_flat_map_back, in_filter, passes_in, kept_in, any_in, any_back, number_in}
-use Rattle.pin_graph.proofs.PinLaws.{HasNumber, IsInst, told_at, below_bound, there, inst_of_number, joining, clocking}
+use Rattle.timing_defs.proofs.Members.{some_is, none_in, in_filter_map, in_filter_map_back, in_flat_map, in_flat_map_back, in_filter, passes_in, kept_in, any_in, any_back, number_in}
+use Rattle.store_pins.proofs.PinLaws.{HasNumber, IsInst, told_at, below_bound, there, inst_of_number, joining, clocking}
 use Rattle.pin_graph.proofs.DriverLaws.{before_is}
 use Rattle.pin_graph.proofs.JoinLaws.{then_back, mapped_back, unless_some, numbered_as, own_pin, net_arc_back, net_listed}
 use Rattle.pin_graph.proofs.WalkLaws.{both_same}

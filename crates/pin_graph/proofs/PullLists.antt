@@ -8,7 +8,7 @@ use Rattle.std.proofs.lemmas.List.{append-nil, take_more}
 use Rattle.std.proofs.lemmas.List.Elements.{filter-append}
 use Rattle.std.proofs.lemmas.List.FromFn.{length-range_with_len, get_or-range_with_len}
 use Rattle.pin_graph.proofs.ArcLaws.{flat_numbers_more}
-use Rattle.pin_graph.proofs.Members.{first_in, later_in}
+use Rattle.timing_defs.proofs.Members.{first_in, later_in}
 
 pub in_range : (n k : ℕ) → Contains (range_with_len 0 n) k → k < n
 in_range n k c =

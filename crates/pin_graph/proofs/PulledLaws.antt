@@ -23,7 +23,7 @@ use Rattle.pin_graph.specs.Relinking.{driven_arc, standing_into, pulled}
 use Rattle.pin_graph.proofs.ArcLaws.{numbers_more}
 use Rattle.pin_graph.proofs.GraphOf.{before_low}
 use Rattle.pin_graph.proofs.JoinLaws.{placed_back}
-use Rattle.pin_graph.proofs.Members.{none_in, in_cases, in_filter_map_back, kept_in}
+use Rattle.timing_defs.proofs.Members.{none_in, in_cases, in_filter_map_back, kept_in}
 use Rattle.pin_graph.proofs.NodeLaws.{under_number}
 
 -- lists of which one alone passes a test

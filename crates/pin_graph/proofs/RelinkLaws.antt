@@ -20,7 +20,7 @@ use Rattle.pin_graph.specs.Kept.{AreTurned}
 use Rattle.pin_graph.specs.Nodes.{node_number, pin_under, tran_under, node_bound}
 use Rattle.pin_graph.specs.NodeArcs.{none_arc, node_arcs, raw_into, AreJoined}
 use Rattle.pin_graph.specs.Relinking.{leads_elsewhere, AreTaken, ArePut, AreBothFans, IsPutNode, IsNodeRelinked, AreRelinked}
-use Rattle.pin_graph.proofs.Members.{none_in, in_filter, passes_in, kept_in, any_in}
+use Rattle.timing_defs.proofs.Members.{none_in, in_filter, passes_in, kept_in, any_in}
 use Rattle.pin_graph.proofs.MergeLaws.{any_push, filter_all}
 use Rattle.pin_graph.proofs.GraphLaws.{count_filter, counts_none}
 use Rattle.pin_graph.proofs.HeldLaws.{set_same, set_other, set_fans, longer_old, longer_new, longer_fans}

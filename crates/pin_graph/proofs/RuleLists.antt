@@ -11,7 +11,7 @@ use Rattle.timing_defs.proofs.ListLemmas.{bool_iff}
 use Rattle.levelizer.specs.Levels.{greatest}
 use Rattle.pin_graph.specs.PinValues.{level_over, is_set, IsLonger}
 use Rattle.pin_graph.proofs.LevelBound.{level_low}
-use Rattle.pin_graph.proofs.Members.{first_in, later_in, any_in, any_back, number_in}
+use Rattle.timing_defs.proofs.Members.{first_in, later_in, any_in, any_back, number_in}
 
 -- what tables give that read alike at the numbers of a list
 pub levels_alike : (t u xs : List ℕ) → ((x : ℕ) → Contains xs x → slice_index t x ≡ slice_index u x) → level_over t xs ≡ level_over u xs

@@ -37,9 +37,9 @@ use Rattle.pin_graph.specs.Nodes.{node_number, node_at, node_bound, pin_under, t
 use Rattle.pin_graph.specs.Graphs.{Graphed, fan_at, network_at, of_node, kind_between, IsArc, IsGraph}
 use Rattle.pin_graph.specs.Seeds.{is_touched_at, numbers_of, same_graph_arc, same_fans, is_turned, is_turned_at, turned_at, AreSeeds}
 use Rattle.pin_graph.specs.Kept.{IsKeptGraph, HaveSameLinks}
-use Rattle.pin_graph.proofs.PinNames.{same_is, same_self}
-use Rattle.pin_graph.proofs.Members.{first_in, later_in, in_cases, none_in, any_in, any_back, all_in, in_flat_map, in_flat_map_back, in_filter_map, in_filter_map_back, number_in}
-use Rattle.pin_graph.proofs.PinLaws.{told_at, there, HasNumber, pin_of_number, pin_at_number}
+use Rattle.timing_defs.proofs.SameNames.{same_is, same_self}
+use Rattle.timing_defs.proofs.Members.{first_in, later_in, in_cases, none_in, any_in, any_back, all_in, in_flat_map, in_flat_map_back, in_filter_map, in_filter_map_back, number_in}
+use Rattle.store_pins.proofs.PinLaws.{told_at, there, HasNumber, pin_of_number, pin_at_number}
 use Rattle.pin_graph.proofs.WalkLaws.{both_same}
 use Rattle.pin_graph.proofs.NodeLaws.{HasNode, node_told, node_below, has_node, same_node_at, under_number, tran_of_number, number_again}
 use Rattle.pin_graph.proofs.GraphRows.{placed}

@@ -22,12 +22,12 @@ use Rattle.netlist_store.specs.Numbering.{Stored, name_at, number_of, inst_numbe
 use Rattle.eco_laws.specs.Kept.{is_on_any, is_touched_pin}
 use Rattle.pin_graph.specs.Joins.{own_number}
 use Rattle.pin_graph.specs.Seeds.{is_joined_at, is_owned_at, is_touched_at}
-use Rattle.pin_graph.proofs.PinNames.{same_is, same_self}
-use Rattle.pin_graph.proofs.Members.{some_is, any_in, any_back, in_filter_map, in_filter_map_back, found_in, found_passes}
-use Rattle.pin_graph.proofs.PinLaws.{told_at, pin_of_number, inst_found, own_in, own_back}
+use Rattle.timing_defs.proofs.SameNames.{same_is, same_self}
+use Rattle.timing_defs.proofs.Members.{some_is, any_in, any_back, in_filter_map, in_filter_map_back, found_in, found_passes}
+use Rattle.store_pins.proofs.PinLaws.{told_at, pin_of_number, inst_found, own_in, own_back}
 use Rattle.pin_graph.proofs.WalkLaws.{both_same}
 use Rattle.pin_graph.proofs.LevelBound.{in_counted}
-use Rattle.pin_graph.proofs.DriverLaws.{counted_in}
+use Rattle.store_pins.proofs.DriverLaws.{counted_in}
 use Rattle.pin_graph.proofs.JoinLaws.{numbered_as, net_listed}
 
 -- what is counted once or not at all

@@ -16,8 +16,8 @@ use Rattle.timing_defs.specs.Rows.{is_input_port}
 use Rattle.netlist_store.specs.Numbering.{Stored, name_at, number_of, is_number, inst_numbered}
 use Rattle.pin_graph.specs.Joins.{own_number}
 use Rattle.pin_graph.specs.Networks.{inst_tests, tests_of}
-use Rattle.pin_graph.proofs.Members.{some_is}
-use Rattle.pin_graph.proofs.PinLaws.{told_at}
+use Rattle.timing_defs.proofs.Members.{some_is}
+use Rattle.store_pins.proofs.PinLaws.{told_at}
 
 pub number_is : (names : List (Option (List ℕ))) (name : List ℕ) (n : ℕ) → Some n ≡ number_of names name → is_number names n ≡ true
 number_is names name n e = ap is_some (told_at names name n (sym e))

@@ -20,7 +20,7 @@ use Rattle.pin_graph.specs.Nodes.{node_bound, pin_under}
 use Rattle.pin_graph.specs.Renewed.{IsRenewed}
 use Rattle.pin_graph.specs.Trees.{enters, AreApart, AreAllApart}
 use Rattle.pin_graph.proofs.ArcLaws.{numbers_more}
-use Rattle.pin_graph.proofs.Members.{in_filter, kept_in}
+use Rattle.timing_defs.proofs.Members.{in_filter, kept_in}
 
 -- a mark of a table of flags
 one_at : (xs : List ℕ) (pin : ℕ) → has_mark (map is_one xs) pin ≡ is_one (slice_index xs pin)

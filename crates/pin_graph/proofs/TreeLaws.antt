@@ -29,9 +29,10 @@ use Rattle.pin_graph.specs.Joins.{own_number, pin_arc, arc_between, pin_arcs, ne
 use Rattle.pin_graph.specs.Loops.{number_name}
 use Rattle.pin_graph.specs.Networks.{is_comb_arc, comb_link, network_links, IsNetwork}
 use Rattle.pin_graph.specs.Trees.{enters, entry_of, same_flag, same_entry, AreApart, first_entry, noted_entries, noted_apart, AreAllApart}
-use Rattle.pin_graph.proofs.PinNames.{same_is, same_self, inst_pins_apart}
-use Rattle.pin_graph.proofs.Members.{some_is, none_in, first_in, later_in, in_cases, in_map, in_map_back, in_filter, in_filter_map, passes_in, kept_in, any_back, all_in}
-use Rattle.pin_graph.proofs.PinLaws.{HasNumber, IsOwn, pin_told, own_back, own_pins}
+use Rattle.timing_defs.proofs.SameNames.{same_is, same_self}
+use Rattle.store_pins.proofs.PinNames.{inst_pins_apart}
+use Rattle.timing_defs.proofs.Members.{some_is, none_in, first_in, later_in, in_cases, in_map, in_map_back, in_filter, in_filter_map, passes_in, kept_in, any_back, all_in}
+use Rattle.store_pins.proofs.PinLaws.{HasNumber, IsOwn, pin_told, own_back, own_pins}
 use Rattle.pin_graph.proofs.JoinLaws.{IsPlaced, placed_back, placed_in}
 use Rattle.pin_graph.proofs.NetworkLaws.{same_pin_at, moved, dir_flips, back_before, owned_number, joins_comb}
 use Rattle.pin_graph.proofs.LoopLaws.{flipped, number_has_name}

@@ -20,8 +20,8 @@ use Rattle.pin_graph.specs.Graphs.{Graphed, fan_at, network_at}
 use Rattle.pin_graph.specs.Seeds.{is_touched_at, same_graph_arc, same_fans, is_turned, is_moved}
 use Rattle.pin_graph.specs.Kept.{IsKeptGraph}
 use Rattle.pin_graph.specs.Pulls.{is_left}
-use Rattle.pin_graph.proofs.Members.{any_in, any_back, first_in, later_in}
-use Rattle.pin_graph.proofs.PinLaws.{pin_of_number, pin_at_number}
+use Rattle.timing_defs.proofs.Members.{any_in, any_back, first_in, later_in}
+use Rattle.store_pins.proofs.PinLaws.{pin_of_number, pin_at_number}
 use Rattle.pin_graph.proofs.RawLeft.{raw_left}
 
 truth_self : (a : Bool) → same_truth a a ≡ true

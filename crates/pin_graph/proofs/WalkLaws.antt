@@ -15,8 +15,8 @@ use Rattle.levelizer.specs.declared.links.Link.{Link}
 use Rattle.levelizer.specs.Levels.{fan_in, greatest, AreLevels}
 use Rattle.levelizer.specs.Reaching.{has_mark, is_led_to}
 use Rattle.pin_graph.specs.Joins.{pin_links}
-use Rattle.pin_graph.proofs.Members.{none_in, in_cases, first_in, later_in, in_map, in_map_back, in_filter, passes_in, kept_in, any_in, any_back}
-use Rattle.pin_graph.proofs.PinLaws.{HasNumber}
+use Rattle.timing_defs.proofs.Members.{none_in, in_cases, first_in, later_in, in_map, in_map_back, in_filter, passes_in, kept_in, any_in, any_back}
+use Rattle.store_pins.proofs.PinLaws.{HasNumber}
 use Rattle.pin_graph.proofs.JoinLaws.{links_lead}
 
 pub both_same : (a b : Bool) → (a ≡ true → b ≡ true) → (b ≡ true → a ≡ true) → a ≡ b

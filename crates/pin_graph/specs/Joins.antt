@@ -7,9 +7,10 @@ use Rattle.timing_defs.specs.declared.kinds.Split.TheVariants.{Late}
 use Rattle.timing_defs.specs.declared.library.CellArc.{CellArc}
 use Rattle.timing_defs.specs.declared.library.CellPin.{CellPin}
 use Rattle.timing_defs.specs.declared.netlist.Inst.{Inst}
-use Rattle.timing_defs.specs.Netlist.{Pin, name_of, full_name, net_of, is_driver, driver, cell_of}
+use Rattle.timing_defs.specs.Netlist.{Pin, full_name, net_of, is_driver, cell_of}
 use Rattle.timing_defs.specs.Clocking.{cell_arcs}
-use Rattle.netlist_store.specs.Numbering.{Stored, name_at, number_of, inst_numbered, pin_numbered}
+use Rattle.netlist_store.specs.Numbering.{Stored, number_of, inst_numbered, pin_numbered}
+use Rattle.store_pins.specs.Drivers.{driver_number, driver_at}
 use Rattle.levelizer.specs.declared.links.Link.{Link}
 use Rattle.pin_graph.specs.declared.pin_arcs.PinArc.{PinArc}
 
@@ -41,13 +42,6 @@ arcs_of s n = option_map_or (inst_arcs s) (inst_numbered s n) []
 
 abbrev pub pin_arcs : Stored → List PinArc
 pin_arcs s = flat_map (arcs_of s) (range_with_len 0 (length s.insts))
-
--- the number of a net's driver
-abbrev pub driver_number : Stored → List ℕ → Option ℕ
-driver_number s net = option_and_then (λ pin. number_of s.pins (name_of pin)) (driver s.design net)
-
-abbrev pub driver_at : Stored → ℕ → Option ℕ
-driver_at s net = option_and_then (driver_number s) (name_at s.nets net)
 
 -- the driver of each net, by the net's number
 abbrev pub drivers_of : Stored → List (Option ℕ)

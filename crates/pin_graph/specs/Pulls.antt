@@ -7,7 +7,8 @@ use Rattle.timing_defs.specs.Netlist.{is_driver}
 use Rattle.timing_defs.specs.Cones.{Touch}
 use Rattle.netlist_store.specs.Numbering.{Stored, is_number, pin_numbered, owner_number, net_number}
 use Rattle.pin_graph.specs.declared.pin_arcs.PinArc.{PinArc}
-use Rattle.pin_graph.specs.Joins.{before, arcs_of, pin_arcs, driver_at}
+use Rattle.pin_graph.specs.Joins.{before, arcs_of, pin_arcs}
+use Rattle.store_pins.specs.Drivers.{driver_at}
 use Rattle.pin_graph.specs.Networks.{is_comb_arc, edge_from, tests_of}
 use Rattle.pin_graph.specs.Seeds.{is_touched_at}
 

@@ -1,7 +1,7 @@
 //! The timing graph of a design, by nodes.
 
 ghost use Rattle.std.specs.Prelude.{◌≡◌, ◌<◌, None, Some, if◌then◌else◌, IfOk, IfErr, IfSome};
-ghost use Rattle.timing_defs.specs.Checks.{net_fault, clock_not_tree, HasNoLoop};
+ghost use Rattle.timing_defs.specs.Checks.{net_fault, clock_not_tree};
 ghost use Rattle.netlist_store.specs.Linked.{IsLinked};
 ghost use Rattle.netlist_store.specs.Numbering.{is_number, IsNumbered};
 ghost use Rattle.pin_graph.specs.Refusals.{IsGraphRefused};
@@ -194,7 +194,9 @@ impl Graph {
     /// ECO touched. Where the ECO left all links (it sets parasitics, or gives instances cells with the same
     /// pins, arcs and tests, in one order) the tables are shared, in the time of the change. Where it changed
     /// links and left the clock network, it takes time of what it touched and of the pins and nodes whose level
-    /// changes, and a byte of each pin is copied; else, and where a walk is cyclic, the graph is found anew.
+    /// changes, and a byte of each pin is copied. The graph is found anew where the ECO changed the clock network,
+    /// where a walk is cyclic or levels are not found in turns enough, and where fewer pin numbers are in use than
+    /// in the base.
     pub fn update(&self, alloc: Global, store: &Store, touched: &Touched) -> Result<Graph, Fault>
         requires fault { net_fault store.now.design ≡ None }
         requires made { IsEditOf self.now.stored (record { insts = touched.now.insts; nets = touched.now.nets }) store.now }
@@ -224,7 +226,7 @@ impl Graph {
         let _ = &self.tables;
     }
 
-    /// The same, and how the graph was found, told to the proofs of this crate; the call does nothing.
+    /// The same, and what is kept of each pin and each node, told to the proofs of this crate; the call does nothing.
     pub(crate) fn kept(&self)
         ensures kept { IsKeptGraph self.now }
         ensures graph { IsGraph self.now }

@@ -10,13 +10,13 @@ ghost use Rattle.levelizer.specs.Reaching.{AreReached};
 ghost use Rattle.pin_graph.specs.Joins.{own_number, befores, net_links, pin_arcs};
 ghost use Rattle.pin_graph.specs.Networks.{comb_link, network_links, turned, input_port, port_number, clock_port, clock_ports, edge_from, tests_of, clock_pins};
 
-use crate::drivers::drives;
 use crate::pin_arcs::{PinArc, own_number};
 use crate::pin_links::net_links;
 use levelizer::{Link, reached};
 use netlist_store::Store;
 use sta_units::Memory;
 use std::alloc::Global;
+use store_pins::drives;
 use timing_defs::{ArcKind, Cell, Clock, Inst, Items, Name, Split};
 
 /// Adds a number, where it is there.

@@ -27,7 +27,7 @@ pub(crate) struct PinArc {
 }
 
 /// The bytes `instance:pin`.
-#[tactic(auto, using(crate::proofs::PinNames::joined_name))]
+#[tactic(auto, using(store_pins::proofs::PinNames::joined_name))]
 fn full_name_bytes(alloc: Global, inst: &Name, own: &Name) -> Result<Vec<u8>, Memory>
     ensures bytes { IfOk result (λ bytes. bytes.items ≡ inst.now ++ 58 ∷ own.now) }
     ensures name { IfOk result (λ bytes. IsTrue (is_name bytes.items)) }

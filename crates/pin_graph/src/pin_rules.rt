@@ -1,13 +1,15 @@
 //! What the links of a pin give it: its level, and whether clocks reach it and it reaches registers.
 
-ghost use Rattle.std.specs.Prelude.{◌≡◌, ◌<◌, ◌≤◌, ℕ, None, All, length, slice_index, map, nat_eq};
+ghost use Rattle.std.specs.Prelude.{◌≡◌, ◌<◌, None, All, length, slice_index};
 ghost use Rattle.std.specs.List.{list_any};
 ghost use Rattle.timing_defs.specs.Checks.{net_fault};
 ghost use Rattle.settling.specs.Settled.{AreLow};
-ghost use Rattle.pin_graph.specs.Marks.{flag_of};
 ghost use Rattle.pin_graph.specs.PinValues.{level_over, is_set};
 
-use crate::pulls::{is_register_clock, network_heads, network_tails, pins_before, pins_behind};
+use crate::pulls::{
+    is_among, is_register_clock, network_heads, network_tails, pins_before, pins_behind,
+};
+use crate::tables::flag_of;
 use cow_table::CowTable;
 use netlist_store::Store;
 use settling::Rule;
@@ -55,19 +57,6 @@ fn any_set(flags: &CowTable<u32>, pins: &[u32]) -> bool
         }
     }
     false
-}
-
-/// 1 where a mark holds, else 0.
-fn flag_of(mark: bool) -> u32
-    ensures { result ≡ flag_of mark }
-{
-    if mark { 1 } else { 0 }
-}
-
-fn stands_among(pins: &[u32], pin: u32) -> bool
-    ensures { result ≡ list_any (nat_eq pin) pins.now }
-{
-    pins.iter().any(|other| pin == *other)
 }
 
 /// The levels of pins over all links: 0 where none leads to a pin, else one more than the greatest of those
@@ -132,7 +121,7 @@ impl Rule for Fed<'_> {
 
     fn value(&self, alloc: Global, values: &CowTable<u32>, at: u32) -> Result<u32, Memory> {
         self.store.laws();
-        if stands_among(self.ports, at) {
+        if is_among(self.ports, at) {
             return Ok(1);
         }
         let tails = network_tails(alloc, self.store, at)?;

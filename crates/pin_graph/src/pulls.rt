@@ -9,12 +9,12 @@ ghost use Rattle.pin_graph.specs.Joins.{before, arcs_of};
 ghost use Rattle.pin_graph.specs.Networks.{is_comb_arc, clock_pins};
 ghost use Rattle.pin_graph.specs.Pulls.{net_driven, arcs_into, arcs_from, from_pin, to_pin, pins_before, sinks_of, pins_behind, network_tails, network_heads, own_arcs, own_clocks, driven_net, is_sink};
 
-use crate::drivers::{driver_at, drives, pins_on};
 use crate::networks::{add_inst_tests, add_number, edge_pins};
 use crate::pin_arcs::{PinArc, add_inst_arcs};
 use netlist_store::Store;
 use sta_units::Memory;
 use std::alloc::Global;
+use store_pins::{driver_at, drives, pins_on};
 use timing_defs::{ArcKind, Items};
 
 /// The pin from which a net arc leads to a pin; none leads to a pin that drives.
@@ -253,7 +253,8 @@ fn own_clocks(alloc: Global, store: &Store, inst: u32) -> Result<Items<u32>, Mem
     Ok(pins)
 }
 
-fn is_among(pins: &[u32], pin: u32) -> bool
+/// Whether a pin is one of some.
+pub(crate) fn is_among(pins: &[u32], pin: u32) -> bool
     ensures { result ≡ list_any (nat_eq pin) pins.now }
 {
     pins.iter().any(|other| pin == *other)

@@ -1,8 +1,6 @@
 //! The tables of a graph after an ECO that changed links: those of the base, with what the ECO changed.
 
-ghost use Rattle.std.specs.Prelude.{ℕ, ◌≡◌, ◌&&◌, ◌<◌, ◌≤◌, not, nat_eq, false, None, All, length, IsTrue, IfOk, IfSome};
-ghost use Rattle.std.specs.List.{list_any};
-ghost use Rattle.netlist_store.specs.Numbering.{is_number};
+ghost use Rattle.std.specs.Prelude.{ℕ, ◌≡◌, ◌<◌, ◌≤◌, not, false, None, All, length, IsTrue, IfOk, IfSome};
 ghost use Rattle.timing_defs.specs.Checks.{net_fault};
 ghost use Rattle.netlist_store.specs.Applying.{IsEditOf};
 ghost use Rattle.settling.specs.Settled.{IsSettled};
@@ -16,7 +14,7 @@ ghost use Rattle.pin_graph.specs.Renewed.{IsEdited, AreDirty, ArePinsAfter, IsOf
 use crate::held_fans::Fans;
 use crate::node_rules::NodeLevels;
 use crate::relinking::relink;
-use crate::seeding::{add_all, add_insts_pins, distinct, gone_of, nodes_of, touched_pins};
+use crate::seeding::{add_all, distinct, gone, nodes_of, touched_pins};
 use crate::tables::{NodeTables, PinTables, Tables, tables_of};
 use crate::updates::{
     PinsAfter, leaves_network, network_after, pins_after, places_after, settled_again,
@@ -26,18 +24,6 @@ use netlist_store::{Store, Touched};
 use sta_units::Memory;
 use std::alloc::Global;
 use timing_defs::Items;
-
-/// The pins of a base that are gone after an ECO.
-fn gone(alloc: Global, base: &Store, store: &Store, touched: &Touched) -> Result<Items<u32>, Memory>
-    requires { IsEditOf base.now (record { insts = touched.now.insts; nets = touched.now.nets }) store.now }
-    ensures { IfOk result (λ gone. (pin : ℕ) → list_any (nat_eq pin) gone ≡ (is_number base.now.pins pin && not (is_number store.now.pins pin))) }
-{
-    base.laws();
-    store.laws();
-    let mut pins = Items::new(alloc);
-    add_insts_pins(alloc, &mut pins, base, touched.insts.as_slice())?;
-    gone_of(alloc, store, pins.as_slice())
-}
 
 /// The pins at which an ECO changed links, those of the base that are gone among them, in rising order.
 #[tactic(auto, using(crate::proofs::NodesAfter::dirty_are))]

@@ -94,7 +94,7 @@ fn add_inst_pins(
 }
 
 /// Adds the pins of instances.
-pub(crate) fn add_insts_pins(
+fn add_insts_pins(
     alloc: Global,
     pins: &mut Items<u32>,
     store: &Store,
@@ -349,7 +349,7 @@ fn gone_at(store: &Store, pin: u32) -> Option<u32>
 
 /// Those of some pins that stand for nothing in a store.
 #[tactic(auto, using(crate::proofs::ArcLaws::first_mapped_more))]
-pub(crate) fn gone_of(alloc: Global, store: &Store, pins: &[u32]) -> Result<Items<u32>, Memory>
+fn gone_of(alloc: Global, store: &Store, pins: &[u32]) -> Result<Items<u32>, Memory>
     ensures { IfOk result (λ gone. gone ≡ filter_map (gone_at store.now) pins.now) }
 {
     let mut gone = Items::new(alloc);
@@ -357,6 +357,23 @@ pub(crate) fn gone_of(alloc: Global, store: &Store, pins: &[u32]) -> Result<Item
         add_number(&mut gone, gone_at(store, *pin))?;
     }
     Ok(gone)
+}
+
+/// The pins of a base that are gone after an ECO, in time of the instances that it touched.
+pub(crate) fn gone(
+    alloc: Global,
+    base: &Store,
+    store: &Store,
+    touched: &Touched,
+) -> Result<Items<u32>, Memory>
+    requires { IsEditOf base.now (record { insts = touched.now.insts; nets = touched.now.nets }) store.now }
+    ensures { IfOk result (λ gone. (pin : ℕ) → list_any (nat_eq pin) gone ≡ (is_number base.now.pins pin && not (is_number store.now.pins pin))) }
+{
+    base.laws();
+    store.laws();
+    let mut pins = Items::new(alloc);
+    add_insts_pins(alloc, &mut pins, base, touched.insts.as_slice())?;
+    gone_of(alloc, store, pins.as_slice())
 }
 
 /// The numbers of pins of the base that stand for nothing after an ECO, in time of the instances that it
@@ -370,9 +387,5 @@ pub fn gone_pins(
     requires { IsEditOf base.now.stored (record { insts = touched.now.insts; nets = touched.now.nets }) graph.now.stored }
     ensures { IfOk result (λ gone. (pin : ℕ) → list_any (nat_eq pin) gone ≡ (is_number base.now.stored.pins pin && not (is_number graph.now.stored.pins pin))) }
 {
-    base.kept();
-    graph.kept();
-    let mut pins = Items::new(alloc);
-    add_insts_pins(alloc, &mut pins, base.store(), touched.insts.as_slice())?;
-    gone_of(alloc, graph.store(), pins.as_slice())
+    gone(alloc, base.store(), graph.store(), touched)
 }

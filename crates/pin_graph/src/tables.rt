@@ -64,7 +64,7 @@ pub(crate) struct PinTables {
 }
 
 /// The number that stands for a mark: 1 where it is set, else 0.
-fn flag_of(mark: bool) -> u32
+pub(crate) fn flag_of(mark: bool) -> u32
     ensures { result ≡ flag_of mark }
 {
     if mark { 1 } else { 0 }

@@ -28,7 +28,7 @@ use Rattle.pin_graph.specs.declared.arcs.GraphArc.{GraphArc}
 use Rattle.pin_graph.specs.Nodes.{node_at, node_bound, node_number}
 use Rattle.pin_graph.specs.Graphs.{Graphed, IsGraph, IsArc, fan_at, level_at, from_of, to_of, of_node, kind_between}
 use Rattle.pin_graph.specs.RowTables.{back_numbered}
-use Rattle.pin_graph.proofs.PinLaws.{pin_told}
+use Rattle.store_pins.proofs.PinLaws.{pin_told}
 use Rattle.pin_graph.proofs.NodeLaws.{HasNode, has_node, node_told, node_below}
 use Rattle.pin_graph.proofs.LevelBound.{level_low}
 use Rattle.pin_graph.proofs.GraphRows.{Stands, level, level_is, low_level, placed, high}

@@ -28,9 +28,9 @@ use Rattle.node_rows.proofs.MergeLaws.{filter_map_agree}
 use Rattle.pin_graph.specs.Nodes.{node_number}
 use Rattle.pin_graph.specs.Graphs.{Graphed, IsGraph}
 use Rattle.pin_graph.specs.RowTables.{AreRowsFine}
-use Rattle.pin_graph.proofs.Members.{some_is, any_in, any_back, in_filter, passes_in, in_flat_map_back}
-use Rattle.pin_graph.proofs.PinNames.{same_self}
-use Rattle.pin_graph.proofs.PinLaws.{pin_found, pin_told, own_in, own_back, own_pins}
+use Rattle.timing_defs.proofs.Members.{some_is, any_in, any_back, in_filter, passes_in, in_flat_map_back}
+use Rattle.timing_defs.proofs.SameNames.{same_self}
+use Rattle.store_pins.proofs.PinLaws.{pin_found, pin_told, own_in, own_back, own_pins}
 use Rattle.pin_graph.proofs.GraphRows.{Stands, level, placed, height, high}
 use Rattle.required_engine.specs.Behinds.{edge_of}
 use Rattle.required_engine.specs.Worked.{IsFineBack}

@@ -21,12 +21,11 @@ use Rattle.timing_defs.specs.Rows.{arcs_in, all_arcs_in, net_arcs_in, net_name}
 use Rattle.timing_defs.specs.Range.{either_split, rc_nodes, wires_within, net_wires_within, is_large_rc, is_loaded}
 use Rattle.netlist_store.specs.Linked.{IsLinked}
 use Rattle.netlist_store.specs.Numbering.{Stored}
-use Rattle.node_rows.proofs.Members.{all_in, found_passes}
-use Rattle.node_rows.proofs.PinNames.{same_is}
+use Rattle.timing_defs.proofs.Members.{all_in, found_passes, first_in, none_in, in_cases, in_map, in_map_back, in_filter, kept_in}
+use Rattle.timing_defs.proofs.SameNames.{same_is}
 use Rattle.node_rows.proofs.PinSums.{net_listed}
 use Rattle.node_rows.proofs.FineLaws.{IsCarried}
 use Rattle.pin_graph.specs.RowTables.{AreRowsFine}
-use Rattle.pin_graph.proofs.Members.{first_in, none_in, in_cases, in_map, in_map_back, in_filter, kept_in}
 use Rattle.pin_graph.proofs.NodeLaws.{HasNode}
 
 not_not : (b : Bool) → not b ≡ false → b ≡ true

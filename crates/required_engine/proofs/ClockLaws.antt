@@ -18,7 +18,7 @@ use Rattle.timing_defs.specs.Documents.{is_clock, are_constraints}
 use Rattle.timing_defs.specs.Tests.{separation, separation_on}
 use Rattle.path_rules.specs.Clocks.{IsClock}
 use Rattle.node_rows.proofs.ConstraintLaws.{fit_of}
-use Rattle.pin_graph.proofs.Members.{all_in}
+use Rattle.timing_defs.proofs.Members.{all_in}
 
 waveform : (c : Clock) → is_clock c ≡ true → IsClock c
 waveform c h =

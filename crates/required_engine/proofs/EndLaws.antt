@@ -32,8 +32,8 @@ use Rattle.netlist_store.specs.Numbering.{Stored, is_number, pin_numbered, IsNum
 use Rattle.node_tests.specs.NodeTests.{AreTests, tests_numbered, is_wide_numbered}
 use Rattle.node_tests.proofs.TopLaws.{driver_tests}
 use Rattle.pin_graph.specs.Nodes.{node_at, pin_under, tran_under}
-use Rattle.pin_graph.proofs.Members.{some_is, none_in, in_cases, first_in, later_in, any_in, any_back, all_in}
-use Rattle.pin_graph.proofs.PinLaws.{own_back, pin_at_number}
+use Rattle.timing_defs.proofs.Members.{some_is, none_in, in_cases, first_in, later_in, any_in, any_back, all_in}
+use Rattle.store_pins.proofs.PinLaws.{own_back, pin_at_number}
 use Rattle.pin_graph.proofs.NodeLaws.{HasNode, has_node}
 use Rattle.required_engine.specs.Worked.{pin_told}
 

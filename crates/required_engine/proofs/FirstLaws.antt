@@ -35,8 +35,8 @@ use Rattle.calm_laws.proofs.InDesign.{self_tran, node_within, pin_within}
 use Rattle.pin_graph.specs.Nodes.{node_at, node_bound, node_number, number_at, pin_under, tran_under}
 use Rattle.pin_graph.specs.Graphs.{Graphed, IsGraph, fan_at, of_node}
 use Rattle.pin_graph.specs.Seeds.{AreSeeds}
-use Rattle.pin_graph.proofs.PinLaws.{HasNumber, pin_found, pin_told, pin_at_number, inst_found, inst_told, inst_of_number, own_in, own_back, clocking}
-use Rattle.pin_graph.proofs.PinNames.{tests_good}
+use Rattle.store_pins.proofs.PinLaws.{HasNumber, pin_found, pin_told, pin_at_number, inst_found, inst_told, inst_of_number, own_in, own_back, clocking}
+use Rattle.store_pins.proofs.PinNames.{tests_good}
 use Rattle.pin_graph.proofs.JoinLaws.{then_back}
 use Rattle.pin_graph.proofs.NodeLaws.{HasNode, under_number, tran_of_number, has_node, node_told, node_below, same_node_at, one_number}
 use Rattle.required_engine.specs.Updated.{AreThose, AreFirst, is_first, is_in, is_tail, is_tail_at, is_tail_of, is_own, is_data, is_data_by, is_clocked_at, is_clocked_of, is_first_of}

@@ -18,7 +18,7 @@ use Rattle.node_rows.specs.Evaluation.{is_wide_looked, is_wide_scaled, is_wide_i
 use Rattle.node_rows.proofs.FineLaws.{IsFine, IsCarried, fine_more, wide_is_origin}
 use Rattle.pin_graph.specs.Graphs.{Graphed, IsGraph}
 use Rattle.pin_graph.specs.RowTables.{AreRowsFine}
-use Rattle.pin_graph.proofs.Members.{none_in, in_cases, in_flat_map}
+use Rattle.timing_defs.proofs.Members.{none_in, in_cases, in_flat_map}
 use Rattle.pin_graph.proofs.NodeLaws.{HasNode}
 use Rattle.pin_graph.proofs.GraphRows.{Stands, level, placed}
 use Rattle.required_engine.proofs.CarriedLaws.{carried}

@@ -25,8 +25,8 @@ use Rattle.pin_graph.specs.declared.arcs.GraphArc.{GraphArc}
 use Rattle.pin_graph.specs.Nodes.{node_at, node_bound, node_number}
 use Rattle.pin_graph.specs.Graphs.{Graphed, IsGraph, fan_at, level_at}
 use Rattle.pin_graph.specs.RowTables.{back_numbered, AreBackRows, AreBacksFine, IsRangeFault}
-use Rattle.pin_graph.proofs.Members.{some_is, none_in, first_in, later_in, in_cases, in_map, in_flat_map_back}
-use Rattle.pin_graph.proofs.PinLaws.{pin_told}
+use Rattle.timing_defs.proofs.Members.{some_is, none_in, first_in, later_in, in_cases, in_map, in_flat_map_back}
+use Rattle.store_pins.proofs.PinLaws.{pin_told}
 use Rattle.pin_graph.proofs.NodeLaws.{HasNode, node_told, node_below, has_node}
 use Rattle.required_engine.specs.Worked.{is_back_within, AreBacksWithin, IsBackRow, IsBackFault, IsDone, AreReady, AreDoneFrom, AreOfLevel, IsAnswer, IsAnswerAt}
 use Rattle.required_engine.specs.Leveled.{nodes_of, AreLevels}

@@ -15,7 +15,7 @@ use Rattle.pin_graph.specs.declared.arcs.GraphArc.{GraphArc}
 use Rattle.pin_graph.specs.Nodes.{node_bound}
 use Rattle.pin_graph.specs.Graphs.{Graphed, IsGraph, fan_at}
 use Rattle.pin_graph.specs.RowTables.{back_numbered, IsRangeFault}
-use Rattle.pin_graph.proofs.Members.{none_in, in_cases}
+use Rattle.timing_defs.proofs.Members.{none_in, in_cases}
 use Rattle.required_engine.specs.Worked.{IsAnswerAt}
 use Rattle.required_engine.specs.Updated.{IsFineAt, IsAtLevel}
 use Rattle.required_engine.proofs.BackCone.{froms_low}

@@ -34,9 +34,9 @@ use Rattle.node_tests.specs.NodeTests.{AreTests, tests_numbered, is_wide_numbere
 use Rattle.pin_graph.specs.Nodes.{node_at, node_bound, pin_under, tran_under}
 use Rattle.pin_graph.specs.Graphs.{Graphed, IsGraph, fan_at}
 use Rattle.pin_graph.specs.RowTables.{AreRows, AreRowsFine, row_numbered, back_numbered}
-use Rattle.pin_graph.proofs.Members.{some_is, any_in}
-use Rattle.pin_graph.proofs.PinNames.{same_self}
-use Rattle.pin_graph.proofs.PinLaws.{pin_at_number}
+use Rattle.timing_defs.proofs.Members.{some_is, any_in}
+use Rattle.timing_defs.proofs.SameNames.{same_self}
+use Rattle.store_pins.proofs.PinLaws.{pin_at_number}
 use Rattle.pin_graph.proofs.NodeLaws.{HasNode, under_number, has_node}
 use Rattle.required_engine.specs.declared.arcs_out.ArcsOut.{ArcsOut}
 use Rattle.required_engine.specs.declared.nodes.AskedNode.{AskedNode}

@@ -24,7 +24,7 @@ use Rattle.netlist_store.specs.Numbering.{Stored}
 use Rattle.node_tests.specs.declared.node_test.NodeTest.{NodeTest}
 use Rattle.node_tests.specs.NodeTests.{IsTest, AreTests}
 use Rattle.node_rows.proofs.FineLaws.{IsFine}
-use Rattle.pin_graph.proofs.Members.{some_is, none_in, in_cases, found_in, kept_in, in_filter_map_back, in_map_back, later_in, first_in}
+use Rattle.timing_defs.proofs.Members.{some_is, none_in, in_cases, found_in, kept_in, in_filter_map_back, in_map_back, later_in, first_in}
 use Rattle.required_engine.specs.Behinds.{told_limit}
 
 -- a test by its numbers gives the same time

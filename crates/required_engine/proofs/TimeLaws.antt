@@ -15,7 +15,7 @@ use Rattle.timing_defs.specs.Rows.{edge_time}
 use Rattle.timing_defs.specs.Range.{within_some}
 use Rattle.timing_defs.proofs.RowLaws.{first_in, later_in}
 use Rattle.node_rows.specs.Evaluation.{times_on, are_wide_times}
-use Rattle.pin_graph.proofs.Members.{in_map, any_in}
+use Rattle.timing_defs.proofs.Members.{in_map, any_in}
 use Rattle.required_engine.specs.declared.unfit.Unfit.{Unfit}
 use Rattle.required_engine.specs.declared.unfit.Unfit.TheVariants.{Range, Memory}
 use Rattle.required_engine.specs.Behinds.{edge_of}

@@ -6,4 +6,4 @@ use Rattle.affected_cone.proofs.analyses.ask.Goals as goal
 pub answer-requires-clause-known : goal.answer-requires-clause-known
 answer-requires-clause-known c =
     known_told _ c.analysis.inside.arrivals c.analysis.inside.required.rows c.analysis.inside.ends c.analysis.inside.graph c.analysis.inside.tree
-    (c.requires.store ∙ sym (ap (λ (a : Analysed). a.stored) c.analysis.view_is)) refl refl refl refl c.as_slice.ensures c.analysis.invariant.0 c.analysis.invariant.1
+    (c.requires.store ∙ sym (ap (λ (a : Analysed). a.stored) c.analysis.view_is)) refl refl refl c.get.ensures c.as_slice.ensures c.analysis.invariant.0 c.analysis.invariant.1

@@ -1,5 +1,5 @@
 use Rattle.std.proofs.Common.{sym, ◌∙◌}
-use Rattle.pin_graph.proofs.PinLaws.{told_at}
+use Rattle.store_pins.proofs.PinLaws.{told_at}
 use Rattle.affected_cone.proofs.asked.end_named.Goals as goal
 
 pub end_at-requires-clause-number : goal.end_at-requires-clause-number

@@ -1,6 +1,6 @@
 use Rattle.std.proofs.Common.{◌≡◌, ℕ, None, Some, refl, sym, ap, subst, ◌∙◌}
 use Rattle.timing_defs.specs.Reports.{fs_value}
-use Rattle.pin_graph.proofs.Members.{some_is}
+use Rattle.timing_defs.proofs.Members.{some_is}
 use Rattle.affected_cone.specs.declared.ends.EndSlacks.{EndSlacks}
 use Rattle.affected_cone.specs.Analysed.{ends_of, slack_in, IsEnd}
 use Rattle.affected_cone.proofs.EndNumbers.{end_listed}

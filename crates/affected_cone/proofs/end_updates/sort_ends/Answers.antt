@@ -4,4 +4,4 @@ use Rattle.affected_cone.specs.Renewed.{pin_of}
 use Rattle.affected_cone.proofs.end_updates.sort_ends.Goals as goal
 
 pub returns-clause-rising : goal.returns-clause-rising
-returns-clause-rising c = IsNonDecreasingBy-from_sort_by_key pin_of c.sort_unstable_by_key.new.self.items c.sort_unstable_by_key.ensures.sorted (λ a r q k. search rules)
+returns-clause-rising c = IsNonDecreasingBy-from_sort_by_key pin_of c.sort_by_key.new.self.items c.in_ok-sort_by_key.ensures.sorted (λ a r q k. search rules)

@@ -1,6 +1,6 @@
 use Rattle.std.proofs.Common.{◌+◌, ◌∙◌, filter, length, ap, arith, if◌then◌else◌}
 use Rattle.std.proofs.lemmas.List.{take_all}
-use Rattle.design_link.specs.Nodes.{drives_at}
+use Rattle.store_pins.specs.Drivers.{drives_at}
 use Rattle.design_link.proofs.NetPinLaws.{pins_on_net, driving_more, drivers_counted}
 use Rattle.design_link.proofs.net_pins.driver_count.Goals as goal
 

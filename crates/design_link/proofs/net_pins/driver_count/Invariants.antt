@@ -1,5 +1,5 @@
 use Rattle.std.proofs.Common.{◌≡◌, ◌≤◌, filter, length, take}
-use Rattle.design_link.specs.Nodes.{drives_at}
+use Rattle.store_pins.specs.Drivers.{drives_at}
 use Rattle.design_link.proofs.net_pins.driver_count.Given as goal
 
 abbrev pub invariant-loop-pin : goal.invariant-loop-pin

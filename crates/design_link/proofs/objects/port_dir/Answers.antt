@@ -1,6 +1,6 @@
 use Rattle.std.proofs.Common.{ap, sym}
 use Rattle.std.specs.Prelude.{is_some}
-use Rattle.design_link.proofs.PinLaws.{told_at}
+use Rattle.store_pins.proofs.PinLaws.{told_at}
 use Rattle.design_link.proofs.DanglingLaws.{no_pin_no_port}
 use Rattle.design_link.proofs.objects.port_dir.Goals as goal
 

@@ -1,6 +1,6 @@
 use Rattle.std.proofs.Common.{◌∙◌, ap, sym}
 use Rattle.std.specs.Prelude.{is_some}
-use Rattle.design_link.proofs.PinLaws.{told_at}
+use Rattle.store_pins.proofs.PinLaws.{told_at}
 use Rattle.design_link.proofs.RcPinLaws.{named_on, not_named}
 use Rattle.design_link.proofs.rc_pins.is_named_on.Goals as goal
 

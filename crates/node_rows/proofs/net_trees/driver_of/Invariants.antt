@@ -1,6 +1,6 @@
 use Rattle.std.proofs.Common.{◌≡◌, drop}
 use Rattle.std.specs.Prelude.{find}
-use Rattle.node_rows.specs.NetPins.{drives_at}
+use Rattle.store_pins.specs.Drivers.{drives_at}
 use Rattle.node_rows.proofs.net_trees.driver_of.Given as goal
 
 abbrev pub invariant-loop-pin : goal.invariant-loop-pin

@@ -1,7 +1,7 @@
 use Rattle.timing_defs.specs.Netlist.{name_of}
 use Rattle.node_rows.specs.Evaluation.{is_wide}
 use Rattle.node_rows.proofs.AlongLaws.{pin_of_node}
-use Rattle.node_rows.proofs.PinLaws.{pin_of_number}
+use Rattle.store_pins.proofs.PinLaws.{pin_of_number}
 use Rattle.node_rows.proofs.rows.node_row.Goals as goal
 
 pub returns-in-Err-clause-err : goal.returns-in-Err-clause-err

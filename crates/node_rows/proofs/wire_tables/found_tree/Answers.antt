@@ -33,5 +33,5 @@ returns-in_err-wires-clause-err c =
 pub returns-clause-found : goal.returns-clause-found
 returns-clause-found c =
     tree_found c.args.store.now c.laws.ensures.numbered c.laws.ensures.linked c.args.rc.now c.tree_root-root.result c.pins_on-pins.result.now c.tree_root-root.ensures
-    c.args.net c.requires.rc c.pins_on-pins.ensures.on c.in_ok-trees.trees c.in_ok-trees.ensures.trees c.in_ok-trees.ensures.fine
+    c.args.net c.requires.rc c.pins_on-pins.ensures.counts c.in_ok-trees.trees c.in_ok-trees.ensures.trees c.in_ok-trees.ensures.fine
     c.tree_load.result c.tree_load.ensures.early c.tree_load.ensures.late c.in_ok-wires.wires c.in_ok-wires.ensures

@@ -2,7 +2,7 @@ use Rattle.netlist_store.specs.Numbering.{name_at}
 use Rattle.node_rows.specs.declared.unfit.Unfit.TheVariants.{Range}
 use Rattle.node_rows.specs.Evaluation.{IsUnfit}
 use Rattle.node_rows.specs.NetTrees.{is_wide_net}
-use Rattle.node_rows.proofs.PinLaws.{there}
+use Rattle.store_pins.proofs.PinLaws.{there}
 use Rattle.node_rows.proofs.NetSteps.{wide_early, wide_late}
 use Rattle.node_rows.proofs.ResultLaws.{handed_up}
 use Rattle.node_rows.proofs.wire_tables.lumped_loads.Goals as goal

@@ -17,6 +17,6 @@ pub returns : goal.returns
 returns c =
     ok_more c.put_wires.result (λ _. c.put_wires.new.table ≡ with_wires c.clear_wires.new.table c.as_slice.result.now)
     (λ _. IsRenewed c.args.store.now c.args.net c.args.wires.now (record { loads = c.set.new.self; pins = c.put_wires.new.table }))
-    (λ _ e. renewed c.args.store.now c.args.net c.pins_on-pins.result.now c.pins_on-pins.ensures.on c.requires.net c.args.found.now c.requires.found
+    (λ _ e. renewed c.args.store.now c.args.net c.pins_on-pins.result.now c.pins_on-pins.ensures.counts c.requires.net c.args.found.now c.requires.found
     c.args.wires.now (record { loads = c.set.new.self; pins = c.put_wires.new.table }) c.requires.sized c.clear_wires.new.table c.in_ok-clear_wires.ensures
     c.in_ok-set.ensures.ok (e ∙ ap (with_wires c.clear_wires.new.table) c.as_slice.ensures)) c.put_wires.ensures

@@ -1,5 +1,5 @@
 use Rattle.pin_graph.proofs.ArcLaws.{listed_more}
-use Rattle.pin_graph.specs.Joins.{driver_at}
+use Rattle.store_pins.specs.Drivers.{driver_at}
 use Rattle.pin_graph.proofs.drivers.drivers.Goals as goal
 
 pub loop-net-preserved : goal.loop-net-preserved

@@ -1,6 +1,6 @@
 use Rattle.std.proofs.Common.{◌≡◌, map}
 use Rattle.std.specs.List.{range_with_len}
-use Rattle.pin_graph.specs.Joins.{driver_at}
+use Rattle.store_pins.specs.Drivers.{driver_at}
 use Rattle.pin_graph.proofs.drivers.drivers.Given as goal
 
 abbrev pub invariant-loop-net : goal.invariant-loop-net

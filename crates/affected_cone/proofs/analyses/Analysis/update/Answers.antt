@@ -8,7 +8,7 @@ use Rattle.affected_cone.proofs.analyses.Analysis.update.Goals as goal
 
 pub find_after-requires-clause-base : goal.find_after-requires-clause-base
 find_after-requires-clause-base g c κs within =
-    base_told _ c.self.inside.graph c.self.inside.arrivals c.self.inside.required.rows c.self.inside.tree c.self.inside.ends refl refl refl c.as_slice.ensures
+    base_told _ c.self.inside.graph c.self.inside.arrivals c.self.inside.required.rows c.self.inside.tree c.self.inside.ends refl refl refl refl c.as_slice.ensures
     c.self.invariant.0 c.self.invariant.1
 
 pub find_after-requires-clause-made : goal.find_after-requires-clause-made

@@ -7,7 +7,7 @@ use Rattle.timing_defs.specs.Rows.{times_in}
 use Rattle.netlist_store.specs.Numbering.{Stored}
 use Rattle.pin_graph.specs.Nodes.{node_bound}
 use Rattle.pin_graph.specs.RowTables.{row_numbered}
-use Rattle.pin_graph.proofs.Members.{some_is}
+use Rattle.timing_defs.proofs.Members.{some_is}
 use Rattle.bounded_slack.specs.Rows.{IsLowOffer, least_room, signed_on}
 use Rattle.path_search.specs.Lows.{lows_told}
 use Rattle.path_search.specs.NodeNets.{signed_arrival, FanValue}

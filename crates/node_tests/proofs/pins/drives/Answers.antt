@@ -1,8 +1,0 @@
-use Rattle.std.proofs.Common.{◌∙◌}
-use Rattle.netlist_store.specs.Numbering.{pin_numbered}
-use Rattle.node_rows.proofs.PinForms.{drives_told}
-use Rattle.node_tests.proofs.pins.drives.Goals as goal
-
-pub returns : goal.returns
-returns c =
-    drives_told (pin_numbered c.args.store.now c.args.pin) c.is_some.result c.dir_of.result c.drives_as.result (c.is_some.ensures ∙ c.inst_of.ensures.none) c.dir_of.ensures c.drives_as.ensures

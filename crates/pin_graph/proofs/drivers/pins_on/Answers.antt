@@ -1,5 +1,0 @@
-use Rattle.pin_graph.proofs.DriverLaws.{on_all}
-use Rattle.pin_graph.proofs.drivers.pins_on.Goals as goal
-
-pub returns-clause-all : goal.returns-clause-all
-returns-clause-all c = on_all c.args.store.now c.args.net c.net_pins.result.now c.net_pins.ensures

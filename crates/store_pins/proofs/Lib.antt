@@ -1,0 +1,4 @@
+pub mod PinNames
+pub mod PinLaws
+pub mod OwnNames
+pub mod DriverLaws
