@@ -4,3 +4,4 @@ mod NumberLemmas
 mod PlainWalk
 mod PlainRun
 mod PlainGenerate
+mod PlainJournal

@@ -23,7 +23,7 @@ first_shape [] = new_shape []
 first_shape (s ∷ ss) = s
 
 -- the subcommand `run` as it is built
-abbrev run_shape : Shape
+abbrev pub run_shape : Shape
 run_shape = first_shape (built lizdrog_app).subs
 
 -- a word that was given
@@ -71,7 +71,7 @@ six_rows e l n c s w = five_rows e l n c s ++ given (codes "WORKERS") (w ∷ [])
 abbrev all_rows : Text → Text → Text → Text → Text → Text → List Text → List Row
 all_rows e l n c s w scripts = six_rows e l n c s w ++ given (codes "SCRIPT") scripts ∷ []
 
-scripts_walked : (rows : List Row) (found scripts : List Text) → ArePlain scripts
+pub scripts_walked : (rows : List Row) (found scripts : List Text) → ArePlain scripts
     → fold (walked run_shape.rules []) (standing (held_at rows (codes "SCRIPT") found) positional 7) scripts
     ≡ standing (held_at rows (codes "SCRIPT") (found ++ scripts)) positional 7
 scripts_walked rows found [] plain = ap (λ ws. standing (held_at rows (codes "SCRIPT") ws) positional 7) (sym (append-nil found))
@@ -123,7 +123,7 @@ none_left : (st : Walk) → walk_fault run_shape [] st [] ≡ []
 unfolding walk_fault
 none_left st = refl
 
-scripts_faultless : (rows : List Row) (found scripts : List Text) → ArePlain scripts
+pub scripts_faultless : (rows : List Row) (found scripts : List Text) → ArePlain scripts
     → walk_fault run_shape [] (standing (held_at rows (codes "SCRIPT") found) positional 7) scripts ≡ []
 scripts_faultless rows found [] plain = none_left (standing (held_at rows (codes "SCRIPT") found) positional 7)
 scripts_faultless rows found (x ∷ xs) plain =
@@ -145,7 +145,7 @@ no_zero : (n : ℕ) → (suc n == 0) ≡ false
 no_zero n = grind arith
 
 -- the scripts are one or more, and not too many
-scripts_settle : (rows : List Row) (x : Text) (xs : List Text) → length xs ≤ 100
+pub scripts_settle : (rows : List Row) (x : Text) (xs : List Text) → length xs ≤ 100
     → settle_fault run_shape.rules run_shape.args_override_self (held_at rows (codes "SCRIPT") (x ∷ xs)) ≡ []
 scripts_settle rows x xs few =
     let one : nat_lt (suc (length xs)) 1 ≡ false = le-ltb (suc (length xs)) 1 (omega arith) in
@@ -196,11 +196,11 @@ unfolding clap_on_literals
 top_faultless name found [] = refl
 top_faultless name found (w ∷ ws) = top_faultless name (found ++ w ∷ []) ws
 
-run_top : (words : List Text) → fold (walked top_shape.rules (names_of (built lizdrog_app))) (walk_from nothing_held) (codes "run" ∷ words) ≡ stopped_at (codes "run") words
+pub run_top : (words : List Text) → fold (walked top_shape.rules (names_of (built lizdrog_app))) (walk_from nothing_held) (codes "run" ∷ words) ≡ stopped_at (codes "run") words
 unfolding clap_on_literals
 run_top words = top_walked (codes "run") [] words
 
-run_top_faultless : (words : List Text) → walk_fault top_shape (names_of (built lizdrog_app)) (walk_from nothing_held) (codes "run" ∷ words) ≡ []
+pub run_top_faultless : (words : List Text) → walk_fault top_shape (names_of (built lizdrog_app)) (walk_from nothing_held) (codes "run" ∷ words) ≡ []
 unfolding clap_on_literals
 run_top_faultless words = top_faultless (codes "run") [] words
 
@@ -231,7 +231,7 @@ run_found e l n c s w x xs pe pl pn pc ps pw px pxs =
 pub plain_run : (e l n c s w x : Text) (xs : List Text) → IsPlain e → IsPlain l → IsPlain n → IsPlain c → IsPlain s → IsPlain w → IsPlain x → ArePlain xs
     → length xs ≤ 100
     → words_of (codes "run" ∷ e ∷ l ∷ n ∷ c ∷ s ∷ w ∷ x ∷ xs)
-    ≡ option_map run (run_with (Some (record { early = e; late = l; netlist = n; sdc = c; spef = s })) (within 1 32 w) (few_scripts (x ∷ xs)))
+    ≡ option_map run (run_with None (Some (record { early = e; late = l; netlist = n; sdc = c; spef = s })) (within 1 32 w) (few_scripts (x ∷ xs)))
 unfolding words_of
 plain_run e l n c s w x xs pe pl pn pc ps pw px pxs few =
     rw (run_taken e l n c s w x xs pe pl pn pc ps pw px pxs few, run_found e l n c s w x xs pe pl pn pc ps pw px pxs) refl

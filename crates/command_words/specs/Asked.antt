@@ -1,17 +1,18 @@
 -- What the words of a command line ask for.
-use Rattle.std.specs.Prelude.{ℕ, List, map, length, ◌≡◌, ◌≤◌, ◌%◌}
+use Rattle.std.specs.Prelude.{ℕ, List, Option, map, option_map, length, ◌≡◌, ◌≤◌, ◌%◌}
 use Rattle.command_words.specs.declared.asked.Run.{Run}
 use Rattle.command_words.specs.declared.asked.Generate.{Generate}
 use Rattle.command_words.specs.declared.asked.Asked.{Asked}
 use Rattle.command_words.specs.declared.asked.Asked.TheVariants.{Run as run_asked, Generate as generate_asked}
 
--- a run: the names of its documents, and of 1 to 16 scripts, and how many workers it has
+-- a run: the names of its documents, of a saved journal if any, and of 1 to 16 scripts, and how many workers it has
 pub record RunWords : Type 0 where
   pub early : List ℕ
   pub late : List ℕ
   pub netlist : List ℕ
   pub sdc : List ℕ
   pub spef : List ℕ
+  pub journal : Option (List ℕ)
   pub workers : ℕ
   pub scripts : List (List ℕ)
 
@@ -33,6 +34,7 @@ run_words r =
       netlist = r.netlist.now;
       sdc = r.sdc.now;
       spef = r.spef.now;
+      journal = option_map (λ s. s.now) r.journal;
       workers = r.workers;
       scripts = map (λ s. s.now) r.scripts.items;
     }

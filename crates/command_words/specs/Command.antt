@@ -17,11 +17,20 @@ positional id = record (new_rule id) { required = true }
 abbrev pub several : Text → Rule
 several id = record (positional id) { range = Some (record { start_inclusive = 1; end_inclusive = usize_max }) }
 
+-- an option with one value, which may be left out
+abbrev pub optional : Text → Text → Rule
+optional id name = record (new_rule id) { long = Some name }
+
+-- the names of the documents of a design
+abbrev pub with_documents : App → App
+with_documents app =
+    with_rule (with_rule (with_rule (with_rule (with_rule app (positional (codes "EARLY"))) (positional (codes "LATE")))
+    (positional (codes "NETLIST"))) (positional (codes "SDC"))) (positional (codes "SPEF"))
+
 abbrev pub run_app : App
 run_app =
-    with_rule (with_rule (with_rule (with_rule (with_rule (with_rule (with_rule (new_app (codes "run"))
-    (positional (codes "EARLY"))) (positional (codes "LATE"))) (positional (codes "NETLIST"))) (positional (codes "SDC")))
-    (positional (codes "SPEF"))) (positional (codes "WORKERS"))) (several (codes "SCRIPT"))
+    with_rule (with_rule (with_rule (with_documents (new_app (codes "run"))) (positional (codes "WORKERS"))) (several (codes "SCRIPT")))
+    (optional (codes "JOURNAL") (codes "journal"))
 
 abbrev pub generate_app : App
 generate_app =
@@ -50,11 +59,12 @@ names_in rows =
     record { early = early; late = late; netlist = netlist; sdc = sdc; spef = spef })
     (first_of (codes "SPEF") rows)) (first_of (codes "SDC") rows)) (first_of (codes "NETLIST") rows)) (first_of (codes "LATE") rows)) (first_of (codes "EARLY") rows)
 
-abbrev pub run_with : Option Names → Option ℕ → Option (List Text) → Option RunWords
-run_with None workers scripts = None
-run_with (Some names) None scripts = None
-run_with (Some names) (Some workers) None = None
-run_with (Some names) (Some workers) (Some scripts) =
+-- a run with this saved journal, if any
+abbrev pub run_with : Option Text → Option Names → Option ℕ → Option (List Text) → Option RunWords
+run_with journal None workers scripts = None
+run_with journal (Some names) None scripts = None
+run_with journal (Some names) (Some workers) None = None
+run_with journal (Some names) (Some workers) (Some scripts) =
     Some
     (record {
       early = names.early;
@@ -62,6 +72,7 @@ run_with (Some names) (Some workers) (Some scripts) =
       netlist = names.netlist;
       sdc = names.sdc;
       spef = names.spef;
+      journal = journal;
       workers = workers;
       scripts = scripts;
     })
@@ -75,9 +86,12 @@ workers_in rows = option_and_then (within 1 32) (first_of (codes "WORKERS") rows
 abbrev pub scripts_in : List Row → Option (List Text)
 scripts_in rows = option_and_then few_scripts (all_of (codes "SCRIPT") rows)
 
+abbrev pub journal_in : List Row → Option Text
+journal_in rows = first_of (codes "JOURNAL") rows
+
 -- what the matches of `run` ask for; none where the workers are not from 1 to 32, or the scripts not 1 to 16
 abbrev pub run_in : List Row → Option RunWords
-run_in rows = run_with (names_in rows) (workers_in rows) (scripts_in rows)
+run_in rows = run_with (journal_in rows) (names_in rows) (workers_in rows) (scripts_in rows)
 
 -- what the matches of `generate` ask for
 abbrev pub generate_with : Option ℕ → Option ℕ → Option ℕ → Option GenerateWords

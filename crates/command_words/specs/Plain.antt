@@ -1,4 +1,4 @@
--- Plain words: none is empty or begins with a hyphen.
+-- Plain words: none is empty or begins with a hyphen. The words `--journal` and a name may stand before them.
 use Rattle.std.specs.Prelude.{◌≡◌, List, [], ◌∷◌, false, ◌==◌}
 use Rattle.clap.specs.Walk.{Text}
 

@@ -1,7 +1,8 @@
 //! What words ask for.
 
-/// A run: the names of the documents, with those of 1 to 16 scripts, one for each session, and the
-/// number of workers, from 1 to 32. It borrows the words.
+/// A run: the names of the documents, with those of 1 to 16 scripts, one for each session, and of a
+/// saved journal where the run goes on from one, and the number of workers, from 1 to 32. It borrows the
+/// words.
 #[derive(Drop)]
 pub struct Run<'a> {
     pub early: &'a str,
@@ -9,6 +10,7 @@ pub struct Run<'a> {
     pub netlist: &'a str,
     pub sdc: &'a str,
     pub spef: &'a str,
+    pub journal: Option<&'a str>,
     pub workers: u32,
     pub scripts: Vec<&'a str>,
 }

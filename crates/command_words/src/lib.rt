@@ -1,7 +1,7 @@
 //! The words of the command line, read by `clap`: a run of 1 to 16 scripts, or a generated run.
 //!
-//! The command has the subcommands `run` and `generate` and positional words, and nothing else. What
-//! it refuses, help among it, asks for nothing, and so do words without a subcommand, and numbers or
+//! The command has the subcommands `run` and `generate` with positional words, `run` also the option
+//! `--journal` with one value, and nothing else. What it refuses, help among it, asks for nothing, and so do words without a subcommand, and numbers or
 //! counts out of range.
 #![tactic(auto)]
 

@@ -5,7 +5,7 @@ ghost use Rattle.clap.specs.Matches.{found_of};
 ghost use Rattle.clap.specs.Walk.{rows_of, first_of, all_of};
 ghost use Rattle.command_words.specs.Numbers.{within, multiple_within};
 ghost use Rattle.command_words.specs.Asked.{run_words, generate_words};
-ghost use Rattle.command_words.specs.Command.{Names, names_in, names_words, few_scripts, workers_in, scripts_in, run_in, generate_in};
+ghost use Rattle.command_words.specs.Command.{Names, names_in, names_words, few_scripts, workers_in, scripts_in, journal_in, run_in, generate_in};
 
 use crate::asked::{Generate, Run};
 use crate::numbers::{multiple_of_four, number_within};
@@ -109,6 +109,7 @@ pub(crate) fn run_of<'a>(
                 netlist: names.netlist,
                 sdc: names.sdc,
                 spef: names.spef,
+                journal: word(matches, "JOURNAL"),
                 workers: workers as u32,
                 scripts,
             })),

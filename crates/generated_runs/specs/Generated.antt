@@ -1,5 +1,5 @@
 -- The documents of a generated run, as values.
-use Rattle.std.specs.Prelude.{◌≡◌, ℕ, List, [], Ok}
+use Rattle.std.specs.Prelude.{◌≡◌, ℕ, List, [], None, Ok}
 use Rattle.timing_defs.specs.declared.scripts.Script.{Script}
 use Rattle.script_reader.specs.Scripts.{script_of}
 use Rattle.shell_core.specs.declared.documents.Documents.{Documents}
@@ -8,7 +8,7 @@ use Rattle.design_maker.specs.Sessions.{scripts_of}
 use Rattle.design_laws.specs.Netlists.{module_of_insts}
 use Rattle.design_laws.specs.Constants.{generated_library, generated_constraints}
 
--- the library stands for both splits, and there are no parasitics
+-- the library stands for both splits, there are no parasitics, and the run goes on from no saved journal
 abbrev pub with_those : ℕ → ℕ → List Script → Documents
 with_those start gates scripts =
     record {
@@ -17,6 +17,7 @@ with_those start gates scripts =
       netlist = module_of_insts (insts_of start gates);
       sdc = generated_constraints;
       spef = record { nets = [] };
+      saved = None;
       scripts = scripts;
     }
 

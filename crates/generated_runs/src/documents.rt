@@ -1,15 +1,13 @@
 //! The documents of a generated run.
 
-ghost use Rattle.std.specs.Prelude.{◌≡◌, ◌≤◌, ◌%◌, IfOk, true, map};
-ghost use Rattle.timing_defs.specs.declared.scripts.Script.{Script};
+ghost use Rattle.std.specs.Prelude.{◌≡◌, ◌≤◌, ◌%◌, IfOk, true};
 ghost use Rattle.timing_defs.specs.Documents.{is_library, are_constraints, IsNetlist};
 ghost use Rattle.std.specs.List.{All};
 ghost use Rattle.shell_core.specs.Kept.{AreKept};
 ghost use Rattle.shell_core.specs.Scripts.{IsScript};
 ghost use Rattle.design_maker.specs.Constants.{library_text, constraints_text};
 ghost use Rattle.design_maker.specs.Insts.{insts_of};
-ghost use Rattle.design_maker.specs.Sessions.{scripts_of};
-ghost use Rattle.design_maker.specs.Written.{module_text, commands_text};
+ghost use Rattle.design_maker.specs.Written.{module_text};
 ghost use Rattle.design_laws.specs.Netlists.{module_of_insts};
 ghost use Rattle.design_laws.specs.Constants.{generated_library, generated_constraints};
 ghost use Rattle.generated_runs.specs.Generated.{generated_documents as documents_of, with_those};
@@ -96,6 +94,7 @@ fn with_scripts(
                 spef: Parasitics {
                     nets: Items::new(alloc),
                 },
+                saved: None,
                 scripts,
             }),
             Err(Memory) => {

@@ -1,6 +1,6 @@
 //! Generated texts as values. Their readers find no fault in them.
 
-ghost use Rattle.std.specs.Prelude.{◌≡◌, ◌≤◌, IfOk, true, ℕ};
+ghost use Rattle.std.specs.Prelude.{◌≡◌, ◌≤◌, IfOk, true};
 ghost use Rattle.timing_defs.specs.Documents.{is_library, are_constraints, IsNetlist};
 ghost use Rattle.design_maker.specs.Constants.{library_text, constraints_text};
 ghost use Rattle.design_maker.specs.Insts.{insts_of};

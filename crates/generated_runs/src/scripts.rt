@@ -1,6 +1,6 @@
 //! Generated scripts as values.
 
-ghost use Rattle.std.specs.Prelude.{◌≡◌, ◌≤◌, ◌++◌, IfOk, OnOk, [], ◌∷◌, map, Ok};
+ghost use Rattle.std.specs.Prelude.{◌≡◌, ◌≤◌, IfOk, map, Ok};
 ghost use Rattle.timing_defs.specs.declared.scripts.Script.{Script};
 ghost use Rattle.std.specs.List.{All};
 ghost use Rattle.design_maker.specs.Sessions.{scripts_of};

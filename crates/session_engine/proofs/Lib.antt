@@ -7,3 +7,4 @@ pub mod Kept
 pub mod Sights
 pub mod Rows
 pub mod CountLaws
+pub mod ReplayLaws

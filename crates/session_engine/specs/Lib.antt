@@ -4,3 +4,4 @@ pub mod Looking
 pub mod Running
 pub mod Trying
 pub mod Counting
+pub mod Replaying

@@ -15,6 +15,7 @@ mod histories;
 mod looking;
 mod owners;
 mod preparing;
+mod replaying;
 mod runs;
 mod sharing;
 mod snapshots;
@@ -22,6 +23,7 @@ mod soundness;
 mod versions;
 
 pub use preparing::{exclusion, prepare};
+pub use replaying::{ReplayFault, replay};
 pub use runs::run_script;
 pub use snapshots::Snapshot;
 pub use soundness::sound_graph;

@@ -129,6 +129,23 @@ impl Version {
         }
     }
 
+    /// The version that begins at this one's store, with that number and no entries; it shares the store and
+    /// the analysis.
+    pub(crate) fn begun_anew(&self, alloc: Global, first: u64) -> Result<Arc<Version>, Memory>
+        requires { first ≤ 2 ^ 62 }
+        ensures first { IfOk result (λ v. (arc_value v).first ≡ first) }
+        ensures origin { IfOk result (λ v. (arc_value v).origin ≡ self.now.stored.design) }
+        ensures journal { IfOk result (λ v. (arc_value v).journal ≡ []) }
+        ensures stored { IfOk result (λ v. (arc_value v).stored ≡ self.now.stored) }
+    {
+        self.laws();
+        let store = self.store.clone()?;
+        match self.analysis.clone() {
+            Ok(analysis) => Version::begun(alloc, first, store, analysis),
+            Err(_) => Err(Memory),
+        }
+    }
+
     /// The history with one entry more.
     fn longer(&self, alloc: Global, who: u32, eco: &Eco) -> Result<History, Memory>
         ensures first { IfOk result (λ h. h.first ≡ self.now.first) }

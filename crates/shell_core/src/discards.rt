@@ -1,6 +1,6 @@
 //! Values that are given up where the reading of documents stops: each is dropped at one place.
 
-use timing_defs::{Constraints, Items, Library, Module, Parasitics, Script};
+use timing_defs::{Constraints, Entry, Items, Library, Module, Parasitics, Script};
 
 pub(crate) fn discard_library(_library: Library) {}
 
@@ -9,5 +9,9 @@ pub(crate) fn discard_netlist(_netlist: Module) {}
 pub(crate) fn discard_constraints(_constraints: Constraints) {}
 
 pub(crate) fn discard_parasitics(_parasitics: Parasitics) {}
+
+pub(crate) fn discard_entries(_entries: Items<Entry>) {}
+
+pub(crate) fn discard_text(_text: Vec<u8>) {}
 
 pub(crate) fn discard_scripts(_scripts: Items<Script>) {}

@@ -1,6 +1,6 @@
 //! The documents of a run, fetched and read one after the other.
 
-ghost use Rattle.std.specs.Prelude.{◌≡◌, ◌≤◌, ◌<◌, ◌+◌, ◌++◌, ◌∷◌, [], length, map, get_or, true, IfOk, IfErr, MatchResult};
+ghost use Rattle.std.specs.Prelude.{◌≡◌, ◌≤◌, ◌<◌, ◌+◌, ◌++◌, ◌∷◌, [], length, map, get_or, true, Some, IfOk, IfErr, MatchResult};
 ghost use Rattle.std.specs.List.{All};
 ghost use Rattle.timing_defs.specs.Documents.{is_library, are_constraints, are_parasitics, IsNetlist};
 ghost use Rattle.sta_text.specs.Faults.{Fails};
@@ -12,14 +12,16 @@ ghost use Rattle.shell_core.specs.declared.documents.Role.TheVariants as role;
 ghost use Rattle.shell_core.specs.declared.documents.Stop.TheVariants as cause;
 ghost use Rattle.command_words.specs.Asked.{run_words};
 ghost use Rattle.shell_core.specs.Scripts.{IsScript};
-ghost use Rattle.shell_core.specs.Documents.{has_no_spef, no_parasitics, name_of, Gives, kind_text, role_text, how_text, script_sources, last_sources, sources, Stops, Says, SaysLibrary, SaysModule, SaysParasitics, SaysScript, SayScripts, AreUnits, AreConstraints, AreLast, AreDocuments};
-ghost use Rattle.shell_core.specs.Kept.{AreKept};
+ghost use Rattle.shell_core.specs.Documents.{has_no_spef, no_parasitics, name_of, Gives, kind_text, role_text, how_text, script_sources, journal_sources, last_sources, sources, journal_faults, Stops, Says, SaysLibrary, SaysModule, SaysParasitics, SaysJournal, SaysScript, SayScripts, AreUnits, AreConstraints, AreSaved, AreLast, AreDocuments};
+ghost use Rattle.shell_core.specs.Kept.{AreReplayable, AreBehind, AreKept};
 ghost use Rattle.shell_core.specs.Reading.{AreRead};
 
 use crate::discards::{
-    discard_constraints, discard_library, discard_netlist, discard_parasitics, discard_scripts,
+    discard_constraints, discard_entries, discard_library, discard_netlist, discard_parasitics,
+    discard_scripts,
 };
 use command_words::Run;
+use eco_journal::read_saved;
 use liberty_cells::{read_library, units};
 use script_reader::read_script;
 use sdc_reader::read_constraints;
@@ -28,7 +30,7 @@ use sta_outside::{Fetch, Shelf};
 use sta_units::Memory;
 use std::alloc::Global;
 use timing_defs::{
-    Code, Constraints, Items, Library, Module, Parasitics, ReadFault, Script, Units,
+    Code, Constraints, Derates, Entry, Items, Library, Module, Parasitics, ReadFault, Script, Units,
 };
 use verilog_netlist::read_module;
 
@@ -40,6 +42,7 @@ pub enum Role {
     Netlist,
     Sdc,
     Spef,
+    Journal,
     Session { number: usize },
 }
 
@@ -60,7 +63,8 @@ pub enum Stop {
     Memory,
 }
 
-/// The values of the documents of a run; the scripts are in the order of their names.
+/// The values of the documents of a run; the scripts are in the order of their names. Without a saved
+/// journal there are no saved entries, not even an empty list.
 #[derive(Drop)]
 pub struct Documents {
     pub early: Library,
@@ -68,6 +72,7 @@ pub struct Documents {
     pub netlist: Module,
     pub sdc: Constraints,
     pub spef: Parasitics,
+    pub saved: Option<Items<Entry>>,
     pub scripts: Items<Script>,
 }
 
@@ -82,12 +87,13 @@ impl Role {
             Role::Netlist => "netlist",
             Role::Sdc => "sdc",
             Role::Spef => "spef",
+            Role::Journal => "journal",
             Role::Session { .. } => "script",
         }
     }
 
     /// How the document is called in a line of fault: `early`, `late`, `netlist`, `sdc`, `spef`,
-    /// and `script1` for the script of the first session.
+    /// `journal`, and `script1` for the script of the first session.
     ///
     /// # Errors
     ///
@@ -138,6 +144,7 @@ pub fn name_of<'a>(run: &Run<'a>, role: Role) -> &'a str
         Role::Netlist => run.netlist,
         Role::Sdc => run.sdc,
         Role::Spef => run.spef,
+        Role::Journal => run.journal.unwrap_or(""),
         Role::Session { number } => script_at(&run.scripts, number.saturating_sub(1)),
     }
 }
@@ -340,87 +347,219 @@ fn has_no_spef(run: &Run<'_>) -> bool
     run.spef == "none"
 }
 
-/// Scripts, behind parasitics that are read.
-#[tactic(auto, using(crate::proofs::Stopping::stops_first, crate::proofs::Stopping::stops_behind))]
-fn from_spef<S: Shelf>(
+/// The most saved entries, so that those of the run can be counted behind them.
+const MOST_SAVED: u64 = 1 << 62;
+
+/// The entries of a saved journal, by the factors of the constraints.
+#[tactic(auto, using(crate::proofs::JournalLaws::journal_refused))]
+fn read_journal(alloc: Global, text: &[u8], derates: &Derates) -> Result<Items<Entry>, ReadFault>
+    ensures { MatchResult result (λ saved. SaysJournal derates.now saved text.now × AreReplayable (Some saved)) (λ e. Fails e (journal_faults derates.now text.now)) }
+{
+    match read_saved(alloc, text, derates) {
+        Ok(saved) => {
+            if saved.len() as u64 <= MOST_SAVED {
+                Ok(saved)
+            } else {
+                discard_entries(saved);
+                Err(ReadFault::Memory)
+            }
+        }
+        Err(fault) => Err(fault),
+    }
+}
+
+/// The saved journal of a run that names one.
+fn journal<S: Shelf>(
     alloc: Global,
     shelf: &mut S,
     run: &Run<'_>,
-) -> Result<(Parasitics, Items<Script>), Stop>
+    constraints: &Constraints,
+) -> Result<Items<Entry>, Stop>
+    requires { AreConstraints (S.holds shelf.old) (run_words run.now) constraints.now }
     ensures map { S.holds shelf.new ≡ S.holds shelf.old }
     ensures rising { S.faults shelf.old ≤ S.faults shelf.new }
-    ensures value { IfOk result (λ got. Says (S.holds shelf.old) (run_words run.now).spef (SaysParasitics got.0) × SayScripts (S.holds shelf.old) (run_words run.now).scripts got.1 × (S.faults shelf.new ≡ S.faults shelf.old)) }
-    ensures kept { IfOk result (λ got. (are_parasitics got.0.nets ≡ true) × All IsScript got.1 × (length got.1 ≡ length run.now.scripts.items)) }
-    ensures stop { IfErr result (λ stop. Stops (S.holds shelf.old) (run_words run.now) (S.faults shelf.old) (S.faults shelf.new) (role.Spef ∷ script_sources 1 (run_words run.now).scripts) stop) }
+    ensures value { IfOk result (λ value. Says (S.holds shelf.old) (name_of (run_words run.now) role.Journal) (SaysJournal constraints.now.derates value) × (S.faults shelf.new ≡ S.faults shelf.old)) }
+    ensures kept { IfOk result (λ value. AreReplayable (Some value)) }
+    ensures stop { IfErr result (λ stop. Stops (S.holds shelf.old) (run_words run.now) (S.faults shelf.old) (S.faults shelf.new) (role.Journal ∷ []) stop) }
 {
-    let parasitics = spef(alloc, shelf, run)?;
+    let text = fetch(alloc, shelf, run, Role::Journal)?;
+    match read_journal(alloc, text.as_slice(), &constraints.derates) {
+        Ok(saved) => Ok(saved),
+        Err(ReadFault::At { code, offset }) => Err(Stop::Refused(Role::Journal, code, offset)),
+        Err(ReadFault::Memory) => Err(Stop::Memory),
+    }
+}
+
+/// Saved entries, if any, and the scripts behind them.
+#[derive(Drop)]
+struct Saved {
+    saved: Option<Items<Entry>>,
+    scripts: Items<Script>,
+}
+
+/// Scripts, behind a saved journal that is read.
+#[tactic(auto, using(crate::proofs::Stopping::stops_first))]
+fn from_journal<S: Shelf>(
+    alloc: Global,
+    shelf: &mut S,
+    run: &Run<'_>,
+    constraints: &Constraints,
+) -> Result<Saved, Stop>
+    requires { AreConstraints (S.holds shelf.old) (run_words run.now) constraints.now }
+    ensures map { S.holds shelf.new ≡ S.holds shelf.old }
+    ensures rising { S.faults shelf.old ≤ S.faults shelf.new }
+    ensures value { IfOk result (λ got. AreSaved (S.holds shelf.old) (Some (name_of (run_words run.now) role.Journal)) constraints.now.derates got.saved × SayScripts (S.holds shelf.old) (run_words run.now).scripts got.scripts × (S.faults shelf.new ≡ S.faults shelf.old)) }
+    ensures kept { IfOk result (λ got. AreBehind (length run.now.scripts.items) got.saved got.scripts) }
+    ensures stop { IfErr result (λ stop. Stops (S.holds shelf.old) (run_words run.now) (S.faults shelf.old) (S.faults shelf.new) (role.Journal ∷ script_sources 1 (run_words run.now).scripts) stop) }
+{
+    let saved = journal(alloc, shelf, run, constraints)?;
     match scripts(alloc, shelf, run) {
-        Ok(scripts) => Ok((parasitics, scripts)),
+        Ok(scripts) => Ok(Saved {
+            saved: Some(saved),
+            scripts,
+        }),
         Err(stop) => {
-            discard_parasitics(parasitics);
+            discard_entries(saved);
             Err(stop)
         }
     }
 }
 
-/// The scripts of a run without parasitics.
+/// A saved journal, where the words name one, and the scripts behind it.
+fn from_saved<S: Shelf>(
+    alloc: Global,
+    shelf: &mut S,
+    run: &Run<'_>,
+    constraints: &Constraints,
+) -> Result<Saved, Stop>
+    requires { AreConstraints (S.holds shelf.old) (run_words run.now) constraints.now }
+    ensures map { S.holds shelf.new ≡ S.holds shelf.old }
+    ensures rising { S.faults shelf.old ≤ S.faults shelf.new }
+    ensures value { IfOk result (λ got. AreSaved (S.holds shelf.old) (run_words run.now).journal constraints.now.derates got.saved × SayScripts (S.holds shelf.old) (run_words run.now).scripts got.scripts × (S.faults shelf.new ≡ S.faults shelf.old)) }
+    ensures kept { IfOk result (λ got. AreBehind (length run.now.scripts.items) got.saved got.scripts) }
+    ensures stop { IfErr result (λ stop. Stops (S.holds shelf.old) (run_words run.now) (S.faults shelf.old) (S.faults shelf.new) (journal_sources (run_words run.now)) stop) }
+{
+    match run.journal {
+        None => match scripts(alloc, shelf, run) {
+            Ok(scripts) => Ok(Saved {
+                saved: None,
+                scripts,
+            }),
+            Err(stop) => Err(stop),
+        },
+        Some(_) => from_journal(alloc, shelf, run, constraints),
+    }
+}
+
+/// Parasitics, and what is behind them.
+#[derive(Drop)]
+struct Tail {
+    spef: Parasitics,
+    saved: Option<Items<Entry>>,
+    scripts: Items<Script>,
+}
+
+/// A saved journal and scripts, behind parasitics that are read.
+#[tactic(auto, using(crate::proofs::Stopping::stops_first, crate::proofs::Stopping::stops_behind))]
+fn from_spef<S: Shelf>(
+    alloc: Global,
+    shelf: &mut S,
+    run: &Run<'_>,
+    constraints: &Constraints,
+) -> Result<Tail, Stop>
+    requires { AreConstraints (S.holds shelf.old) (run_words run.now) constraints.now }
+    ensures map { S.holds shelf.new ≡ S.holds shelf.old }
+    ensures rising { S.faults shelf.old ≤ S.faults shelf.new }
+    ensures value { IfOk result (λ got. Says (S.holds shelf.old) (run_words run.now).spef (SaysParasitics got.spef) × AreSaved (S.holds shelf.old) (run_words run.now).journal constraints.now.derates got.saved × SayScripts (S.holds shelf.old) (run_words run.now).scripts got.scripts × (S.faults shelf.new ≡ S.faults shelf.old)) }
+    ensures kept { IfOk result (λ got. (are_parasitics got.spef.nets ≡ true) × AreBehind (length run.now.scripts.items) got.saved got.scripts) }
+    ensures stop { IfErr result (λ stop. Stops (S.holds shelf.old) (run_words run.now) (S.faults shelf.old) (S.faults shelf.new) (role.Spef ∷ journal_sources (run_words run.now)) stop) }
+{
+    let spef = spef(alloc, shelf, run)?;
+    match from_saved(alloc, shelf, run, constraints) {
+        Ok(Saved { saved, scripts }) => Ok(Tail {
+            spef,
+            saved,
+            scripts,
+        }),
+        Err(stop) => {
+            discard_parasitics(spef);
+            Err(stop)
+        }
+    }
+}
+
+/// A saved journal and the scripts of a run without parasitics.
 fn without_spef<S: Shelf>(
     alloc: Global,
     shelf: &mut S,
     run: &Run<'_>,
-) -> Result<(Parasitics, Items<Script>), Stop>
+    constraints: &Constraints,
+) -> Result<Tail, Stop>
+    requires { AreConstraints (S.holds shelf.old) (run_words run.now) constraints.now }
     ensures map { S.holds shelf.new ≡ S.holds shelf.old }
     ensures rising { S.faults shelf.old ≤ S.faults shelf.new }
-    ensures value { IfOk result (λ got. (got.0 ≡ no_parasitics) × SayScripts (S.holds shelf.old) (run_words run.now).scripts got.1 × (S.faults shelf.new ≡ S.faults shelf.old)) }
-    ensures kept { IfOk result (λ got. (are_parasitics got.0.nets ≡ true) × All IsScript got.1 × (length got.1 ≡ length run.now.scripts.items)) }
-    ensures stop { IfErr result (λ stop. Stops (S.holds shelf.old) (run_words run.now) (S.faults shelf.old) (S.faults shelf.new) (script_sources 1 (run_words run.now).scripts) stop) }
+    ensures value { IfOk result (λ got. (got.spef ≡ no_parasitics) × AreSaved (S.holds shelf.old) (run_words run.now).journal constraints.now.derates got.saved × SayScripts (S.holds shelf.old) (run_words run.now).scripts got.scripts × (S.faults shelf.new ≡ S.faults shelf.old)) }
+    ensures kept { IfOk result (λ got. (are_parasitics got.spef.nets ≡ true) × AreBehind (length run.now.scripts.items) got.saved got.scripts) }
+    ensures stop { IfErr result (λ stop. Stops (S.holds shelf.old) (run_words run.now) (S.faults shelf.old) (S.faults shelf.new) (journal_sources (run_words run.now)) stop) }
 {
-    let scripts = scripts(alloc, shelf, run)?;
-    let parasitics = Parasitics {
+    let Saved { saved, scripts } = from_saved(alloc, shelf, run, constraints)?;
+    let spef = Parasitics {
         nets: Items::new(alloc),
     };
-    Ok((parasitics, scripts))
+    Ok(Tail {
+        spef,
+        saved,
+        scripts,
+    })
 }
 
-/// Parasitics and the scripts behind them.
+/// Parasitics, and what is behind them.
 fn last<S: Shelf>(
     alloc: Global,
     shelf: &mut S,
     run: &Run<'_>,
-) -> Result<(Parasitics, Items<Script>), Stop>
+    constraints: &Constraints,
+) -> Result<Tail, Stop>
+    requires { AreConstraints (S.holds shelf.old) (run_words run.now) constraints.now }
     ensures map { S.holds shelf.new ≡ S.holds shelf.old }
     ensures rising { S.faults shelf.old ≤ S.faults shelf.new }
-    ensures value { IfOk result (λ got. AreLast (S.holds shelf.old) (run_words run.now) got.0 got.1 × (S.faults shelf.new ≡ S.faults shelf.old)) }
-    ensures kept { IfOk result (λ got. (are_parasitics got.0.nets ≡ true) × All IsScript got.1 × (length got.1 ≡ length run.now.scripts.items)) }
+    ensures value { IfOk result (λ got. AreLast (S.holds shelf.old) (run_words run.now) constraints.now.derates got.spef got.saved got.scripts × (S.faults shelf.new ≡ S.faults shelf.old)) }
+    ensures kept { IfOk result (λ got. (are_parasitics got.spef.nets ≡ true) × AreBehind (length run.now.scripts.items) got.saved got.scripts) }
     ensures stop { IfErr result (λ stop. Stops (S.holds shelf.old) (run_words run.now) (S.faults shelf.old) (S.faults shelf.new) (last_sources (run_words run.now)) stop) }
 {
     if has_no_spef(run) {
-        without_spef(alloc, shelf, run)
+        without_spef(alloc, shelf, run, constraints)
     } else {
-        from_spef(alloc, shelf, run)
+        from_spef(alloc, shelf, run, constraints)
     }
 }
 
 /// Constraints and what is behind them.
+#[derive(Drop)]
+struct Constrained {
+    sdc: Constraints,
+    last: Tail,
+}
+
 #[tactic(auto, using(crate::proofs::Stopping::stops_first, crate::proofs::Stopping::stops_behind))]
 fn from_sdc<S: Shelf>(
     alloc: Global,
     shelf: &mut S,
     run: &Run<'_>,
     units: &Units,
-) -> Result<(Constraints, Parasitics, Items<Script>), Stop>
+) -> Result<Constrained, Stop>
     requires { AreUnits (S.holds shelf.old) (run_words run.now) units.now }
     ensures map { S.holds shelf.new ≡ S.holds shelf.old }
     ensures rising { S.faults shelf.old ≤ S.faults shelf.new }
-    ensures value { IfOk result (λ got. AreConstraints (S.holds shelf.old) (run_words run.now) got.0 × AreLast (S.holds shelf.old) (run_words run.now) got.1 got.2 × (S.faults shelf.new ≡ S.faults shelf.old)) }
-    ensures kept { IfOk result (λ got. (are_constraints got.0 ≡ true) × (are_parasitics got.1.nets ≡ true) × All IsScript got.2 × (length got.2 ≡ length run.now.scripts.items)) }
+    ensures value { IfOk result (λ got. AreConstraints (S.holds shelf.old) (run_words run.now) got.sdc × AreLast (S.holds shelf.old) (run_words run.now) got.sdc.derates got.last.spef got.last.saved got.last.scripts × (S.faults shelf.new ≡ S.faults shelf.old)) }
+    ensures kept { IfOk result (λ got. (are_constraints got.sdc ≡ true) × (are_parasitics got.last.spef.nets ≡ true) × AreBehind (length run.now.scripts.items) got.last.saved got.last.scripts) }
     ensures stop { IfErr result (λ stop. Stops (S.holds shelf.old) (run_words run.now) (S.faults shelf.old) (S.faults shelf.new) (role.Sdc ∷ last_sources (run_words run.now)) stop) }
 {
-    let constraints = sdc(alloc, shelf, run, units)?;
-    match last(alloc, shelf, run) {
-        Ok((parasitics, scripts)) => Ok((constraints, parasitics, scripts)),
+    let sdc = sdc(alloc, shelf, run, units)?;
+    match last(alloc, shelf, run, &sdc) {
+        Ok(last) => Ok(Constrained { sdc, last }),
         Err(stop) => {
-            discard_constraints(constraints);
+            discard_constraints(sdc);
             Err(stop)
         }
     }
@@ -541,15 +680,21 @@ fn with_rest<S: Shelf>(
     ensures stop { IfErr result (λ stop. Stops (S.holds shelf.old) (run_words run.now) (S.faults shelf.old) (S.faults shelf.new) (role.Sdc ∷ last_sources (run_words run.now)) stop) }
 {
     match from_sdc(alloc, shelf, run, &netted.libraries.units) {
-        Ok((sdc, spef, scripts)) => {
+        Ok(Constrained { sdc, last }) => {
             let Netted { libraries, netlist } = netted;
             let Libraries { early, late, .. } = libraries;
+            let Tail {
+                spef,
+                saved,
+                scripts,
+            } = last;
             Ok(Documents {
                 early,
                 late,
                 netlist,
                 sdc,
                 spef,
+                saved,
                 scripts,
             })
         }
@@ -561,7 +706,8 @@ fn with_rest<S: Shelf>(
 }
 
 /// The values of the documents of a run, each fetched and at once read: libraries, netlist,
-/// constraints in the units of the late library, parasitics, and the scripts in order.
+/// constraints in the units of the late library, parasitics, a saved journal by the factors of the
+/// constraints, and the scripts in order.
 ///
 /// # Errors
 ///

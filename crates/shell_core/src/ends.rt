@@ -2,10 +2,10 @@
 
 ghost use Rattle.std.specs.Prelude.{◌≡◌, ◌≤◌, false, IfOk};
 ghost use Rattle.std.specs.List.{list_any};
-ghost use Rattle.shell_core.specs.Documents.{design_line};
+ghost use Rattle.shell_core.specs.Documents.{design_line, entry_line};
 ghost use Rattle.shell_core.specs.Answers.{is_wanting, is_refusal, has_refusal, status_of};
 
-use crate::texts::design_line;
+use crate::texts::{design_line, entry_line};
 use sta_units::Memory;
 use std::alloc::Global;
 use timing_defs::{Answer, Fault, Row, Transcript};
@@ -69,5 +69,20 @@ pub fn fault_end(alloc: Global, fault: &Fault) -> Result<End, Memory>
         return Err(Memory);
     }
     let text = design_line(alloc, fault)?;
+    Ok(End { status: 3, text })
+}
+
+/// The end of a run in whose saved journal an entry, counted from 1, is refused.
+///
+/// # Errors
+///
+/// Want of memory, also where it is the fault.
+pub fn entry_end(alloc: Global, entry: u64, fault: &Fault) -> Result<End, Memory>
+    ensures { IfOk result (λ end. (is_wanting fault.now ≡ false) × (end.status ≡ 3) × (end.text.items ≡ entry_line entry fault.now)) }
+{
+    if is_wanting(fault) {
+        return Err(Memory);
+    }
+    let text = entry_line(alloc, entry, fault)?;
     Ok(End { status: 3, text })
 }

@@ -7,5 +7,5 @@ mod ends;
 mod texts;
 
 pub use documents::{Documents, How, Role, Stop, name_of, read_all};
-pub use ends::{End, fault_end, status};
-pub use texts::{design_line, refusal_line, shelf_line, words_line};
+pub use ends::{End, entry_end, fault_end, status};
+pub use texts::{design_line, entry_line, refusal_line, shelf_line, words_line};

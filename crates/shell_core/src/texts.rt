@@ -2,8 +2,9 @@
 
 ghost use Rattle.std.specs.Prelude.{◌≡◌, ◌++◌, ◌∷◌, [], OnOk, IfOk};
 ghost use Rattle.timing_defs.specs.Output.{word, number};
-ghost use Rattle.shell_core.specs.Documents.{words_line, design_line, refusal_line, shelf_line};
+ghost use Rattle.shell_core.specs.Documents.{words_line, design_line, entry_line, refusal_line, shelf_line, role_text};
 
+use crate::discards::discard_text;
 use crate::documents::{How, Role};
 use report_text::fault_bytes;
 use sta_units::Memory;
@@ -66,6 +67,46 @@ pub fn design_line(alloc: Global, fault: &Fault) -> Result<Vec<u8>, Memory>
     Ok(text)
 }
 
+/// The line of a saved entry, counted from 1, that is refused.
+///
+/// # Errors
+///
+/// Want of memory.
+pub fn entry_line(alloc: Global, entry: u64, fault: &Fault) -> Result<Vec<u8>, Memory>
+    ensures { IfOk result (λ text. text.items ≡ entry_line entry fault.now) }
+{
+    let words = fault_bytes(alloc, fault)?;
+    let mut text = Vec::new(alloc);
+    push(&mut text, b"fault journal J4")?;
+    push_number(alloc, &mut text, entry)?;
+    push_word(&mut text, words.as_slice())?;
+    push_end(&mut text)?;
+    Ok(text)
+}
+
+fn push_role(alloc: Global, out: &mut Vec<u8>, role: Role) -> Result<(), Memory>
+    ensures { OnOk result (out.new.items ≡ out.old.items ++ word (role_text role)) }
+{
+    let label = role.label(alloc)?;
+    push_word(out, label.as_slice())
+}
+
+fn push_refusal(
+    alloc: Global,
+    out: &mut Vec<u8>,
+    role: Role,
+    code: Code,
+    place: u64,
+) -> Result<(), Memory>
+    ensures { OnOk result (out.new.items ≡ out.old.items ++ refusal_line role (record { code = code; at = place })) }
+{
+    push(out, b"fault")?;
+    push_role(alloc, out, role)?;
+    push_word(out, code.label().as_bytes())?;
+    push_number(alloc, out, place)?;
+    push_end(out)
+}
+
 /// The line of a document that has a fault at a place.
 ///
 /// # Errors
@@ -74,14 +115,14 @@ pub fn design_line(alloc: Global, fault: &Fault) -> Result<Vec<u8>, Memory>
 pub fn refusal_line(alloc: Global, role: Role, code: Code, place: u64) -> Result<Vec<u8>, Memory>
     ensures { IfOk result (λ text. text.items ≡ refusal_line role (record { code = code; at = place })) }
 {
-    let label = role.label(alloc)?;
     let mut text = Vec::new(alloc);
-    push(&mut text, b"fault")?;
-    push_word(&mut text, label.as_slice())?;
-    push_word(&mut text, code.label().as_bytes())?;
-    push_number(alloc, &mut text, place)?;
-    push_end(&mut text)?;
-    Ok(text)
+    match push_refusal(alloc, &mut text, role, code, place) {
+        Ok(()) => Ok(text),
+        Err(Memory) => {
+            discard_text(text);
+            Err(Memory)
+        }
+    }
 }
 
 /// The line of a document that the shelf did not give.

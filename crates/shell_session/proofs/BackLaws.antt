@@ -99,14 +99,20 @@ are_entries (e ∷ entries) named ecos =
 each_entry : (P : Entry → Type 0) (J : List Entry) → ((e : Entry) → Contains J e → P e) → All P J
 each_entry P J each k d within = each (get_or J k d) (Contains-get_or J k d within)
 
--- the journal of sessions that answered 1 to 16 scripts is read back
-pub read_back : (o : Design) (J : List Entry) (first : ℕ) (scripts : List Script) (ts : List Transcript) → AreLegal o J first 1 scripts ts
-    → All IsScript scripts → length scripts ≤ 16 → ((e : Entry) → Contains J e → (1 ≤ e.session) × (e.session ≤ length scripts))
-    → length J ≤ 2 ^ 62 → entries_of (journal_text J) ≡ Ok J
-read_back o J first scripts ts legal kept few named many =
+-- the entries of sessions that answered 1 to 16 scripts can be written
+pub lawful_entries : (o : Design) (J : List Entry) (first : ℕ) (scripts : List Script) (ts : List Transcript) → AreLegal o J first 1 scripts ts
+    → All IsScript scripts → length scripts ≤ 16 → ((e : Entry) → Contains J e → (1 ≤ e.session) × (e.session ≤ length scripts)) → AreEntries J
+lawful_entries o J first scripts ts legal kept few named =
     let ecos : All (λ (e : Entry). IsEco e.eco) J =
     all_stand (length scripts) J (λ s low high. session_stands o J first 1 scripts ts legal kept s low (omega (arith, high)))
     (each_entry (λ e. (1 ≤ e.session) × (e.session ≤ length scripts)) J named) in
     let within : All (λ (e : Entry). (1 ≤ e.session) × (e.session ≤ 16)) J =
     each_entry (λ e. (1 ≤ e.session) × (e.session ≤ 16)) J (λ e among. let n = named e among in (n.0, omega (arith, n.1, few))) in
-    journal_back J (are_entries J within ecos) (omega (arith, many))
+    are_entries J within ecos
+
+-- and are read back
+pub read_back : (o : Design) (J : List Entry) (first : ℕ) (scripts : List Script) (ts : List Transcript) → AreLegal o J first 1 scripts ts
+    → All IsScript scripts → length scripts ≤ 16 → ((e : Entry) → Contains J e → (1 ≤ e.session) × (e.session ≤ length scripts))
+    → length J ≤ 2 ^ 62 → entries_of (journal_text J) ≡ Ok J
+read_back o J first scripts ts legal kept few named many =
+    journal_back J (lawful_entries o J first scripts ts legal kept few named) (omega (arith, many))

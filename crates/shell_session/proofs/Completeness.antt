@@ -5,8 +5,12 @@ use Rattle.std.specs.List.{list_any}
 use Rattle.std.proofs.lemmas.Bool.{false≢true}
 use Rattle.sta_outside.specs.Shelf.{held, document_limit, Rose}
 use Rattle.timing_defs.specs.declared.design.Design.{Design}
+use Rattle.timing_defs.specs.declared.constraints.Constraints.{Constraints}
+use Rattle.timing_defs.specs.declared.library.Units.{Units}
+use Rattle.timing_defs.specs.declared.edits.Entry.{Entry}
 use Rattle.timing_defs.specs.declared.faults.Fault.{Fault}
 use Rattle.timing_defs.specs.declared.scripts.Script.{Script}
+use Rattle.timing_defs.specs.Sessions.{IsInitial}
 use Rattle.sta_text.specs.declared.faults.Wrong.{Wrong}
 use Rattle.sta_text.specs.Faults.{least_from}
 use Rattle.liberty_cells.specs.Faults.{units_of_text}
@@ -14,13 +18,14 @@ use Rattle.session_engine.specs.Soundness.{IsFaultless}
 use Rattle.command_words.specs.Asked.{RunWords, Words}
 use Rattle.command_words.specs.Asked.{run as run_asked, generate as generate_asked}
 use Rattle.shell_core.specs.declared.documents.Role.{Role}
-use Rattle.shell_core.specs.declared.documents.Role.TheVariants.{Early, Late, Netlist, Sdc, Spef, Session}
+use Rattle.shell_core.specs.declared.documents.Role.TheVariants.{Early, Late, Netlist, Sdc, Spef, Journal, Session}
 use Rattle.shell_core.specs.declared.documents.How.{How}
 use Rattle.shell_core.specs.declared.documents.How.TheVariants.{Failed, Absent, TooLong}
 use Rattle.shell_core.specs.declared.documents.Documents.{Documents}
-use Rattle.shell_core.specs.Documents.{Docs, sources, name_of, constraint_faults, HasFaults, FirstRefused, FetchFails, ShelfFails, AreDocuments}
+use Rattle.shell_core.specs.Documents.{Docs, sources, name_of, constraint_faults, constraints_said, journal_faults, AreUnits, AreConstraints, HasFaults, FirstRefused, FetchFails, ShelfFails, AreDocuments}
 use Rattle.shell_core.specs.Answers.{has_refusal}
-use Rattle.shell_session.specs.Serving.{DesignEnds, DocumentsEnd, RunEnds, Written, HasText, HasTexts, AreSound, NothingRefuses, IsAnswered}
+use Rattle.shell_session.specs.Serving.{DesignEnds, SavedEnds, BegunEnds, DocumentsEnd, RunEnds, Written, HasText, HasTexts, AreAccepted, AreSound, NothingRefuses, IsAnswered}
+use Rattle.shell_session.proofs.SavedLaws.{accepted_all}
 
 some_is : {X : Type 0} (a b : X) → Some a ≡ Some b → a ≡ b
 some_is a b same = ap (λ o. unwrap_or o a) same
@@ -30,16 +35,30 @@ unfolding least_from
 least_of_none = refl
 
 module _ (map : List (List ℕ × List ℕ)) (run : RunWords) where
+  one_units : (a b : Units) → AreUnits (Some map) run a → AreUnits (Some map) run b → a ≡ b
+  one_units a b left right =
+      let texts : left.0 ≡ right.0 = some_is left.0 right.0 (sym left.1.0 ∙ right.1.0) in
+      left.2 ∙ ap units_of_text texts ∙ sym right.2
+
+  -- and the text of the constraints says one thing
+  one_constraints : (a b : Constraints) → AreConstraints (Some map) run a → AreConstraints (Some map) run b → a ≡ b
+  one_constraints a b left right =
+      let units : left.0 ≡ right.0 = one_units left.0 right.0 left.1 right.1 in
+      let texts : left.2.0 ≡ right.2.0 = some_is left.2.0 right.2.0 (sym left.2.1.0 ∙ right.2.1.0) in
+      left.2.2.1 ∙ ap (λ u. constraints_said u left.2.0) units ∙ ap (λ t. constraints_said right.0 t) texts ∙ sym right.2.2.1
+
   -- a told text has one list of faults
   one_list : (role : Role) (text : List ℕ) (xs ys : List Wrong) → HasFaults (Some map) run role text xs → HasFaults (Some map) run role text ys → xs ≡ ys
   one_list Early text xs ys left right = sym left ∙ right
   one_list Late text xs ys left right = sym left ∙ right
   one_list Netlist text xs ys left right = sym left ∙ right
   one_list Sdc text xs ys left right =
-      let texts : left.1.0 ≡ right.1.0 = some_is left.1.0 right.1.0 (sym left.1.1.0 ∙ right.1.1.0) in
-      let units : left.0 ≡ right.0 = left.1.2 ∙ ap units_of_text texts ∙ sym right.1.2 in
+      let units : left.0 ≡ right.0 = one_units left.0 right.0 left.1 right.1 in
       sym left.2 ∙ ap (λ u. constraint_faults u text) units ∙ right.2
   one_list Spef text xs ys left right = sym left ∙ right
+  one_list Journal text xs ys left right =
+      let same : left.0 ≡ right.0 = one_constraints left.0 right.0 left.1 right.1 in
+      sym left.2 ∙ ap (λ (c : Constraints). journal_faults c.derates text) same ∙ right.2
   one_list (Session number) text xs ys left right = sym left ∙ right
 
   refused_here : (role : Role) (wrong : Wrong) → HasText map run role → (text : List ℕ) (faults : List Wrong) → held map (name_of run role) ≡ Some text
@@ -86,11 +105,23 @@ design_answers : (d : Design) (scripts : List Script) (status : ℕ) (text : Lis
 design_answers d scripts status text sound (inl faulty) = absurd (sound faulty.1.0 faulty.1.1)
 design_answers d scripts status text sound (inr answer) = counted status (list_any (λ t. has_refusal t.rows) answer.1.1) answer.1.4
 
+saved_answers : (d initial : Design) (saved : List Entry) (scripts : List Script) (status : ℕ) (text : List ℕ) → IsFaultless d → IsInitial d saved initial
+    → SavedEnds d saved scripts status text → IsRunAnswered status
+saved_answers d initial saved scripts status text sound is (inl faulty) = absurd (sound faulty.1.0 faulty.1.1)
+saved_answers d initial saved scripts status text sound is (inr (inl refused)) = absurd (accepted_all d saved initial refused.1.0 refused.1.1 is refused.1.2)
+saved_answers d initial saved scripts status text sound is (inr (inr ended)) =
+    let answer = ended.1.2 in counted status (list_any (λ t. has_refusal t.rows) answer.1) answer.4
+
+begun_answers : (d : Design) (saved : Option (List Entry)) (scripts : List Script) (status : ℕ) (text : List ℕ) → IsFaultless d → AreAccepted d saved
+    → BegunEnds d saved scripts status text → IsRunAnswered status
+begun_answers d None scripts status text sound accepted ended = design_answers d scripts status text sound ended
+begun_answers d (Some saved) scripts status text sound accepted ended = saved_answers d accepted.0 saved scripts status text sound accepted.1 ended
+
 documents_answer : (docs : Documents) (status : ℕ) (text : List ℕ) → AreSound docs → DocumentsEnd docs status text → IsRunAnswered status
 documents_answer docs status text sound (inl refused) = absurd (false≢true (ap is_ok (sym refused.1.1 ∙ sound.1)))
 documents_answer docs status text sound (inr ended) =
-    design_answers ended.0 docs.scripts status text
-    (subst IsFaultless (ap (λ (r : Result Design Fault). ok_design r ended.0) (sym sound.1 ∙ ended.1)) sound.2) ended.2
+    let same : sound.0 ≡ ended.0 = ap (λ (r : Result Design Fault). ok_design r ended.0) (sym sound.1 ∙ ended.1) in
+    begun_answers ended.0 docs.saved docs.scripts status text (subst IsFaultless same sound.2) (subst (λ d. AreAccepted d docs.saved) same sound.3) ended.2
 
 module _ (map : List (List ℕ × List ℕ)) (run : RunWords) (f f' : ℕ) (texts : HasTexts map run (sources run))
     (sound : (docs : Documents) → AreDocuments (Some map) run docs → AreSound docs) (quiet : Rose f f' → ⊥) where

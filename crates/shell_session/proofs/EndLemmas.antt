@@ -25,7 +25,7 @@ use Rattle.session_engine.specs.Soundness.{IsUnsound}
 use Rattle.shell_core.specs.Answers.{is_wanting}
 use Rattle.shell_session.specs.Linking.{linked_of}
 use Rattle.shell_session.specs.Generating.{IsSummary}
-use Rattle.shell_session.specs.Serving.{DesignEnds, DocumentsEnd, RunEnds, Ends, Written}
+use Rattle.shell_session.specs.Serving.{DesignEnds, BegunEnds, DocumentsEnd, RunEnds, Ends, Written}
 
 module _ (holds : Docs) (old new : ℕ) (run : RunWords) (text : List ℕ) where
   pub run_refused : (role : Role) (code : Code) (place : ℕ) → Stops holds run old new (sources run) (Refused role code place)
@@ -97,5 +97,5 @@ module _ (docs : Documents) (status : ℕ) (text : List ℕ) where
   documents_refused x refused not is written = inl (is, (x, caused x (λ y. linked_of docs ≡ Err y) refused not, written))
 
   -- and whose documents are
-  pub documents_linked : (d : Design) → linked_of docs ≡ Ok d → DesignEnds d docs.scripts status text → DocumentsEnd docs status text
+  pub documents_linked : (d : Design) → linked_of docs ≡ Ok d → BegunEnds d docs.saved docs.scripts status text → DocumentsEnd docs status text
   documents_linked d linked ended = inr (d, linked, ended)

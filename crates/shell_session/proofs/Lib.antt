@@ -4,5 +4,6 @@ pub mod Completeness
 pub mod EachLaws
 pub mod EndLemmas
 pub mod GeneratingLaws
+pub mod SavedLaws
 pub mod Sent
 pub mod WholeLaws

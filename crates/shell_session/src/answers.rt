@@ -3,13 +3,16 @@
 ghost use Rattle.std.specs.Prelude.{◌≡◌, ◌≤◌, [], false, length, IfOk};
 ghost use Rattle.std.specs.Arc.{arc_value};
 ghost use Rattle.std.specs.List.{All};
-ghost use Rattle.shell_core.specs.Kept.{AreKept};
+ghost use Rattle.shell_core.specs.Kept.{AreReplayable, AreKept};
 ghost use Rattle.shell_core.specs.Scripts.{IsScript};
 ghost use Rattle.shell_core.specs.Answers.{is_wanting};
 ghost use Rattle.shell_core.specs.Documents.{design_line};
-ghost use Rattle.shell_session.specs.Serving.{IsOutputOf, AreEnded, DesignEnds, DocumentsEnd};
+ghost use Rattle.shell_session.specs.Serving.{IsOutputOf, AreEnded, DesignEnds, BegunEnds, DocumentsEnd};
 
-use crate::discards::{discard_entries, discard_fault, discard_scripts, discard_transcripts};
+use crate::continuing::saved_end;
+use crate::discards::{
+    discard_entries, discard_fault, discard_saved, discard_scripts, discard_transcripts,
+};
 use crate::sessions::{Closed, run_sessions};
 use design_link::link;
 use netlist_store::Store;
@@ -21,7 +24,7 @@ use sta_units::Memory;
 use std::alloc::Global;
 use std::sync::{Arc, Wait};
 use std::thread::Threads;
-use timing_defs::{Fault, Items, Script, Transcript};
+use timing_defs::{Entry, Fault, Items, Script, Transcript};
 
 /// The number of the first version.
 pub(crate) const FIRST: u64 = 0;
@@ -83,7 +86,7 @@ fn scripts_end<H: Threads + Wait + Sync, G: Gate>(
 }
 
 /// The end of a run that a fault of its documents or its design stops.
-fn refused_end(alloc: Global, fault: Fault) -> Result<End, Memory>
+pub(crate) fn refused_end(alloc: Global, fault: Fault) -> Result<End, Memory>
     ensures { IfOk result (λ end. (is_wanting fault ≡ false) × (end.status ≡ 3) × (end.text.items ≡ design_line fault)) }
 {
     let end = fault_end(alloc, &fault);
@@ -113,6 +116,30 @@ fn store_end<H: Threads + Wait + Sync, G: Gate>(
     }
 }
 
+/// The end of a run over the store of its design, behind saved entries where it goes on from some.
+fn begun_end<H: Threads + Wait + Sync, G: Gate>(
+    rt: &H,
+    alloc: Global,
+    store: Store,
+    saved: &Option<Items<Entry>>,
+    scripts: &[Script],
+    workers: u32,
+    gate: &G,
+) -> Result<End, Memory>
+    requires some { 1 ≤ workers }
+    requires most { workers ≤ 32 }
+    requires scripts { All IsScript scripts.now }
+    requires count { (1 ≤ length scripts.now) × (length scripts.now ≤ 16) }
+    requires saved { AreReplayable saved.now }
+    ensures ends { IfOk result (λ end. BegunEnds store.design saved.now scripts.now end.status end.text.items) }
+    ensures low { IfOk result (λ end. end.status ≤ 3) }
+{
+    match saved {
+        None => store_end(rt, alloc, store, scripts, workers, gate),
+        Some(saved) => saved_end(rt, alloc, store, saved, scripts, workers, gate),
+    }
+}
+
 /// The end of a run whose documents were read: they are linked, and the scripts are answered over their
 /// design.
 #[tactic(auto, using(crate::proofs::EndLemmas::linkable, crate::proofs::EndLemmas::documents_refused, crate::proofs::EndLemmas::documents_linked))]
@@ -136,15 +163,18 @@ pub(crate) fn end_of<H: Threads + Wait + Sync, G: Gate>(
         netlist,
         sdc,
         spef,
+        saved,
         scripts,
     } = docs;
     match link(alloc, early, late, netlist, sdc, spef) {
         Ok(store) => {
-            let end = store_end(rt, alloc, store, scripts.as_slice(), workers, gate);
+            let end = begun_end(rt, alloc, store, &saved, scripts.as_slice(), workers, gate);
+            discard_saved(saved);
             discard_scripts(scripts);
             end
         }
         Err(fault) => {
+            discard_saved(saved);
             discard_scripts(scripts);
             refused_end(alloc, fault)
         }

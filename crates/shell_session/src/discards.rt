@@ -22,6 +22,8 @@ pub(crate) fn discard_transcripts(_transcripts: Items<Transcript>) {}
 
 pub(crate) fn discard_entries(_entries: Items<Entry>) {}
 
+pub(crate) fn discard_saved(_saved: Option<Items<Entry>>) {}
+
 pub(crate) fn discard_scripts(_scripts: Items<Script>) {}
 
 pub(crate) fn discard_fault(_fault: Fault) {}

@@ -9,7 +9,7 @@ ghost use Rattle.session_engine.specs.Soundness.{IsFaultless};
 ghost use Rattle.shell_session.specs.Generating.{IsLineLeft, IsWholeLine, IsDocumentsLine, IsSummary};
 
 use crate::answers::FIRST;
-use crate::discards::{discard_fault, discard_scripts, discard_transcripts};
+use crate::discards::{discard_fault, discard_saved, discard_scripts, discard_transcripts};
 use crate::sessions::{Closed, run_sessions};
 use design_link::link;
 use generated_runs::{generated_documents, summary_line};
@@ -116,8 +116,10 @@ fn documents_line<H: Threads + Wait + Sync, G: Gate>(
         netlist,
         sdc,
         spef,
+        saved,
         scripts,
     } = docs;
+    discard_saved(saved);
     match link(alloc, early, late, netlist, sdc, spef) {
         Ok(store) => {
             let line = store_line(rt, alloc, store, scripts.as_slice(), gates, edits, gate);

@@ -20,9 +20,10 @@ use std::sync::Wait;
 use std::thread::Threads;
 
 /// How the server ended: 0 where all rows are answers, 1 where some row is refused, no or not yet, 2 where
-/// the words are no command, 3 where a document or the design has a fault, 4 where the shelf did not
-/// give a document, 5 where the sink failed, 6 for want of memory. A generated run ends with 0, 5 or 6, and
-/// with 6 also where its design or an edit of it was refused.
+/// the words are no command, 3 where a document, the saved journal or the design has a fault, or a saved
+/// entry is refused, 4 where the shelf did not give a document, 5 where the sink failed, 6 for want of
+/// memory. A generated run ends with 0, 5 or 6, and with 6 also where its design or an edit of it was
+/// refused.
 pub type Status = u8;
 
 /// How a run ends, by its words.
@@ -138,12 +139,12 @@ fn written<H: Threads + Wait + Sync, S: Shelf, K: Sink, G: Gate>(
 
 /// Runs the server once. The words after the program's name ask for a run of documents and 1 to 16
 /// scripts, which are fetched from the shelf and read, or for a generated run, whose documents and four
-/// scripts are made, and which writes one line of totals. A session for each script answers it over the
-/// design of the documents, all beside each other: each question by the full analysis of the design
-/// after the entries of the journal that its session had seen, each ECO by one entry or its fault. What
-/// the run writes is put into the sink in one piece. Takes the work of its readers, of one full analysis
-/// for the first version, of one analysis for each ECO that is prepared, and of its questions. It waits
-/// for turns of its sessions.
+/// scripts are made, and which writes one line of totals. Where the words name a saved journal, its entries
+/// come before those of the run. A session for each script answers it over the design of the documents, all
+/// beside each other: each question by the full analysis of the design after the entries of the journal that
+/// its session had seen, each ECO by one entry or its fault. What the run writes is put into the sink in one
+/// piece. Takes the work of its readers, of one full analysis for the first version, of one analysis for each
+/// saved entry and each ECO that is prepared, and of its questions. It waits for turns of its sessions.
 pub fn serve<H: Threads + Wait + Sync, S: Shelf, K: Sink, G: Gate>(
     rt: &H,
     alloc: Global,

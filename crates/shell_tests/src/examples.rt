@@ -8,6 +8,7 @@ mod limits;
 mod networks;
 mod paths;
 mod reports;
+mod saved;
 mod timing;
 
 use crate::running::{Texts, run};
