@@ -13,7 +13,7 @@ trap 'rm -rf "$work"' EXIT
 crate=$work/crates/store_bench
 mkdir -p "$crate/src" "$crate/proofs/all_resized" "$crate/proofs/all_buffered"
 for name in sta_units timing_defs cow_table sta_text rc_tree eco_journal liberty_syntax liberty_cells \
-  verilog_netlist sdc_reader netlist_store design_link; do
+  verilog_netlist sdc_reader netlist_store store_pins design_link; do
   cp -r "$top/crates/$name" "$work/crates/"
   grep -E "^$name[: ]" "$top/crates.txt" >> "$work/crates.txt"
 done

@@ -1,9 +1,9 @@
 #!/usr/bin/env python3
-"""Times sessions beside each other against one session that does all of their work: bench/sessions.py PROGRAM [CELLS [PAIRS [WORKERS]]]
+"""Times sessions beside each other against one session that does all of their work: bench/sessions.py PROGRAM [CELLS [PAIRS [WORKERS [TIMES]]]]
 
 PROGRAM is a built program, which takes several scripts. A design of CELLS cells (7,000 where none are given) is made by design.py, with
 wires by spef.py. Two kinds of work are timed, in PAIRS pairs of runs (5) of which each begins with the other form in turn, with WORKERS
-workers (1):
+workers (1); TIMES (1) is how many times of the following each session does:
 
   questions  four sessions, each of 40 report_path and 2 ECOs, against one session of 160 report_path and 8 ECOs
   edits      four sessions, each of 5 ECOs, against one session of 20
@@ -121,14 +121,14 @@ def main():
     if len(sys.argv) < 2 or sys.argv[1].startswith("-"):
         sys.exit(__doc__)
     program = pathlib.Path(sys.argv[1]).resolve()
-    cells, pairs, workers = [int(it) for it in sys.argv[2:5]] + [7000, 5, 1][len(sys.argv[2:5]):]
+    cells, pairs, workers, times = [int(it) for it in sys.argv[2:6]] + [7000, 5, 1, 1][len(sys.argv[2:6]):]
     with tempfile.TemporaryDirectory() as name:
         folder = pathlib.Path(name)
         ends, resizes = make_design(folder, cells)
         (folder / "none.eco").write_text("")
         print(f"{cells} cells, {len(ends)} endpoints, {workers} workers, {pairs} pairs", flush=True)
-        timed(program, folder, workers, pairs, "questions", scripts_of(ends, resizes, QUESTIONS, FEW))
-        timed(program, folder, workers, pairs, "edits", scripts_of(ends, resizes, 0, MANY))
+        timed(program, folder, workers, pairs, "questions", scripts_of(ends, resizes, times * QUESTIONS, times * FEW))
+        timed(program, folder, workers, pairs, "edits", scripts_of(ends, resizes, 0, times * MANY))
 
 
 if __name__ == "__main__":

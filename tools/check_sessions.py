@@ -1,5 +1,5 @@
 #!/usr/bin/env python3
-"""Checks what several sessions wrote by a run of one: check_sessions.py [--program FILE] OUTPUT run EARLY LATE NETLIST SDC SPEF WORKERS SCRIPT ..
+"""Checks what several sessions wrote by a run of one: check_sessions.py [--program FILE] OUTPUT run [--journal NAME] EARLY LATE NETLIST SDC SPEF WORKERS SCRIPT ..
 
 OUTPUT is the output of that run. The order in which sessions publish is free, so two runs of the same words may differ; but each row
 has the number of a design, and the journal says which ECOs made it. This tool writes one script of its own: the ECOs of the journal, and
@@ -14,6 +14,7 @@ import sys
 import tempfile
 
 import design_documents as documents
+import explain_fault
 import read_answers
 
 TOP = pathlib.Path(__file__).resolve().parent.parent
@@ -55,10 +56,15 @@ class Sessions:
 
     def __init__(self, scripts, output, refusals=True):
         self.scripts, self.output, self.faults = scripts, output, []
+        self.newest = output.first + len(output.ecos)
         self.told_elsewhere = {"accepted", "taken", "reached", "not_yet"} | (set() if refusals else {"refused", "no"})
 
     def say(self, session, row, what):
         self.faults.append(f"session {session}, command {row.command}: {what}")
+
+    def eco(self, number):
+        """The ECO that made the design of this number."""
+        return self.output.ecos[number - self.output.first - 1]
 
     def look(self):
         """Looks at what needs no run: the numbers, and who made which entry."""
@@ -74,13 +80,13 @@ class Sessions:
     def look_at_rows(self, session, commands, rows):
         last, made = None, []
         for command, row in zip(commands, rows):
-            if last is not None and row.design < last or row.design > len(self.output.ecos):
-                self.say(session, row, f"the design {row.design} behind {last}, of {len(self.output.ecos)}")
+            if last is not None and row.design < last or not self.output.first <= row.design <= self.newest:
+                self.say(session, row, f"the design {row.design} behind {last}, of {self.newest}")
             self.look_at_row(session, command, row, last)
             if row.sort == "accepted":
                 made.append(row.design)
             last = row.design
-        entries = [number for number, maker in enumerate(self.output.makers, 1) if maker == session]
+        entries = [number for number, maker in enumerate(self.output.makers, self.output.first + 1) if maker == session]
         if made != entries:
             self.faults.append(f"session {session}: its rows accept {made}, and its entries are {entries}")
 
@@ -96,7 +102,7 @@ class Sessions:
         elif not edits:
             fits = row.sort in (name.removeprefix("report_"), "no") and last in (None, row.design)
         elif row.sort == "accepted":
-            fits = 0 < row.design <= len(self.output.ecos) and self.output.ecos[row.design - 1] == edits and row.design != last
+            fits = self.output.first < row.design <= self.newest and self.eco(row.design) == edits and row.design != last
         else:
             fits = row.sort == "refused"
         if not fits:
@@ -115,9 +121,9 @@ class Sessions:
     def compare(self, run):
         """Compares with what one session answers; `run` runs a script."""
         asked, script, places = self.asked(), [], []
-        for number in range(len(self.output.ecos) + 1):
-            if number:
-                script.append(lines_of(self.output.ecos[number - 1]))
+        for number in range(self.output.first, self.newest + 1):
+            if number > self.output.first:
+                script.append(lines_of(self.eco(number)))
                 places.append(None)
             for (design, lines), rows in asked.items():
                 if design == number:
@@ -137,13 +143,15 @@ class Sessions:
         return len(script)
 
 
-def runner(program, words):
-    """Runs a script on the documents of the words of a run."""
+def runner(program, words, journal):
+    """Runs a script on the documents of the words of a run, and on its saved journal."""
+    option = ["--journal", journal] if journal else []
+
     def run(text):
         with tempfile.NamedTemporaryFile("w", suffix=".eco") as script:
             script.write(text)
             script.flush()
-            ran = subprocess.run([program, *words[:7], script.name], stdout=subprocess.PIPE, text=True, check=False)
+            ran = subprocess.run([program, "run", *option, *words[1:7], script.name], stdout=subprocess.PIPE, text=True, check=False)
         if ran.returncode not in (0, 1):
             sys.exit(f"check_sessions: the run of one session ended with status {ran.returncode}: {ran.stdout.strip()[:200]}")
         return read_answers.Output(ran.stdout)
@@ -156,18 +164,19 @@ def main():
     parser.add_argument("output")
     parser.add_argument("words", nargs=argparse.REMAINDER)
     given = parser.parse_args()
-    if len(given.words) < 8 or given.words[0] != "run":
-        parser.error("the words of the run are missing: run EARLY LATE NETLIST SDC SPEF WORKERS SCRIPT ..")
+    words, journal = explain_fault.without_journal(given.words)
+    if len(words) < 8 or words[0] != "run":
+        parser.error("the words of the run are missing: run [--journal NAME] EARLY LATE NETLIST SDC SPEF WORKERS SCRIPT ..")
     try:
         output = read_answers.Output(documents.read_text(given.output))
     except ValueError as why:
         sys.exit(f"check_sessions: {given.output}: {why}")
     if output.final is None:
         sys.exit(f"check_sessions: {given.output} has no last line")
-    sessions = Sessions([read_answers.read_script(documents.read_text(it)) for it in given.words[7:]], output)
+    sessions = Sessions([read_answers.read_script(documents.read_text(it)) for it in words[7:]], output)
     sessions.look()
     if not sessions.faults:
-        sessions.compare(runner(given.program, given.words))
+        sessions.compare(runner(given.program, words, journal))
     for fault in sessions.faults:
         print(f"check_sessions: {fault}")
     if sessions.faults:

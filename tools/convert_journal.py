@@ -1,8 +1,8 @@
 #!/usr/bin/env python3
 """Turns the ECOs of a journal into a script, or into Tcl for layout tools: convert_journal.py OUTPUT [--to script|tcl] [--first N] [--last N]
 
-OUTPUT is the output of a run, or its journal alone. An ECO of several edits becomes a group of the script. --first and --last give the
-numbers of the entries to take (default: all).
+OUTPUT is the output of a run, its journal alone, or a saved journal of several blocks. An ECO of several edits becomes a group of the
+script. --first and --last give the numbers of the entries to take (default: all); entries have the numbers that they have in the journal.
 
 The Tcl has the words of OpenSTA's editing commands: replace_cell, make_instance, delete_instance, make_net, delete_net, connect_pin,
 disconnect_pin, and for buffers insert_buffer NET INSTANCE NEW_NET CELL SINKS, which the head of the file defines by the others; a tool
@@ -36,24 +36,33 @@ proc insert_buffer {net instance new_net cell sinks} {
 """
 
 
+def block_head(lines, at):
+    """The first number and the count of a block, and the line of its first entry."""
+    words = lines[at].split(" ")
+    if words[0] == "journal" and all(it.isdigit() for it in words[1:]):
+        if len(words) == 3 and words[1] == "1":
+            return 0, int(words[2]), at + 1
+        if len(words) == 4 and words[1] == "2" and lines[at + 1].startswith("derates "):
+            return int(words[2]), int(words[3]), at + 2
+    raise ValueError(f"this begins with no journal: {lines[at][:60]}" if at == 0 else f"line {at + 1} begins no block of a journal")
+
+
 def read_journal(text):
-    """The edits of each entry."""
-    lines = text.split("\n")
-    head = lines[0].split(" ")
-    if head[0] != "journal" or len(head) != 3 or not head[2].isdigit():
-        raise ValueError(f"this begins with no journal: {lines[0][:60]}")
-    entries, at = [], 1
-    for _ in range(int(head[2])):
-        words = lines[at].split(" ") if at < len(lines) else [""]
-        if words[0] != "entry":
-            raise ValueError(f"line {at + 1} is no entry of the journal")
-        entries.append(lines[at + 1:at + 1 + int(words[5])])
-        at += 1 + int(words[5])
+    """The edits of each entry by its number, of one block after the other."""
+    lines, at, entries = text.split("\n"), 0, {}
+    while at == 0 or at < len(lines) and lines[at].startswith("journal "):
+        first, count, at = block_head(lines, at)
+        for number in range(first + 1, first + count + 1):
+            words = lines[at].split(" ") if at < len(lines) else [""]
+            if words[0] != "entry":
+                raise ValueError(f"line {at + 1} is no entry of the journal")
+            entries[number] = lines[at + 1:at + 1 + int(words[5])]
+            at += 1 + int(words[5])
     return entries
 
 
-def as_script(entries, first):
-    for number, edits in enumerate(entries, first):
+def as_script(entries):
+    for number, edits in entries:
         yield f"# entry {number} of the journal"
         if len(edits) == 1:
             yield edits[0]
@@ -87,9 +96,9 @@ def tcl_edit(edit):
     return f"# {edit}"
 
 
-def as_tcl(entries, first):
+def as_tcl(entries):
     yield HEAD
-    for number, edits in enumerate(entries, first):
+    for number, edits in entries:
         yield f"# entry {number} of the journal"
         yield from map(tcl_edit, edits)
 
@@ -107,8 +116,8 @@ def main():
         entries = read_journal(documents.read_text(given.output))
     except (ValueError, IndexError) as why:
         sys.exit(f"convert_journal: {given.output}: {why}")
-    chosen = entries[given.first - 1:given.last]
-    for line in (as_tcl if given.to == "tcl" else as_script)(chosen, given.first):
+    chosen = [(number, edits) for number, edits in entries.items() if given.first <= number and (given.last is None or number <= given.last)]
+    for line in (as_tcl if given.to == "tcl" else as_script)(chosen):
         print(line)
 
 

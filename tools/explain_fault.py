@@ -1,5 +1,5 @@
 #!/usr/bin/env python3
-"""Says where a refused document is at fault and why: explain_fault.py STATUS OUTPUT run EARLY LATE NETLIST SDC SPEF WORKERS SCRIPT [SCRIPT ..]
+"""Says where a refused document is at fault and why: explain_fault.py STATUS OUTPUT run [--journal NAME] EARLY LATE NETLIST SDC SPEF WORKERS SCRIPT [SCRIPT ..]
 
 STATUS is the exit status of the run, OUTPUT the file with what it wrote, and the words are those of the run. It prints
 FILE:LINE:COLUMN: CODE: the sentence of docs/FAULTS.md, the line with a caret, and what it finds of the cause. `./lizdrog` does this
@@ -20,7 +20,8 @@ ORDER = "EARLY LATE NETLIST SDC SPEF WORKERS SCRIPT.."
 COMMENTS = re.compile(r"^\s*#[^\n]*|//[^\n]*|/\*.*?\*/", re.S | re.M)
 KINDS = [(r"\s*library\b", "a library (Liberty)", ("early", "late")), (r"\s*module\b", "a netlist (Verilog)", ("netlist",)),
          (r"\s*\*SPEF", "parasitics (SPEF)", ("spef",)), (r"\s*(create_clock|set_units|set_input|set_output|set sdc_version)", "constraints (SDC)", ("sdc",)),
-         (r"\s*(report_|repower_|insert_|begin_eco|take\b|await\b)", "a script", ("script",))]
+         (r"\s*(report_|repower_|insert_|begin_eco|take\b|await\b)", "a script", ("script",)),
+         (r"journal [0-9]", "a journal, or an output", ("journal", "script"))]
 
 
 def rows_of_faults():
@@ -68,9 +69,23 @@ def caret(line, column):
 
 # ------------------------------------------------------------------------------------------------ a document's fault
 
-def explain_document(role, code, place, words):
+ANEW = ["to go on under the derates of today, run its script (tools/convert_journal.py) once, with --journal and an empty file"]
+
+
+def without_journal(words):
+    """The words of a run without its option, and the name of its saved journal, or none."""
+    options = words[:words.index("--")] if "--" in words else words
+    found = next((at for at, word in enumerate(options) if word == "--journal" or word.startswith("--journal=")), None)
+    if found is None:
+        return words, None
+    if words[found] != "--journal":
+        return words[:found] + words[found + 1:], words[found].split("=", 1)[1]
+    return words[:found] + words[found + 2:], words[found + 1] if found + 1 < len(words) else None
+
+
+def explain_document(role, code, place, words, journal=None):
     at = ROLES.get(role) or (6 + int(role[6:]) if role.startswith("script") else None)
-    name = words[at] if at and at < len(words) else role
+    name = words[at] if at and at < len(words) else journal if role == "journal" and journal else role
     if not can_be_read_again(name):
         where = "line" if role.startswith("script") else "byte"
         return [f"{name}: {where} {place}: {code}: {sentence(code)}", f"  ({name} is no file that can be read again, so its line is not shown)"]
@@ -104,6 +119,8 @@ def hints(role, code, place, text, line):
         return [f"  {it}" for it in script_hints(code, line)]
     if role == "sdc":
         return [f"  {it}" for it in sdc_hints(code, text, place)]
+    if role == "journal":
+        return [f"  {it}" for it in journal_hints(code, line, text[place:].split("\n", 2)[1] if "\n" in text[place:] else "")]
     if code == "L6":
         return [f"  {it}" for it in table_hints(text, place)]
     if code == "L1" and place >= len(text):
@@ -114,6 +131,19 @@ def hints(role, code, place, text, line):
         return ["  what is wrong may stand before it: a ; or a ) that is missing"]
     if code in ("P1", "P4"):
         return [f"  {it}" for it in row_hints(text, place)]
+    return []
+
+
+def journal_hints(code, line, behind):
+    """What is seen of the cause where a saved journal is refused at a line with another behind it."""
+    if code == "J5" and line.startswith("journal 1 "):
+        return ["a block of a run without --journal keeps no derates, and counts as written without any", *ANEW]
+    if code == "J5":
+        return [f"the block was written under `{shown(behind)[:WIDTH]}`, in millionths: early and late cells, early and late nets", *ANEW]
+    if code == "J1" and line.startswith(("session ", "final ")):
+        return ["here the rows of an output begin: a saved journal has the lines before them, sed '/^session 1 rows /,$d' OUTPUT"]
+    if code == "J1" and line.startswith("journal "):
+        return ["the number behind the form is that of the entries before the block: a block is missing, stands twice, or is of form 1 behind entries"]
     return []
 
 
@@ -400,10 +430,33 @@ def explain_design(names, words):
     return told + [f"  {it}" for it in [*lines, *usual_causes(code)]]
 
 
+# ------------------------------------------------------------------------------------------------ a saved entry's fault
+
+def line_of_entry(lines, number):
+    """The line of a journal, from 1, on which this entry begins; none where there is none."""
+    return next((at for at, line in enumerate(lines, 1) if line.startswith(f"entry {number} ")), None)
+
+
+def explain_entry(number, names, journal):
+    """The lines on a saved entry that is refused: `names` are the code of its fault and what it names."""
+    said = f"J4: entry {number} is refused, and those before it are accepted: {' '.join(names)}: {sentence(names[0])}"
+    if not journal or not can_be_read_again(journal):
+        return [f"{journal or 'journal'}: {said}"]
+    lines = documents.read_text(journal).split("\n")
+    at = line_of_entry(lines, number)
+    if at is None:
+        return [f"{journal}: {said}"]
+    edits = lines[at:at + int(lines[at - 1].split(" ")[5])]
+    told = [f"  {shown(it)[:WIDTH]}" for it in edits[:3]] + (["  .."] if len(edits) > 3 else [])
+    return [f"{journal}:{at}: {said}", *told, "  examples/saved-journal/README.md tells how to go on"]
+
+
 # ------------------------------------------------------------------------------------------------ the run
 
-def explain_shelf(name, how):
+def explain_shelf(name, how, journal=None):
     """Why a document could not be fetched."""
+    if name == journal and not os.path.exists(name):
+        return [f"{name}: No such file or directory", f"  an empty file begins a new journal (: >{name})"]
     if how == "too_long":
         return [f"{name}: the file is longer than 64 MiB, which is the most that is read"]
     if os.path.isdir(name):
@@ -419,13 +472,18 @@ def explain_shelf(name, how):
 def explain(status, output, words):
     """The lines that explain how a run ended; none where there is nothing to explain."""
     line = output.split("\n")[0].split(" ")
+    words, journal = without_journal(words)
+    if "--" in words:
+        words = [*words[:words.index("--")], *words[words.index("--") + 1:]]
     try:
         if status == 3 and line[:2] == ["fault", "design"]:
             return explain_design(line[2:], words)
+        if status == 3 and line[:3] == ["fault", "journal", "J4"]:
+            return explain_entry(int(line[3]), line[4:], journal)
         if status == 3 and len(line) == 4:
-            return explain_document(line[1], line[2], int(line[3]), words)
+            return explain_document(line[1], line[2], int(line[3]), words, journal)
         if status == 4:
-            return explain_shelf(" ".join(line[2:-1]), line[-1])
+            return explain_shelf(" ".join(line[2:-1]), line[-1], journal)
     except Exception as why:  # what is explained is faulty, so whatever goes wrong here must not hide the program's own answer
         return [f"lizdrog: the cause could not be looked up ({type(why).__name__}: {why}); docs/FAULTS.md has the code"]
     if status == 5:

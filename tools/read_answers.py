@@ -5,6 +5,7 @@ It prints a line for each row with its question, as `report_endpoint r2:D setup 
 
   --netlist NETLIST --library LIBRARY   beside each pin of a path its cell, the net that it drives and its number of sinks, as they are in
                                         the design of the row (ECOs of the journal included)
+  --journal SAVED                       for these: the saved journal that the run went on from
   --json, --csv                         the rows for programs, in place of the lines
   --failing                             the endpoints of negative slack, counted and listed, worst first
   --histogram                           how many endpoints have which slack, as text
@@ -19,6 +20,7 @@ import csv
 import json
 import sys
 
+import convert_journal
 import design_documents as documents
 import explain_fault
 
@@ -66,13 +68,16 @@ class Row:
 
 
 class Output:
-    """The output of a run: the ECOs of its journal with the sessions that made them, the rows of its sessions, and its last line."""
+    """The output of a run: how many saved entries stand before, the ECOs of its journal with the sessions that made them, the rows of its
+    sessions, and its last line."""
 
     def __init__(self, text):
-        self.ecos, self.makers, self.sessions, self.final, self.rows = [], [], [], None, []
+        self.first, self.ecos, self.makers, self.sessions, self.final, self.rows = 0, [], [], [], None, []
         lines, at = text.split("\n"), 0
         if not lines[0].startswith("journal"):
             raise ValueError(f"this is no output of a run: {lines[0][:60]}")
+        if lines[0].startswith("journal 2 "):
+            self.first = int(lines[0].split(" ")[2])
         while at < len(lines):
             words = lines[at].split(" ")
             at += 1
@@ -257,7 +262,7 @@ def as_data(commands, output, edited):
              "design": row.design, "answer": row.sort, **row_value(row, edited)} for row in output.rows]
     number, _, setup, setup_total, _, hold, hold_total = output.final
     final = {"design": int(number), "setup": {"wns": setup, "tns": setup_total}, "hold": {"wns": hold, "tns": hold_total}}
-    return {"journal": output.ecos, "rows": rows, "final": final}
+    return {"first": output.first, "journal": output.ecos, "rows": rows, "final": final}
 
 
 def print_csv(commands, output):
@@ -360,7 +365,7 @@ def main():
     parser = argparse.ArgumentParser(description=__doc__, formatter_class=argparse.RawDescriptionHelpFormatter)
     parser.add_argument("script")
     parser.add_argument("output")
-    for name in ("--netlist", "--library", "--svg"):
+    for name in ("--netlist", "--library", "--journal", "--svg"):
         parser.add_argument(name)
     for name in ("--json", "--csv", "--failing", "--histogram"):
         parser.add_argument(name, action="store_true")
@@ -379,7 +384,11 @@ def main():
     edited = None
     if given.netlist and given.library:
         library = documents.Library(documents.read_text(given.library))
-        edited = Edited(documents.Netlist(documents.read_text(given.netlist)), library, output.ecos)
+        saved = convert_journal.read_journal(documents.read_text(given.journal)) if given.journal else {}
+        if any(number not in saved for number in range(1, output.first + 1)):
+            sys.exit(f"read_answers: {given.output} goes on from {output.first} saved entries: --journal names the journal that has them")
+        ecos = [saved[number] for number in range(1, output.first + 1)] + output.ecos
+        edited = Edited(documents.Netlist(documents.read_text(given.netlist)), library, ecos)
     number, slacks = slacks_of(commands, output, given.design)
     if given.json:
         json.dump(as_data(commands, output, edited), sys.stdout, indent=1)

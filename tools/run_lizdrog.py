@@ -1,18 +1,18 @@
 #!/usr/bin/env python3
 """Lizdrog, a static timing server.
 
-  lizdrog [--proved] run EARLY LATE NETLIST SDC SPEF WORKERS SCRIPT [SCRIPT ..]
+  lizdrog [--proved] run [--journal NAME] EARLY LATE NETLIST SDC SPEF WORKERS SCRIPT [SCRIPT ..]
       EARLY, LATE  two libraries (Liberty), or one of them twice   NETLIST  a module of gates (Verilog)
       SDC          constraints                                     SPEF     parasitics, or the word none
       WORKERS      1 to 32 threads                                 SCRIPT   questions and edits, one a line; 1 to 16, each a session
+      NAME         the journals of earlier runs, one behind the other: the run goes on behind their edits
   lizdrog generate NUMBER GATES EDITS
       a design of GATES gates and four sessions with EDITS resizes in all, drawn from NUMBER; both are multiples of 4
   lizdrog --build    build the program without proof now, in minutes (`rt ci` proves it and builds it, in hours)
   lizdrog --version  the commit, the toolchain, and whether the program that would run is proved
-  --proved           refuse to run a program that is not proved
-  --program FILE     run this program, of which nothing is known here
-Status: 0 all rows are answers, 1 some row is refused, no or not yet, 2 wrong words, 3 a document or the design has a fault,
-4 a document cannot be fetched, 5 the output cannot be written, 6 no memory. What the codes mean: docs/FAULTS.md.
+  --proved           refuse to run a program that is not proved    --program FILE   run this one, of which nothing is known here
+Status: 0 all rows are answers, 1 some row is refused, no or not yet, 2 wrong words, 3 a document or the design has a fault or a saved
+edit is refused, 4 a document cannot be fetched, 5 the output cannot be written, 6 no memory. What the codes mean: docs/FAULTS.md.
 70 is of this script, not of the program: there is no program to run, and it says why.
 """
 import fcntl
@@ -225,18 +225,21 @@ def misfit(words):
     if not words or words[0] not in LEAST_WORDS:
         return f"there is no command {words[0]}" if words else "a command is missing"
     least = LEAST_WORDS[words[0]]
+    words, journal = explain_fault.without_journal(words) if words[0] == "run" else (words, None)
+    behind = f" behind --journal {journal}" if journal else ""
     if len(words) <= least:
-        return f"{words[0]} takes {least} words, and here are {len(words) - 1}"
+        return f"{words[0]} takes {least} words{behind}, and here are {len(words) - 1}"
     is_plain = words[0] == "run" and not any(it.startswith("-") for it in words)
     if is_plain and not (re.fullmatch(r"[0-9]{1,20}", words[6]) and 1 <= int(words[6]) <= 32):
-        return f"WORKERS, the sixth word, is a number from 1 to 32, and here it is {words[6]}"
+        return f"WORKERS, the sixth word{behind}, is a number from 1 to 32, and here it is {words[6]}"
     return None
 
 
 def doubts(words):
     """What is seen of words that the program took for no command."""
-    if any(it.startswith("-") for it in words):
-        return "a word that begins with - stands behind the word --, and no option is known; standard input is /dev/stdin"
+    if any(it.startswith("-") for it in explain_fault.without_journal(words)[0]):
+        return "a word that begins with - stands behind the word --, and the one option is --journal NAME behind run; standard input is /dev/stdin"
+    words, _ = explain_fault.without_journal(words)
     return f"run takes {MOST_SCRIPTS} scripts at most" if words[0] == "run" and len(words) > LEAST_WORDS["run"] + MOST_SCRIPTS else "these words are no command"
 
 
@@ -255,8 +258,6 @@ def serve(given, words):
     status, first = run(program, words)
     if status == 2:
         usage(doubts(words))
-    if "--" in words:
-        words = [*words[:words.index("--")], *words[words.index("--") + 1:]]
     for line in explain_fault.explain(status, first.decode("latin-1"), words):
         print(line, file=sys.stderr)
     return status

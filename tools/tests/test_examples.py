@@ -34,6 +34,11 @@ class Pages(unittest.TestCase):
         self.assertEqual(ran.stderr, "")
         return ran.stdout
 
+    def test_a_generated_run_twice_gives_one_line(self):
+        lines = [common.run(common.PROGRAM, "generate", "7", "4000", "400") for _ in range(2)]
+        self.assertEqual(lines[0][0], 0)
+        self.assertEqual(lines[0], lines[1])
+
     def test_first_page(self):
         given = blocks(common.TOP / "README.md")
         run = next(it for it in given if it.startswith("cd examples/two-inverters"))
@@ -48,6 +53,14 @@ class Pages(unittest.TestCase):
         out = self.run_blocks(commands, "")
         for block in given:
             if block not in commands and not block.startswith("journal"):
+                self.assertIn(block + "\n", out)
+
+    def test_saved_journal(self):
+        given = blocks(EXAMPLES / "saved-journal" / "README.md")
+        commands = [it for it in given if not it.startswith(("journal ", "fault ", "final "))]
+        out = self.run_blocks(commands, "")
+        for block in given:
+            if block not in commands:
                 self.assertIn(block + "\n", out)
 
     @unittest.skipUnless(LIBRARY.exists(), "no library for examples/pulse-width: apt-get install qflow-tech-osu018")

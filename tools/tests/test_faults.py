@@ -121,6 +121,27 @@ class Damages(unittest.TestCase):
             self.assertEqual((status, out), (4, f"fault shelf {name} failed\n"))
             self.assertIn(said, err)
 
+    def test_saved_journals(self):
+        words = common.write_documents(self.folder, spef="", script="take\n")
+        block = "journal 2 {} 1\nderates {} 1000000 1000000 1000000\nentry {} session 1 edits 1\nrepower_gate g1 {}\n"
+        good, next_one = block.format(0, 1000000, 1, "BUF"), block.format(1, 1000000, 2, "NOCELL")
+        for text, line, *said in [
+                (good + next_one, "fault journal J4 2 E3 NOCELL\n", "saved:7: J4: entry 2 is refused", "  repower_gate g1 NOCELL\n"),
+                (good + good, f"fault journal J1 {len(good)}\n", "saved:5:1: J1:", "stands twice"),
+                (good + "session 1 rows 0\n", f"fault journal J1 {len(good)}\n", "the rows of an output begin"),
+                (block.format(0, 900000, 1, "BUF"), "fault journal J5 0\n", "saved:1:1: J5: a block that was written under other derates",
+                 "under `derates 900000 1000000 1000000 1000000`"),
+                ("journal 3 0\n", "fault journal J3 8\n", "saved:1:9: J3:"),
+                ("take\n", "fault journal J1 0\n", "looks like a script, and stands in the place of journal"),
+                ("", ""), (good, ""), ("journal 1 1\n" + good.split("\n", 2)[2], "")]:
+            with self.subTest(line):
+                (self.folder / "saved").write_text(text)
+                status, out, err = self.lizdrog(["run", "--journal", "saved", *words[1:5], "none", *words[6:]])
+                self.assertEqual(status, 3 if line else 0, out)
+                self.assertTrue(out.startswith(line or f"journal 2 {text.count('entry')} 0\n"), out)
+                for it in said:
+                    self.assertIn(it, err)
+
     def test_pipes(self):
         common.write_documents(self.folder, sdc="foo\n")
         line = f"{common.TOP / 'lizdrog'} --program {common.PROGRAM} run early.lib late.lib top.v <(cat top.sdc) none 1 s.eco"

@@ -49,6 +49,12 @@ final 2 setup 7.000 0.000 hold none 0.000
 """
 
 
+def behind(text, first):
+    """The same output of a run that goes on from so many saved entries."""
+    text = re.sub(r"(?m)^(\d+|entry|final) (\d+)", lambda it: f"{it[1]} {int(it[2]) + first}", text)
+    return text.replace("journal 1 ", f"journal 2 {first} ").replace("\n", "\nderates 1000000 1000000 1000000 1000000\n", 1)
+
+
 def faults_of(output=OUTPUT, alone=ALONE, scripts=(ONE, TWO)):
     """What is wrong with an output, and the script that was run alone."""
     asked = []
@@ -70,6 +76,15 @@ class Checker(unittest.TestCase):
         self.assertEqual(faults, [])
         self.assertEqual(asked, "report_wns setup\nrepower_gate g1 BUFX\nbegin_eco\nremove_gate b1\nremove_gate b2\ncommit_eco\n"
                                 "repower_gate g1 BUF\nreport_wns setup\nreport_path q setup\n")
+
+    def test_saved_entries_before(self):
+        scripts = (ONE, TWO.replace("await 2", "await 7"))
+        faults, asked = faults_of(behind(OUTPUT, 5), behind(ALONE, 5), scripts)
+        self.assertEqual((faults, asked), ([], faults_of()[1]))
+        output = read_answers.Output(behind(OUTPUT, 5))
+        self.assertEqual((output.first, len(output.ecos), output.sessions[0][1].design), (5, 2, 7))
+        faults, _ = faults_of(behind(OUTPUT, 5).replace("1 5 wns", "1 4 wns"), behind(ALONE, 5), scripts)
+        self.assertIn("the design 4 behind None, of 7", faults[0])
 
     def test_what_does_not(self):
         for old, new, said in (("3 2 wns 7.000", "3 2 wns 7.001", "session 1, command 3: wns 7.001, and one session says wns 7.000 at design 2"),

@@ -92,6 +92,17 @@ class Answers(unittest.TestCase):
         self.assertIn("\n# entry 2 of the journal\ninsert_buffer n2 b1 n3 BUF {r2/D}\n# set_parasitics n3 c #1 1000\n", tcl)
         self.assertNotIn("replace_cell", tcl.split("# entry")[1])
 
+    def test_saved_journal_to_script(self):
+        block = "journal 2 2 1\nderates 1000000 1000000 1000000 1000000\nentry 3 session 2 edits 1\nrepower_gate g1 BUFX\n"
+        (self.folder / "saved").write_text(OUTPUT.split("session 1 rows")[0] + block)
+        script = common.tool("convert_journal", "saved", "--first", "2", cwd=self.folder)[1]
+        self.assertEqual([len(it.lines) for it in read_answers.read_script(script)], [4, 1])
+        self.assertTrue(script.endswith("# entry 3 of the journal\nrepower_gate g1 BUFX\n"))
+        status, _, err = common.tool("convert_journal", "saved", cwd=self.folder)
+        self.assertEqual((status, err), (0, ""))
+        (self.folder / "saved").write_text("journal 3 0\n")
+        self.assertIn("this begins with no journal", common.tool("convert_journal", "saved", cwd=self.folder)[2])
+
     def test_edited_design(self):
         edited = read_answers.Edited(documents.Netlist(NETLIST), documents.Library(LIBRARY), read_answers.Output(OUTPUT).ecos)
         self.assertEqual(edited.at(1).nets["n2"].sinks, ["r2:D"])

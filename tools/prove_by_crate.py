@@ -1,0 +1,78 @@
+#!/usr/bin/env python3
+"""Proves crates by name, each by a run of its own as soon as those below it are proved: prove_by_crate.py [--lanes N] NAME [NAME ..]
+
+One run of `rt ci` reckons with more memory for a crate than its proof takes, so on a machine of 24 GB it proves the upper crates one after
+the other, also where they do not wait for each other. This tool starts `rt ci NAME` for each crate by itself, at most N beside each other
+(default: as many as there are processors), in copies of the repository without the edits that must be refused. What is proved is kept by rt
+for later runs, the gate's among them. It prints a line as each begins and ends; the status is 0 where all were proved. Crates that are
+below these and not named have to be kept already, else each run proves them again.
+"""
+import argparse
+import os
+import pathlib
+import shutil
+import subprocess
+import sys
+import tempfile
+import time
+
+TOP = pathlib.Path(__file__).resolve().parent.parent
+
+
+def crates():
+    """What each crate uses, as crates.txt has it."""
+    uses = {}
+    for line in (TOP / "crates.txt").read_text().splitlines():
+        line = line.split("#")[0].strip()
+        if line:
+            name, below = line.split(":")
+            uses[name.strip()] = below.split()
+    return uses
+
+
+def begin(name, folder):
+    """Starts the run of a crate in a copy of its own."""
+    copy = folder / name
+    shutil.copytree(TOP, copy, ignore=shutil.ignore_patterns(".git", "out", "must-fail"))
+    with open(folder / f"{name}.log", "w", encoding="utf-8") as log:
+        return subprocess.Popen(["rt", "ci", name], cwd=copy, stdout=log, stderr=subprocess.STDOUT)
+
+
+def prove(names, lanes, folder):
+    """Runs all crates in their order; gives those that were not proved, with those that wait for them."""
+    uses, left, running, failed = crates(), list(names), {}, []
+    while left or running:
+        for name in [it for it, run in running.items() if run.poll() is not None]:
+            status = running.pop(name).returncode
+            print(time.strftime("%H:%M:%S"), name, "proved" if status == 0 else f"not proved, see {folder}/{name}.log", flush=True)
+            failed += [name] if status else []
+        for name in list(left):
+            below = set(uses[name])
+            if below & set(failed):
+                left.remove(name)
+                failed.append(name)
+            elif not below & ({*left, *running} - {name}) and len(running) < lanes:
+                left.remove(name)
+                running[name] = begin(name, folder)
+                print(time.strftime("%H:%M:%S"), name, "begins", flush=True)
+        time.sleep(1)
+    return failed
+
+
+def main():
+    words = argparse.ArgumentParser(description=__doc__, formatter_class=argparse.RawDescriptionHelpFormatter)
+    words.add_argument("names", nargs="+", metavar="NAME")
+    words.add_argument("--lanes", type=int, default=len(os.sched_getaffinity(0)))
+    words = words.parse_args()
+    unknown = sorted(set(words.names) - set(crates()))
+    if unknown:
+        sys.exit(f"prove_by_crate.py: no crate {' '.join(unknown)} in crates.txt")
+    folder = pathlib.Path(tempfile.mkdtemp(prefix="prove-by-crate-"))
+    failed = prove(words.names, words.lanes, folder)
+    if failed:
+        sys.exit(f"prove_by_crate.py: not proved: {' '.join(failed)}")
+    shutil.rmtree(folder)
+
+
+if __name__ == "__main__":
+    main()
