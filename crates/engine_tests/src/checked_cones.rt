@@ -2,7 +2,7 @@
 
 ghost use Rattle.std.specs.Prelude.{◌≡◌, ℕ, ◌+◌, ◌^◌, ◌<◌, ◌≤◌, ◌==◌, All, IsTrue, length, drop, slice_index};
 ghost use Rattle.std.specs.List.{list_any};
-ghost use Rattle.worst_walks.specs.Walks.{count_of, listed_into, AreApart, IsArcInto, IsLaunch, IsEnd, IsCone, IsOrdered};
+ghost use Rattle.worst_walks.specs.Walks.{most_nodes, count_of, listed_into, AreApart, IsArcInto, IsLaunch, IsEnd, IsCone, IsOrdered};
 
 use worst_walks::{Cone, Launch, WalkArc, WalkEnd};
 
@@ -145,11 +145,11 @@ fn are_ends(cone: &Cone) -> bool
 }
 
 fn has_shape(cone: &Cone) -> bool
-    ensures few { IsTrue result → count_of cone.now < 2 ^ 22 }
+    ensures few { IsTrue result → count_of cone.now < most_nodes }
     ensures starts { IsTrue result → length cone.now.starts ≡ count_of cone.now + 1 }
     ensures many { IsTrue result → length cone.now.ends < 2 ^ 32 }
 {
-    cone.count < 1 << 22
+    cone.count < 8_000_000
         && cone.starts.len() == cone.count as usize + 1
         && cone.ends.len() < 1 << 32
 }

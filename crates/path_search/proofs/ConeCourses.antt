@@ -279,12 +279,12 @@ module _ (d : Design) (split : Split) (cone : Cone) (Near Known : ℕ → Type 0
       ∙ sym (append_assoc (map name (before n)) (name n ∷ []) (map name ms))
       ∙ ap (λ (xs : List Named). xs ++ map name ms) (is.names n p edge time l)
 
-  whole_known : (n : ℕ) (ms : List ℕ) → IsPlace cone Near n → Each (IsPlace cone Near) ms → Each Known (whole_list before (n ∷ ms))
+  pub whole_known : (n : ℕ) (ms : List ℕ) → IsPlace cone Near n → Each (IsPlace cone Near) ms → Each Known (whole_list before (n ∷ ms))
   whole_known n ms p each =
       each_append Known (before n) (n ∷ ms) (is.known n p) (is.places n p, each_more (IsPlace cone Near) Known is.places ms each)
 
   -- walks are in the order of their paths
-  walks_agree : (n m : ℕ) (ns ms : List ℕ) → IsPlace cone Near n → IsPlace cone Near m → Each (IsPlace cone Near) ns → Each (IsPlace cone Near) ms
+  pub walks_agree : (n m : ℕ) (ns ms : List ℕ) → IsPlace cone Near n → IsPlace cone Near m → Each (IsPlace cone Near) ns → Each (IsPlace cone Near) ms
       → (edge : ℕ × Tran) (time : ℤ) → IsLaunched d split edge (name n) time → (other : ℕ × Tran) (late : ℤ) → IsLaunched d split other (name m) late
       → slice_cmp nat_cmp (map rank (whole_list before (n ∷ ns))) (map rank (whole_list before (m ∷ ms)))
       ≡ nodes_cmp (begin_names d (name n) ++ map name ns) (begin_names d (name m) ++ map name ms)

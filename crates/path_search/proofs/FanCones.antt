@@ -82,7 +82,7 @@ nothing_enters : (d : Design) (split : Split) (to : Node) → arcs_in d to ≡ [
 nothing_enters d split to e None = refl
 nothing_enters d split to e (Some a) = ap (λ (xs : List Node). if list_any (same_node a) xs then delay d split a to else None) e
 
-in_list : {X : Type 0} (xs : List X) (i : ℕ) (x : X) → slice_get xs i ≡ Some x → Contains xs x
+pub in_list : {X : Type 0} (xs : List X) (i : ℕ) (x : X) → slice_get xs i ≡ Some x → Contains xs x
 in_list xs i x e = (i, slice_get_within xs i x e, get_or_from_slice_get xs i x x e)
 
 at_list : {X : Type 0} (xs : List X) (x : X) → Contains xs x → (i : ℕ) × (slice_get xs i ≡ Some x)
@@ -313,7 +313,7 @@ module _ (g : Graphed) (num : IsNumbered g.stored) (linked : IsLinked g.stored.d
 
     pub cone_told : IsCone (cone_of f rise fall)
     cone_told = record {
-      few = h.few;
+      few = (let few = h.few in omega (arith, few));
       starts = h.starts;
       rising = h.rising;
       stored = h.stored;
@@ -323,7 +323,7 @@ module _ (g : Graphed) (num : IsNumbered g.stored) (linked : IsLinked g.stored.d
       ends = All-cons (IsEnd (cone_of f rise fall)) rise (fall ∷ []) (fine_end m.rise_node rise m.rises) (All-cons (IsEnd (cone_of f rise fall)) fall [] (fine_end m.fall_node fall m.falls) (All-nil (IsEnd (cone_of f rise fall))));
     }
 
-    naming : IsNaming g.stored.design (data_split kind) (cone_of f rise fall) Near_in Near_in name_in (place_rank g.stored f.nodes) (places_before g f.nodes)
+    pub naming : IsNaming g.stored.design (data_split kind) (cone_of f rise fall) Near_in Near_in name_in (place_rank g.stored f.nodes) (places_before g f.nodes)
     naming = record {
       places = λ n p. p.1;
       compared = λ a b x y. named_agree g.stored num linked (node_of f.nodes a) (node_of f.nodes b) x y;
@@ -350,7 +350,7 @@ module _ (g : Graphed) (num : IsNumbered g.stored) (linked : IsLinked g.stored.d
     pub ordered : IsOrdered (cone_of f rise fall) (length f.nodes + node_bound g.stored) (place_rank g.stored f.nodes)
     ordered = record {
       known = omega arith;
-      ranked = λ a b low high e. h.once a b low high
+      ranked = λ n a b low high to by e. h.once a b low high
           (sym (node_of_place f.nodes a low) ∙ rank_once g.stored (node_of f.nodes a) (node_of f.nodes b) (node_low a low) (node_low b high) e ∙ node_of_place f.nodes b high);
     }
 

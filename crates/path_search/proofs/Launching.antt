@@ -131,7 +131,7 @@ module _ (d : Design) (t : IsTimed d) (split : Split) (edge : ℕ × Tran) (laun
 tail_same : {X : Type 0} (x y : X) (xs ys : List X) → x ∷ xs ≡ y ∷ ys → xs ≡ ys
 tail_same x y xs ys e = cc
 
-append_same : {X : Type 0} (xs ys zs : List X) → xs ++ ys ≡ xs ++ zs → ys ≡ zs
+pub append_same : {X : Type 0} (xs ys zs : List X) → xs ++ ys ≡ xs ++ zs → ys ≡ zs
 append_same [] ys zs e = e
 append_same (x ∷ xs) ys zs e = append_same xs ys zs (tail_same x x (xs ++ ys) (xs ++ zs) e)
 

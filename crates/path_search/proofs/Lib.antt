@@ -47,3 +47,5 @@ pub mod NodeLaunches
 pub mod NodeSearches
 pub mod NodeForms
 pub mod LowLists
+pub mod WalkPaths
+pub mod WalkPlaces

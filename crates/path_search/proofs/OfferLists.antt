@@ -1,7 +1,7 @@
 -- The offers of a list of nodes, node by node.
 
-use Rattle.std.proofs.Common.{◌≡◌, ℕ, ◌+◌, ◌<◌, ◌≤◌, ℤ, List, [], ◌∷◌, ◌++◌, length, Option, None, Some, refl, sym, ap, subst, ◌∙◌, inl, inr, arith}
-use Rattle.std.specs.Prelude.{Contains, slice_index}
+use Rattle.std.proofs.Common.{◌≡◌, ◌⊎◌, ℕ, zero, suc, ◌+◌, ◌<◌, ◌≤◌, ℤ, List, [], ◌∷◌, ◌++◌, length, Option, None, Some, refl, sym, ap, subst, ◌∙◌, inl, inr, arith}
+use Rattle.std.specs.Prelude.{Contains, slice_get, slice_index}
 use Rattle.std.proofs.lemmas.Bool.{cases_eq}
 use Rattle.std.proofs.lemmas.List.Elements.{Contains-append_left, Contains-append_right, Contains-append_cases}
 use Rattle.timing_defs.specs.declared.kinds.Tran.{Tran}
@@ -11,7 +11,7 @@ use Rattle.timing_defs.specs.Tests.{data_split}
 use Rattle.timing_defs.specs.Paths.{named}
 use Rattle.netlist_store.specs.Numbering.{Stored}
 use Rattle.pin_graph.specs.Nodes.{node_at}
-use Rattle.timing_defs.proofs.Members.{none_in, in_cases}
+use Rattle.timing_defs.proofs.Members.{none_in, in_cases, some_is}
 use Rattle.worst_walks.specs.declared.cones.Launch.{Launch}
 use Rattle.path_search.specs.Launches.{IsLaunched, launch_slacks}
 use Rattle.path_search.specs.Offers.{IsOfferAt, AreOffers}
@@ -25,13 +25,33 @@ pub record AreOffersUpTo (s : Stored) (kind : Kind) (nodes : List ℕ) (end : �
       → (edge : ℕ × Tran) (time : ℤ) → IsLaunched s.design (data_split kind) edge (named node) time
       → (launch_slacks s.design kind (named node) edge time (named endnode) ≡ [] → ⊥)
       → (offer : ℤ) × Contains launches (record { node = place; offer = offer })
+  pub low : (i : ℕ) (launch : Launch) → slice_get launches i ≡ Some launch → launch.node < done
+  pub once : (i j : ℕ) (a b : Launch) → slice_get launches i ≡ Some a → slice_get launches j ≡ Some b → a.node ≡ b.node → i ≡ j
 
 pub offers_start : (s : Stored) (kind : Kind) (nodes : List ℕ) (end : ℕ) → AreOffersUpTo s kind nodes end [] 0
 offers_start s kind nodes end = record {
   few = omega arith;
   sound = λ node e launch c. absurd (none_in launch c);
   all = λ endnode e place node low at edge time l some. absurd (omega (arith, low));
+  low = λ i launch at. absurd (cc);
+  once = λ i j a b at. absurd (cc);
 }
+
+-- an item of a list with what is offered after it
+record IsPut (launches : List Launch) (place : ℕ) (o : Option ℤ) (i : ℕ) (launch : Launch) : Type 0 where
+  last : i ≡ length launches
+  its : launch.node ≡ place
+
+put_at : (launches : List Launch) (place : ℕ) (o : Option ℤ) (i : ℕ) (launch : Launch) → slice_get (launches ++ put_offer place o) i ≡ Some launch
+    → (slice_get launches i ≡ Some launch) ⊎ IsPut launches place o i launch
+put_at [] place None i launch e = inl e
+put_at [] place (Some x) zero launch e = inr (record { last = refl; its = sym (ap (λ (l : Launch). l.node) (some_is e)) })
+put_at [] place (Some x) (suc i) launch e = absurd (cc)
+put_at (l ∷ ls) place o zero launch e = inl e
+put_at (l ∷ ls) place o (suc i) launch e = elim (put_at ls place o i launch e) [
+  | inl d ↦ inl d
+  | inr d ↦ inr (record { last = ap suc d.last; its = d.its })
+]
 
 one_length : (xs : List Launch) (place : ℕ) (o : Option ℤ) → length (xs ++ put_offer place o) ≤ length xs + 1
 one_length [] place None = omega arith
@@ -75,6 +95,20 @@ module _ (s : Stored) (kind : Kind) (nodes : List ℕ) (end : ℕ) (launches mor
           let r = had.all endnode e at node (omega (arith, below, other)) its edge time l some in
           (r.0, Contains-append_left launches (put_offer place offer) (record { node = at; offer = r.0 }) r.1)
     ];
+    low = λ i launch at. elim (put_at launches place offer i launch at) [
+      | inl d ↦ let below = had.low i launch d in omega arith
+      | inr d ↦ let is = d.its in omega arith
+    ];
+    once = λ i j a b at there same. elim (put_at launches place offer i a at) [
+      | inl d ↦ elim (put_at launches place offer j b there) [
+        | inl e ↦ had.once i j a b d e same
+        | inr e ↦ let below = had.low i a d in let is = e.its in absurd (omega arith)
+      ]
+      | inr d ↦ elim (put_at launches place offer j b there) [
+        | inl e ↦ let below = had.low j b e in let is = d.its in absurd (omega arith)
+        | inr e ↦ d.last ∙ sym e.last
+      ]
+    ];
   })
 
 pub offers_done : (s : Stored) (kind : Kind) (nodes : List ℕ) (end : ℕ) (launches : List Launch) (done : ℕ) → AreOffersUpTo s kind nodes end launches done → done ≡ length nodes
@@ -83,4 +117,5 @@ offers_done s kind nodes end launches done had all node e = record {
   few = (let a = had.few in omega (arith, a, all));
   sound = had.sound node e;
   all = λ place n low. had.all node e place n (omega (arith, low, all));
+  once = had.once;
 }

@@ -21,9 +21,13 @@ use Rattle.path_search.specs.Counts.{counted_edge, IsCounted}
 use Rattle.path_search.specs.Ranks.{climb, place_rank, places_before}
 use Rattle.path_search.specs.WalkTimes.{times_after}
 use Rattle.path_search.specs.PinCones.{capture_edge, capture_part, launch_part, name_part, name_told, place_name, time_part, time_numbered, AreEndsFine, AreEndsOf, AreNodesOf, IsPinCone, IsSearchFine, IsWalkFine, IsWalkPath}
+use Rattle.path_search.specs.WalkPaths.{AreWalkPaths}
+use Rattle.path_search.specs.WalkPlaces.{AreWalkPlaces}
 use Rattle.path_search.proofs.Setting.{timed}
 use Rattle.path_search.proofs.PinSearches.{cone_is, search_fine}
 use Rattle.path_search.proofs.PinPaths.{ends_fine, none_told, path_told, shown_told, walk_fine}
+use Rattle.path_search.proofs.WalkPaths.{walk_paths}
+use Rattle.path_search.proofs.WalkPlaces.{walk_places}
 
 module _ (g : Graphed) (s : Stored) (same : g.stored ≡ s) (num : IsNumbered s) (linked : IsLinked s.design) (is : IsGraph g) (kind : Kind) (pin : List ℕ) (c : PinCone) (h : IsPinCone g kind pin c) where
   num_in : IsNumbered g.stored
@@ -34,6 +38,16 @@ module _ (g : Graphed) (s : Stored) (same : g.stored ≡ s) (num : IsNumbered s)
 
   pub search_as : IsSearchFine s g c
   search_as = subst (λ (x : Stored). IsSearchFine x g c) same (search_fine g num_in linked_in is kind pin c h)
+
+  pub walk_paths_as : AreWalkPaths g kind pin c
+  walk_paths_as =
+      subst (λ (x : PinCone). AreWalkPaths g kind pin x) (sym (cone_is g kind pin c h))
+      (walk_paths g num_in linked_in is (timed g num_in linked_in is) kind h.ends h.f h.fan pin h.rise h.fall h.made)
+
+  pub walk_places_as : AreWalkPlaces g c
+  walk_places_as =
+      subst (λ (x : PinCone). AreWalkPlaces g x) (sym (cone_is g kind pin c h))
+      (walk_places g num_in linked_in is (timed g num_in linked_in is) kind h.ends h.f h.fan pin h.rise h.fall h.made)
 
   pub walk_as : (walk : Walk) → IsWalk c.cone walk → IsWalkFine s c walk
   walk_as =

@@ -21,7 +21,7 @@ use Rattle.path_search.proofs.Endings.{edge_told, ends_told}
 use Rattle.path_search.proofs.PathTimes.{times_of_launch}
 use Rattle.path_search.proofs.ConeCourses.{IsWalkCourse, shifted, unshifted}
 
-low_slack : (offer first rest s t : ℤ) → offer -ℤ rest ≡ s → first -ℤ rest ≡ t → offer ≤ℤ first → s ≤ℤ t
+pub low_slack : (offer first rest s t : ℤ) → offer -ℤ rest ≡ s → first -ℤ rest ≡ t → offer ≤ℤ first → s ≤ℤ t
 low_slack offer first rest s t a b low = omega (arith, ints)
 
 tied_slack : (offer first rest s t : ℤ) → offer -ℤ rest ≡ s → first -ℤ rest ≡ t → t ≡ s → first ≡ offer
@@ -32,7 +32,7 @@ module _ (d : Design) (t : IsTimed d) (kind : Kind) (pin : List ℕ) (cone : Con
   abbrev path_in : List Named
   path_in = begin_names d (name v.launch.node) ++ map name v.more
 
-  slacks_are : path_slacks d kind path_in ≡ launch_slacks d kind (name v.launch.node) edge (time +ℤ v.rest) (name v.end.node)
+  pub slacks_are : path_slacks d kind path_in ≡ launch_slacks d kind (name v.launch.node) edge (time +ℤ v.rest) (name v.end.node)
   slacks_are =
       slacks_of_launch d t kind edge (name v.launch.node) time l (map name v.more) v.rest v.course.tail
       ∙ ap (launch_slacks d kind (name v.launch.node) edge (time +ℤ v.rest)) v.last

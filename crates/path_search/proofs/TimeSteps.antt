@@ -17,7 +17,7 @@ use Rattle.timing_defs.specs.Paths.{Named}
 use Rattle.netlist_store.specs.Numbering.{Stored}
 use Rattle.worst_walks.specs.declared.cones.WalkArc.{WalkArc}
 use Rattle.worst_walks.specs.declared.cones.Cone.{Cone}
-use Rattle.worst_walks.specs.Walks.{arcs_into, count_of, delay_between, delay_in, is_first, listed_into, walk_sum, IsArcInto, IsCone}
+use Rattle.worst_walks.specs.Walks.{most_nodes, arcs_into, count_of, delay_between, delay_in, is_first, listed_into, walk_sum, IsArcInto, IsCone}
 use Rattle.path_search.specs.declared.cones.PinCone.{PinCone}
 use Rattle.path_search.specs.Launches.{signed}
 use Rattle.path_search.specs.WalkTimes.{time_next, times_after}
@@ -71,7 +71,7 @@ pub some_delay_as : (cone : Cone) (a b : ℕ) → IsSome (delay_between cone a b
 some_delay_as cone a b some good low arcs is v e = some_delay cone a b some good low v (e ∙ ap (λ (xs : List WalkArc). delay_in xs a) is)
 
 -- a time after a step stays within its bound
-pub step_bound : (kind : Kind) (time v : ℤ) (a b : ℕ) → b < a → a < 2 ^ 22 → Within v → unsigned_abs time ≤ (2 ^ 22 - a) * 10 ^ 12 → unsigned_abs (time +ℤ signed kind v) ≤ (2 ^ 22 - b) * 10 ^ 12
+pub step_bound : (kind : Kind) (time v : ℤ) (a b : ℕ) → b < a → a < most_nodes → Within v → unsigned_abs time ≤ (most_nodes - a) * 10 ^ 12 → unsigned_abs (time +ℤ signed kind v) ≤ (most_nodes - b) * 10 ^ 12
 step_bound Setup time v a b low few within bound = omega (arith, ints)
 step_bound Hold time v a b low few within bound = omega (arith, ints)
 
@@ -81,17 +81,17 @@ step_value kind cone time v a b e = ap (λ (o : Option ℤ). time +ℤ signed ki
 pub value_as : (kind : Kind) (cone : Cone) (time v r : ℤ) (a b : ℕ) → IsDelay cone a b v → r ≡ time +ℤ signed kind v → r ≡ time_next kind cone time a b
 value_as kind cone time v r a b d e = e ∙ step_value kind cone time v a b d.between
 
-pub bound_as : (kind : Kind) (cone : Cone) (time v r : ℤ) (a b : ℕ) → IsCone cone → IsDelay cone a b v → unsigned_abs time ≤ (2 ^ 22 - a) * 10 ^ 12 → r ≡ time +ℤ signed kind v
-    → unsigned_abs r ≤ (2 ^ 22 - b) * 10 ^ 12
+pub bound_as : (kind : Kind) (cone : Cone) (time v r : ℤ) (a b : ℕ) → IsCone cone → IsDelay cone a b v → unsigned_abs time ≤ (most_nodes - a) * 10 ^ 12 → r ≡ time +ℤ signed kind v
+    → unsigned_abs r ≤ (most_nodes - b) * 10 ^ 12
 bound_as kind cone time v r a b good d bound e =
     let few = good.few in
     let low = d.low in
-    subst (λ x. unsigned_abs x ≤ (2 ^ 22 - b) * 10 ^ 12) (sym e) (step_bound kind time v a b d.above (omega arith) d.within bound)
+    subst (λ x. unsigned_abs x ≤ (most_nodes - b) * 10 ^ 12) (sym e) (step_bound kind time v a b d.above (omega arith) d.within bound)
 
 -- the nodes that a loop over a walk has added
 pub record IsAdded (s : Stored) (kind : Kind) (c : PinCone) (first : ℕ) (rest : List ℕ) (start : ℤ) (old : List PathNode) (i at : ℕ) (time : ℤ) (path : List PathNode) : Type 0 where
   pub low : at < count_of c.cone
-  pub bound : unsigned_abs time ≤ (2 ^ 22 - at) * 10 ^ 12
+  pub bound : unsigned_abs time ≤ (most_nodes - at) * 10 ^ 12
   pub end : ℕ
   pub sum : ℤ
   pub adds : walk_sum ◌==◌ (delay_between c.cone) end at (drop i rest) ≡ Some sum
@@ -126,7 +126,7 @@ module _ (s : Stored) (kind : Kind) (c : PinCone) (first : ℕ) (rest : List ℕ
         place = subst (IsNodePlace s c.nodes) (sym is) (on.places i next inside);
       }
 
-  pub added_more : (later : ℤ) (new : List PathNode) → next < count_of c.cone → later ≡ time_next kind c.cone time at next → unsigned_abs later ≤ (2 ^ 22 - next) * 10 ^ 12
+  pub added_more : (later : ℤ) (new : List PathNode) → next < count_of c.cone → later ≡ time_next kind c.cone time at next → unsigned_abs later ≤ (most_nodes - next) * 10 ^ 12
       → map name_part new ≡ map name_part path ++ place_name s c.nodes next ∷ [] → map time_part new ≡ map time_part path ++ later ∷ []
       → IsAdded s kind c first rest start old (i + 1) next later new
   added_more later new low value bound names times =
@@ -152,7 +152,7 @@ module _ (s : Stored) (kind : Kind) (c : PinCone) (first : ℕ) (rest : List ℕ
 -- one node more, in the form that the loop has
 pub added_as : (s : Stored) (kind : Kind) (c : PinCone) (first : ℕ) (rest : List ℕ) (start : ℤ) (old : List PathNode) (i at : ℕ) (time : ℤ) (path : List PathNode)
     → IsAdded s kind c first rest start old i at time path → count_of c.cone ≡ length c.nodes → IsWalkOn s c first rest → i < length rest
-    → (later : ℤ) (ns : List ℕ) → ns ≡ c.nodes → (new : List PathNode) → later ≡ time_next kind c.cone time at (get_or rest i 0) → unsigned_abs later ≤ (2 ^ 22 - get_or rest i 0) * 10 ^ 12
+    → (later : ℤ) (ns : List ℕ) → ns ≡ c.nodes → (new : List PathNode) → later ≡ time_next kind c.cone time at (get_or rest i 0) → unsigned_abs later ≤ (most_nodes - get_or rest i 0) * 10 ^ 12
     → map name_part new ≡ map name_part path ++ place_name s ns (get_or rest i 0) ∷ [] → map time_part new ≡ map time_part path ++ later ∷ []
     → IsAdded s kind c first rest start old (i + 1) (get_or rest i 0) later new
 added_as s kind c first rest start old i at time path h count on inside later ns same new value bound names times =

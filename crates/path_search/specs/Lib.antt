@@ -10,4 +10,6 @@ pub mod Runs
 pub mod Slacks
 pub mod Sources
 pub mod Trees
+pub mod WalkPaths
+pub mod WalkPlaces
 pub mod WalkTimes

@@ -1,7 +1,7 @@
 -- What the nodes of a fan-in cone offer as launches of paths to an end node, and the clock tree that
 -- credits are found in (TAU 2015 contest: clock pessimism removal).
 
-use Rattle.std.specs.Prelude.{ℕ, ◌≡◌, ◌<◌, ◌≤◌, ◌^◌, ℤ, ◌≤ℤ◌, unsigned_abs, List, [], length, slice_index, Contains, Some}
+use Rattle.std.specs.Prelude.{ℕ, ◌≡◌, ◌<◌, ◌≤◌, ◌^◌, ℤ, ◌≤ℤ◌, unsigned_abs, List, [], length, slice_get, slice_index, Contains, Some}
 use Rattle.timing_defs.specs.declared.kinds.Tran.{Tran}
 use Rattle.timing_defs.specs.declared.kinds.Kind.{Kind}
 use Rattle.timing_defs.specs.declared.design.Design.{Design}
@@ -30,7 +30,8 @@ pub record IsOfferAt (s : Stored) (kind : Kind) (nodes : List ℕ) (end : Named)
   pub offer : IsOffer s.design kind (named node) end launch.offer
   pub bounded : unsigned_abs launch.offer ≤ 10 ^ 18
 
--- the offers of all nodes of a list for an end node: of each node that is a launch with a test there
+-- the offers of all nodes of a list for an end node: of each node that is a launch with a test there, and
+-- of each place once
 pub record AreOffers (s : Stored) (kind : Kind) (nodes : List ℕ) (end : Named) (launches : List Launch) : Type 0 where
   pub few : length launches ≤ length nodes
   pub sound : (launch : Launch) → Contains launches launch → IsOfferAt s kind nodes end launch
@@ -38,3 +39,4 @@ pub record AreOffers (s : Stored) (kind : Kind) (nodes : List ℕ) (end : Named)
       → (edge : ℕ × Tran) (time : ℤ) → IsLaunched s.design (data_split kind) edge (named node) time
       → (launch_slacks s.design kind (named node) edge time end ≡ [] → ⊥)
       → (offer : ℤ) × Contains launches (record { node = place; offer = offer })
+  pub once : (i j : ℕ) (a b : Launch) → slice_get launches i ≡ Some a → slice_get launches j ≡ Some b → a.node ≡ b.node → i ≡ j

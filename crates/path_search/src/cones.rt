@@ -23,12 +23,13 @@ use std::alloc::Global;
 use timing_defs::{Items, Kind, Name, Rows, Tran};
 use worst_walks::{Cone, Launch, WalkEnd};
 
-/// The cone of a pin's two nodes with the launches of the paths to each, and the graph's numbers of its
-/// nodes by their places.
+/// The cone of a pin's two nodes (the rise node's end first) with the launches of the paths to each, and
+/// the graph's numbers of its nodes by their places. Delays and offers are in fs, delays for hold tests
+/// negated. Its walks are the tested paths to the pin: see `walk_path_laws`.
 #[derive(Drop)]
-pub(crate) struct PinCone {
-    pub(crate) nodes: Items<u32>,
-    pub(crate) cone: Cone,
+pub struct PinCone {
+    pub nodes: Items<u32>,
+    pub cone: Cone,
 }
 
 /// The numbers of an endpoint's two nodes.
@@ -149,9 +150,9 @@ pub(crate) fn cone_over<A: Rows + Delayed>(
     cone_with(alloc, fan, first, second)
 }
 
-/// The cone in which the paths to an endpoint are searched. Takes the time of the cone's arcs and of
-/// sorting its nodes.
-pub(crate) fn pin_cone<A: Rows + Delayed>(
+/// The cone in which the paths to an endpoint are searched. Takes the time of the cone's arcs, of sorting
+/// its nodes and of its launches times the tests of the endpoint. The one error is want of memory.
+pub fn pin_cone<A: Rows + Delayed>(
     alloc: Global,
     sources: &Sources<'_, A>,
     endpoint: &Name,

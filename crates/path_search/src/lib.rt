@@ -5,6 +5,10 @@
 //! `test_slacks`), less the delays after the launch node (`launches`). Credits are found in the clock tree
 //! (`trees`). The worst walk of the cone is found in the order of the names of pins (`orders`), and a
 //! path is read off it (`shown`), by the test that counts (`counted`).
+//!
+//! Other searches over an endpoint's paths take its cone (`pin_cone`), find walks of it in the order of
+//! names (`ByName`), and read a path off each (`path_of`); `walk_path_laws` tells that these walks are the
+//! tested paths to the endpoint.
 #![tactic(auto)]
 
 mod cones;
@@ -24,6 +28,13 @@ mod sums;
 mod test_slacks;
 mod trees;
 
+pub use cones::{PinCone, pin_cone};
 pub use edges::LaunchEdge;
-pub use searching::{EndpointSlacks, worst_path, worst_slack, worst_slacks};
+pub use orders::{ByName, node_of};
+pub use searching::{
+    EndpointSlacks, search_laws, walk_path_laws, walk_place_laws, worst_path, worst_slack,
+    worst_slacks,
+};
+pub use shown::path_of;
+pub use sources::Sources;
 pub use trees::clock_tree;

@@ -15,12 +15,13 @@ use timing_defs::Items;
 use worst_walks::WalkOrder;
 
 /// The nodes of a cone by their places, and after these all nodes of a graph by their numbers, in the
-/// order of the bytes of their pins' names, rise before fall.
+/// order of the bytes of their pins' names, rise before fall. Before a launch stand the nodes of the clock
+/// network on the way to it. `search_laws` tells what it asks of a cone's nodes.
 #[derive(Clone, Copy, Drop)]
-pub(crate) struct ByName<'a> {
-    pub(crate) store: &'a Store,
-    pub(crate) graph: &'a Graph,
-    pub(crate) nodes: &'a [u32],
+pub struct ByName<'a> {
+    pub store: &'a Store,
+    pub graph: &'a Graph,
+    pub nodes: &'a [u32],
     ghost below: { All (λ n. n < node_bound store.now) nodes.now },
     ghost same: { node_bound graph.now.stored ≡ node_bound store.now },
     ghost few: { length nodes.now < 2 ^ 22 },
@@ -46,8 +47,8 @@ fn is_before(store: &Store, one: u32, other: u32) -> bool
     first.cmp(second).then(one.cmp(&other)).is_lt()
 }
 
-/// The node that a place of a cone, or a number past these, stands for.
-fn node_of(nodes: &[u32], number: u32) -> u32
+/// The number in the graph of the node that a place of a cone, or a number past these, stands for.
+pub fn node_of(nodes: &[u32], number: u32) -> u32
     ensures { result ≡ node_of nodes.now number }
 {
     let at = number as usize;

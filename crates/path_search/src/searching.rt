@@ -15,6 +15,8 @@ ghost use Rattle.path_search.specs.Trees.{IsClockTree};
 ghost use Rattle.worst_walks.specs.Walks.{IsWorst};
 ghost use Rattle.path_search.specs.Ranks.{place_rank, places_before};
 ghost use Rattle.path_search.specs.PinCones.{AreEndNodes, IsPinCone, IsSearchFine, IsWalkPath};
+ghost use Rattle.path_search.specs.WalkPaths.{AreWalkPaths};
+ghost use Rattle.path_search.specs.WalkPlaces.{AreWalkPlaces};
 
 use crate::cones::{EndNodes, PinCone, end_nodes, pin_cone};
 use crate::node_fans::node_slack;
@@ -38,10 +40,40 @@ pub struct EndpointSlacks {
 }
 
 /// What a search of a pin's cone asks for; the call does nothing.
-fn search_laws(store: &Store, graph: &Graph, kind: Kind, endpoint: &Name, search: &PinCone)
+pub fn search_laws(store: &Store, graph: &Graph, kind: Kind, endpoint: &Name, search: &PinCone)
     requires graph { graph.now.stored ≡ store.now }
     requires search { IsPinCone graph.now kind endpoint.now search.now }
     ensures { IsSearchFine store.now graph.now search.now }
+{
+    store.laws();
+    graph.laws();
+    let _ = kind;
+    let _ = endpoint;
+    let _ = search;
+}
+
+/// That the walks of a pin's cone are the tested paths to the pin, each once and in the order of the paths,
+/// and what a search of the cone asks for; the call does nothing.
+pub fn walk_path_laws(store: &Store, graph: &Graph, kind: Kind, endpoint: &Name, search: &PinCone)
+    requires graph { graph.now.stored ≡ store.now }
+    requires search { IsPinCone graph.now kind endpoint.now search.now }
+    ensures paths { AreWalkPaths graph.now kind endpoint.now search.now }
+    ensures search { IsSearchFine store.now graph.now search.now }
+{
+    store.laws();
+    graph.laws();
+    let _ = kind;
+    let _ = endpoint;
+    let _ = search;
+}
+
+/// The places of the walks of a pin's cone, by the names of their nodes, and what a search of the cone asks for; the call
+/// does nothing.
+pub fn walk_place_laws(store: &Store, graph: &Graph, kind: Kind, endpoint: &Name, search: &PinCone)
+    requires graph { graph.now.stored ≡ store.now }
+    requires search { IsPinCone graph.now kind endpoint.now search.now }
+    ensures places { AreWalkPlaces graph.now search.now }
+    ensures search { IsSearchFine store.now graph.now search.now }
 {
     store.laws();
     graph.laws();

@@ -7,7 +7,7 @@ ghost use Rattle.timing_defs.specs.Tests.{data_split};
 ghost use Rattle.netlist_store.specs.Numbering.{is_number};
 ghost use Rattle.pin_graph.specs.Nodes.{node_bound, pin_under, tran_under};
 ghost use Rattle.pin_graph.specs.RowTables.{AreRows};
-ghost use Rattle.worst_walks.specs.Walks.{count_of, delay_between, listed_into, delay_in, walk_sum, IsCone, IsWalk};
+ghost use Rattle.worst_walks.specs.Walks.{most_nodes, count_of, delay_between, listed_into, delay_in, walk_sum, IsCone, IsWalk};
 ghost use Rattle.path_search.specs.Launches.{signed};
 ghost use Rattle.path_search.specs.Sources.{AreSources};
 ghost use Rattle.path_search.specs.PinCones.{capture_edge, capture_part, launch_part, name_part, name_told, place_name, time_part, time_numbered, IsNodePlace, IsWalkOn, AreEndsFine, AreEndsOf, AreNodesOf, IsWalkFine, IsWalkPath, IsPinCone};
@@ -133,7 +133,7 @@ fn arcs_at(cone: &Cone, node: u32) -> &[WalkArc]
 
 /// A time with a delay as a search takes it.
 fn with_delay(kind: Kind, time: i64, delay: i64) -> i64
-    requires time { unsigned_abs time ≤ 2 ^ 22 * 10 ^ 12 }
+    requires time { unsigned_abs time ≤ most_nodes * 10 ^ 12 }
     requires delay { Within delay }
     ensures { result ≡ time +ℤ signed kind delay }
 {
@@ -148,9 +148,9 @@ fn time_after(cone: &Cone, kind: Kind, from: u32, to: u32, time: i64) -> i64
     requires cone { IsCone cone.now }
     requires to { to < count_of cone.now }
     requires arc { IsSome (delay_between cone.now from to) }
-    requires time { unsigned_abs time ≤ (2 ^ 22 - from) * 10 ^ 12 }
+    requires time { unsigned_abs time ≤ (most_nodes - from) * 10 ^ 12 }
     ensures value { result ≡ time_next kind cone.now time from to }
-    ensures bound { unsigned_abs result ≤ (2 ^ 22 - to) * 10 ^ 12 }
+    ensures bound { unsigned_abs result ≤ (most_nodes - to) * 10 ^ 12 }
 {
     let arcs = arcs_at(cone, to);
     match delay_from(arcs, from) {
@@ -388,8 +388,10 @@ fn path_law(
     let _ = path;
 }
 
-/// The path of a walk of a cone.
-pub(crate) fn path_of<A: Rows + Delayed>(
+/// The path of a walk of an endpoint's cone, by the test that counts. Times, slack and credit are in fs.
+/// Takes a step for each node of the path, each arc into a node of the walk and each test of the endpoint.
+/// The one error is want of memory.
+pub fn path_of<A: Rows + Delayed>(
     alloc: Global,
     sources: &Sources<'_, A>,
     endpoint: &Name,

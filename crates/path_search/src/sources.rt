@@ -6,12 +6,12 @@ use pin_graph::Graph;
 use timing_defs::Kind;
 
 /// What paths of a kind are searched in: a store with its graph, the rows of its nodes with the delays
-/// of arcs, and its clock tree.
+/// of arcs (times in fs), and its clock tree. A search asks that all are of one sound design.
 #[derive(Drop)]
-pub(crate) struct Sources<'a, A> {
-    pub(crate) store: &'a Store,
-    pub(crate) graph: &'a Graph,
-    pub(crate) arrivals: &'a A,
-    pub(crate) tree: &'a ClockTree,
-    pub(crate) kind: Kind,
+pub struct Sources<'a, A> {
+    pub store: &'a Store,
+    pub graph: &'a Graph,
+    pub arrivals: &'a A,
+    pub tree: &'a ClockTree,
+    pub kind: Kind,
 }

@@ -1,6 +1,6 @@
 -- Walks from a launch to an end node, against the table of that end node.
 
-use Rattle.std.proofs.Common.{◌≡◌, ℕ, zero, suc, ◌+◌, ◌^◌, ◌<◌, ℤ, ◌-ℤ◌, ◌≤ℤ◌, Bool, true, false, ◌==◌, if◌then◌else◌, ◌⊎◌, inl, inr, List, [], ◌∷◌, length, Option, Some, None, refl, sym, ap, subst, ◌∙◌, arith}
+use Rattle.std.proofs.Common.{◌≡◌, ℕ, zero, suc, ◌+◌, ◌<◌, ℤ, ◌-ℤ◌, ◌≤ℤ◌, Bool, true, false, ◌==◌, if◌then◌else◌, ◌⊎◌, inl, inr, List, [], ◌∷◌, length, Option, Some, None, refl, sym, ap, subst, ◌∙◌, arith}
 use Rattle.std.specs.Prelude.{int_lt, slice_get, option_map, IsSome}
 use Rattle.std.specs.Cmp.{IsStrictWeakOrder}
 use Rattle.std.specs.Option.{option_and_then}
@@ -13,17 +13,17 @@ use Rattle.worst_walks.specs.declared.cones.Cone.{Cone}
 use Rattle.worst_walks.specs.declared.cones.Walk.{Walk}
 use Rattle.worst_walks.specs.declared.tables.Entry.{Entry}
 use Rattle.worst_walks.specs.Best.{BestOf, better}
-use Rattle.worst_walks.specs.Walks.{count_of, delay_between, walk_sum, launch_slack, IsWalk, AreRanked, IsCone, IsEnd, IsLaunch}
+use Rattle.worst_walks.specs.Walks.{most_nodes, count_of, delay_between, walk_sum, launch_slack, IsWalk, AreRanked, IsCone, IsEnd, IsLaunch}
 use Rattle.worst_walks.specs.Tables.{row_in, offered, least_from, IsBounded, IsTable}
 use Rattle.worst_walks.specs.Searches.{IsTo, IsSlackTo, IsFalling}
 use Rattle.worst_walks.proofs.BestLaws.{best_alike, best_one, best_both}
 use Rattle.worst_walks.proofs.Filling.{bounded_more}
 use Rattle.worst_walks.proofs.Optimal.{next_there, found, traced, least}
 
-pub bounded_there : (rank : ℕ → ℕ) (cone : Cone) (end : ℕ) (rows : List (Option Entry)) (n : ℕ) → IsCone cone → IsTable rank cone end rows → IsBounded (2 ^ 22) (row_in rows n)
+pub bounded_there : (rank : ℕ → ℕ) (cone : Cone) (end : ℕ) (rows : List (Option Entry)) (n : ℕ) → IsCone cone → IsTable rank cone end rows → IsBounded most_nodes (row_in rows n)
 bounded_there rank cone end rows n good h =
     let few = good.few in
-    bounded_more (count_of cone) (2 ^ 22) (row_in rows n) (omega arith) (h.bounded n)
+    bounded_more (count_of cone) most_nodes (row_in rows n) (omega arith) (h.bounded n)
 
 pub launch_fine : (cone : Cone) (end : WalkEnd) (i : ℕ) (launch : Launch) → IsEnd cone end → slice_get end.launches i ≡ Some launch → IsLaunch cone launch
 launch_fine cone end i launch fine at =

@@ -2,7 +2,7 @@
 -- sum comes before it by the ranks (the principle of optimality).
 
 use Rattle.std.proofs.Common.{◌≡◌, ℕ, zero, suc, ◌<◌, ◌≤◌, ℤ, pos, ◌+ℤ◌, ◌≤ℤ◌, true, false, ◌&&◌, ◌==◌, inl, inr, List, [], ◌∷◌, length, map, Option, Some, None, refl, sym, ap, subst, ◌∙◌, arith}
-use Rattle.std.specs.Prelude.{int_lt, nat_lt}
+use Rattle.std.specs.Prelude.{int_lt, nat_lt, IsSome}
 use Rattle.std.specs.Ordering.{int_eq, nat_cmp, ordering_then, is_gt}
 use Rattle.std.specs.Cmp.Lexicographic.{slice_cmp}
 use Rattle.std.proofs.lemmas.Bool.{cases_eq, cases_lt, or_parts, lt-ltb, eq-eqb, eqb-true}
@@ -135,22 +135,22 @@ module _ (rank : ℕ → ℕ) (cone : Cone) (end : ℕ) (rows : List (Option Ent
       none-some after (sym (h.below m (omega arith)) ∙ row)
 
   -- the nodes behind `n`, against those of a walk through `m`
-  by_rank : AreRanked cone rank → (n m p : ℕ) (ps ns : List ℕ) → p < count_of cone → m < count_of cone → rank p ≤ rank m
+  by_rank : AreRanked cone rank → (n m p : ℕ) (ps ns : List ℕ) → p < count_of cone → m < count_of cone → IsSome (delay_between cone n p) → IsSome (delay_between cone n m) → rank p ≤ rank m
       → (p ≡ m → is_gt (slice_cmp nat_cmp (map rank ps) (map rank ns)) ≡ false)
       → is_gt (slice_cmp nat_cmp (map rank (p ∷ ps)) (map rank (m ∷ ns))) ≡ false
-  by_rank ranked n m p ps ns low under le rest = elim (cases_lt (rank p) (rank m)) [
+  by_rank ranked n m p ps ns low under to by le rest = elim (cases_lt (rank p) (rank m)) [
     | inl less ↦ head_less (rank p) (rank m) (map rank ps) (map rank ns) less
     | inr more ↦ let same : rank p ≡ rank m = omega arith in
         subst (λ r. is_gt (slice_cmp nat_cmp (r ∷ map rank ps) (map rank (m ∷ ns))) ≡ false) (sym same)
-        (head_same (rank m) (map rank ps) (map rank ns) (rest (ranked p m low under same)))
+        (head_same (rank m) (map rank ps) (map rank ns) (rest (ranked n p m low under to by same)))
   ]
 
-  order-by : AreRanked cone rank → (n m : ℕ) (ns : List ℕ) (s d t : ℤ) (after best : Entry) → (n ≡ end → ⊥) → row_in rows n ≡ Some best → row_in rows m ≡ Some after
+  order-by : AreRanked cone rank → (n m : ℕ) (ns : List ℕ) (s d t : ℤ) (after best : Entry) → (n ≡ end → ⊥) → row_in rows n ≡ Some best → row_in rows m ≡ Some after → delay_between cone n m ≡ Some d
       → ahead rank (record { total = d +ℤ after.total; next = m }) best ≡ false → d +ℤ t ≡ s → t ≤ℤ after.total
       → (t ≡ after.total → (ms : List ℕ) → Traces rows end m ms → is_gt (slice_cmp nat_cmp (map rank ms) (map rank ns)) ≡ false)
       → s ≡ best.total → (ms : List ℕ) → Traces rows end n ms → is_gt (slice_cmp nat_cmp (map rank ms) (map rank (m ∷ ns))) ≡ false
-  order-by ranked n m ns s d t after best other row there not_before sum most rest is [] tr = absurd (other tr)
-  order-by ranked n m ns s d t after best other row there not_before sum most rest is (p ∷ ps) tr =
+  order-by ranked n m ns s d t after best other row there arc not_before sum most rest is [] tr = absurd (other tr)
+  order-by ranked n m ns s d t after best other row there arc not_before sum most rest is (p ∷ ps) tr =
       let le = not_ahead rank (record { total = d +ℤ after.total; next = m }) best not_before in
       let same : t ≡ after.total = omega (arith, ints) in
       let tied : d +ℤ after.total ≡ best.total = omega (arith, ints) in
@@ -159,6 +159,7 @@ module _ (rank : ℕ → ℕ) (cone : Cone) (end : ℕ) (rows : List (Option Ent
       let via = next_there n best other row in
       let low : best.next < count_of cone = row_low best.next via.after via.row in
       by_rank ranked n m p ps ns (subst (λ j. j < count_of cone) to low) (row_low m after there)
+      (subst (λ j. IsSome (delay_between cone n j)) to (subst IsSome (sym via.arc) refl)) (subst IsSome (sym arc) refl)
       (subst (λ j. rank j ≤ rank m) to ordered)
       (λ e. rest same ps (subst (λ j. Traces rows end j ps) e tr.2))
 
@@ -177,7 +178,7 @@ module _ (rank : ℕ → ℕ) (cone : Cone) (end : ℕ) (rows : List (Option Ent
         entry = b;
         row = e;
         most = omega (arith, ints);
-        order = order-by ranked n m ns s d t after b other e there not_before sum most rest;
+        order = order-by ranked n m ns s d t after b other e there arc not_before sum most rest;
       }
 
   pub least : AreRanked cone rank → (ns : List ℕ) (n : ℕ) (s : ℤ) → walk_sum ◌==◌ (delay_between cone) end n ns ≡ Some s → Beaten rank cone end rows n ns s

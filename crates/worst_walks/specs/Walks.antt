@@ -1,7 +1,7 @@
 -- Walks of a fan-in cone over numbered nodes and the worst of them: the worst path of static timing
 -- analysis, as a path of least slack.
 
-use Rattle.std.specs.Prelude.{◌≡◌, ℕ, ◌+◌, ◌^◌, ◌<◌, ◌≤◌, ◌==◌, ℤ, pos, ◌-ℤ◌, ◌≤ℤ◌, unsigned_abs, Bool, false, if◌then◌else◌, List, [], ◌∷◌, ◌++◌, map, length, slice_index, slice_range, slice_get, All, Option, Some, None, option_map}
+use Rattle.std.specs.Prelude.{◌≡◌, ℕ, ◌+◌, ◌^◌, ◌<◌, ◌≤◌, ◌==◌, ℤ, pos, ◌-ℤ◌, ◌≤ℤ◌, unsigned_abs, Bool, false, if◌then◌else◌, List, [], ◌∷◌, ◌++◌, map, length, slice_index, slice_range, slice_get, All, Option, Some, None, IsSome, option_map}
 use Rattle.std.specs.List.{list_any}
 use Rattle.std.specs.Option.{option_and_then}
 use Rattle.std.specs.Ordering.{nat_cmp, int_cmp, ordering_then, is_lt, is_gt}
@@ -108,10 +108,14 @@ pub record IsEnd (cone : Cone) (end : WalkEnd) : Type 0 where
   pub many : length end.launches < 2 ^ 32
   pub each : All (IsLaunch cone) end.launches
 
--- a cone as it has to be: less than 2^22 nodes, arcs that lead to lower numbers,
+-- a cone has fewer nodes
+abbrev pub most_nodes : ℕ
+most_nodes = 8000000
+
+-- a cone as it has to be: fewer than 8,000,000 nodes, arcs that lead to lower numbers,
 -- at most one between two nodes, and ends and launches at its nodes
 pub record IsCone (cone : Cone) : Type 0 where
-  pub few : count_of cone < 2 ^ 22
+  pub few : count_of cone < most_nodes
   pub starts : length cone.starts ≡ count_of cone + 1
   pub rising : (n : ℕ) → n < count_of cone → slice_index cone.starts n ≤ slice_index cone.starts (n + 1)
   pub stored : (n : ℕ) → n < count_of cone → slice_index cone.starts (n + 1) ≤ length cone.arcs
@@ -120,11 +124,12 @@ pub record IsCone (cone : Cone) : Type 0 where
   pub many : length cone.ends < 2 ^ 32
   pub ends : All (IsEnd cone) cone.ends
 
--- different nodes of a cone have different ranks
+-- different nodes to which arcs lead from one node have different ranks
 abbrev pub AreRanked : Cone → (ℕ → ℕ) → Type 0
-AreRanked cone rank = (a b : ℕ) → a < count_of cone → b < count_of cone → rank a ≡ rank b → a ≡ b
+AreRanked cone rank =
+    (n a b : ℕ) → a < count_of cone → b < count_of cone → IsSome (delay_between cone n a) → IsSome (delay_between cone n b) → rank a ≡ rank b → a ≡ b
 
--- an order that knows the nodes of a cone, each at a place of its own
+-- an order that knows the nodes of a cone and tells the ways out of a node apart
 pub record IsOrdered (cone : Cone) (count : ℕ) (rank : ℕ → ℕ) : Type 0 where
   pub known : count_of cone ≤ count
   pub ranked : AreRanked cone rank

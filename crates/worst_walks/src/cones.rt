@@ -31,8 +31,8 @@ pub struct WalkEnd {
 /// leads from a higher number to a lower one. The arcs into `node` are
 /// `arcs[starts[node]..starts[node + 1]]`; those into a node with a launch are never followed.
 ///
-/// A search asks for less than `2^22` nodes, at most one arc between two nodes, delays of at most
-/// `10^12` fs and offers of at most `10^18` fs on either side of 0.
+/// A search asks for fewer than 8,000,000 nodes, at most one arc between two nodes, delays of at
+/// most `10^12` fs and offers of at most `10^18` fs on either side of 0.
 #[derive(Drop)]
 pub struct Cone {
     pub count: u32,
@@ -53,7 +53,7 @@ pub struct Walk {
 
 impl Cone {
     /// The end node at a place of the list of ends.
-    pub(crate) fn end_at(&self, place: u32) -> &WalkEnd
+    pub fn end_at(&self, place: u32) -> &WalkEnd
         requires cone { IsCone self.now }
         requires place { place < length self.now.ends }
         ensures there { slice_get self.now.ends place ≡ Some result.now }
@@ -65,7 +65,7 @@ impl Cone {
 
 impl WalkEnd {
     /// The launch at a place of the list of launches.
-    pub(crate) fn launch_at(&self, place: u32) -> &Launch
+    pub fn launch_at(&self, place: u32) -> &Launch
         requires { place < length self.now.launches }
         ensures { slice_get self.now.launches place ≡ Some result.now }
     {

@@ -19,8 +19,9 @@ fn mark_all(marks: &mut [bool], launches: &[Launch])
     }
 }
 
-/// Marks each node at which there is a launch. Takes a step for each launch.
-pub(crate) fn first_nodes(alloc: Global, cone: &Cone) -> Result<Vec<bool>, Memory>
+/// Marks each node at which there is a launch. Takes a step for each launch. The one error is want
+/// of memory.
+pub fn first_nodes(alloc: Global, cone: &Cone) -> Result<Vec<bool>, Memory>
     requires { IsCone cone.now }
     ensures { IfOk result (λ marks. AreFirst cone.now marks.items) }
 {
@@ -38,9 +39,9 @@ fn has_mark(marks: &[bool], node: u32) -> bool
     marks[node as usize]
 }
 
-/// The arcs that a walk can follow into a node.
+/// The arcs that a walk can follow into a node, where the first nodes are marked.
 #[tactic(auto, using(crate::proofs::Filling::arcs_there), unfolding(crate::specs::Walks::arcs_into))]
-pub(crate) fn arcs_at<'a>(cone: &'a Cone, marks: &[bool], node: u32) -> &'a [WalkArc]
+pub fn arcs_at<'a>(cone: &'a Cone, marks: &[bool], node: u32) -> &'a [WalkArc]
     requires cone { IsCone cone.now }
     requires marks { AreFirst cone.now marks.now }
     requires node { node < count_of cone.now }

@@ -11,5 +11,9 @@ mod tables;
 mod tracing;
 
 pub use cones::{Cone, Launch, Walk, WalkArc, WalkEnd};
+pub use firsts::{arcs_at, first_nodes};
 pub use orders::WalkOrder;
 pub use searching::worst_walk;
+pub use slacks::slack_at;
+pub use tables::{Entry, row_at, table_to};
+pub use tracing::{comes_before, nodes_from};

@@ -2,16 +2,16 @@
 
 ghost use Rattle.std.specs.Prelude.{◌≡◌, ℕ, ◌^◌, ◌≤◌, unsigned_abs, int_lt, None};
 ghost use Rattle.worst_walks.specs.Best.{better};
-ghost use Rattle.worst_walks.specs.Walks.{IsEnd};
+ghost use Rattle.worst_walks.specs.Walks.{most_nodes, IsEnd};
 ghost use Rattle.worst_walks.specs.Tables.{row_in, offered, least_from, IsBounded};
 
 use crate::cones::{Cone, Launch, WalkEnd};
 use crate::tables::{Entry, row_at};
 
 /// The least slack of the walks from a launch, in fs.
-pub(crate) fn slack_at(rows: &[Option<Entry>], launch: &Launch) -> Option<i64>
+pub fn slack_at(rows: &[Option<Entry>], launch: &Launch) -> Option<i64>
     requires offer { unsigned_abs launch.now.offer ≤ 10 ^ 18 }
-    requires bounded { IsBounded (2 ^ 22) (row_in rows.now launch.now.node) }
+    requires bounded { IsBounded (most_nodes) (row_in rows.now launch.now.node) }
     ensures { result ≡ offered rows.now launch.now }
 {
     match row_at(rows, launch.node) {
@@ -34,7 +34,7 @@ fn lesser(least: Option<i64>, slack: Option<i64>) -> Option<i64>
 /// The least slack of the walks from the launches of an end node.
 pub(crate) fn least_offer(cone: &Cone, end: &WalkEnd, rows: &[Option<Entry>]) -> Option<i64>
     requires end { IsEnd cone.now end.now }
-    requires bounded { (n : ℕ) → IsBounded (2 ^ 22) (row_in rows.now n) }
+    requires bounded { (n : ℕ) → IsBounded (most_nodes) (row_in rows.now n) }
     ensures { result ≡ least_from rows.now None end.now.launches }
 {
     let mut least = None;

@@ -3,7 +3,7 @@
 ghost use Rattle.std.specs.Prelude.{◌≡◌, ◌*◌, ◌^◌, ◌<◌, ◌≤◌, unsigned_abs, All, replicate, length, IfOk, None, Some};
 ghost use Rattle.sta_units.specs.Numbers.{Within};
 ghost use Rattle.worst_walks.specs.Best.{better};
-ghost use Rattle.worst_walks.specs.Walks.{count_of, IsArcInto, IsCone};
+ghost use Rattle.worst_walks.specs.Walks.{most_nodes, count_of, IsArcInto, IsCone};
 ghost use Rattle.worst_walks.specs.Tables.{row_in, ahead, through, relaxed, pushed, spread, IsBounded, IsKnown, IsTable, AreFirst};
 
 use crate::cones::{Cone, WalkArc};
@@ -15,13 +15,13 @@ use std::alloc::Global;
 /// The best walk from a node to the end node: its delay sum in fs and the node that follows, which
 /// at the end node is itself.
 #[derive(Clone, Copy, Drop)]
-pub(crate) struct Entry {
-    pub(crate) total: i64,
-    pub(crate) next: u32,
+pub struct Entry {
+    pub total: i64,
+    pub next: u32,
 }
 
 /// The entry of a node, if there is a walk from it.
-pub(crate) fn row_at(rows: &[Option<Entry>], node: u32) -> Option<Entry>
+pub fn row_at(rows: &[Option<Entry>], node: u32) -> Option<Entry>
     ensures { result ≡ row_in rows.now node }
 {
     match rows.get(node as usize) {
@@ -57,7 +57,7 @@ fn better_row<O: WalkOrder>(order: &O, row: Option<Entry>, entry: Entry) -> Entr
 /// The walk by an arc to a node from which there is a walk.
 fn entry_by(node: u32, after: Entry, arc: WalkArc) -> Entry
     requires delay { Within arc.delay }
-    requires total { unsigned_abs after.total ≤ 2 ^ 22 * 10 ^ 12 }
+    requires total { unsigned_abs after.total ≤ most_nodes * 10 ^ 12 }
     ensures value { Some result ≡ through node (Some after) (Some arc.delay) }
     ensures next { result.next ≡ node }
 {
@@ -72,7 +72,7 @@ fn relax<O: WalkOrder>(order: &O, rows: &mut [Option<Entry>], node: u32, after: 
     requires node { node < O.count order.now }
     requires from { arc.from < length rows.old }
     requires delay { Within arc.delay }
-    requires total { unsigned_abs after.total ≤ 2 ^ 22 * 10 ^ 12 }
+    requires total { unsigned_abs after.total ≤ most_nodes * 10 ^ 12 }
     requires known { All (IsKnown (O.count order.now)) rows.old }
     ensures value { rows.new ≡ relaxed (O.rank order.now) node after rows.old arc }
     ensures known { All (IsKnown (O.count order.now)) rows.new }
@@ -94,7 +94,7 @@ fn push_arcs<O: WalkOrder>(
     requires node { node < O.count order.now }
     requires rows { length rows.old ≡ count_of cone.now }
     requires arcs { All (IsArcInto cone.now node) arcs.now }
-    requires total { unsigned_abs after.total ≤ 2 ^ 22 * 10 ^ 12 }
+    requires total { unsigned_abs after.total ≤ most_nodes * 10 ^ 12 }
     requires known { All (IsKnown (O.count order.now)) rows.old }
     ensures { rows.new ≡ pushed (O.rank order.now) node after rows.old arcs.now }
 {
@@ -116,7 +116,7 @@ fn visit<O: WalkOrder>(
     requires marks { AreFirst cone.now marks.now }
     requires node { node < count_of cone.now }
     requires rows { length rows.old ≡ count_of cone.now }
-    requires bounded { IsBounded (2 ^ 22) (row_in rows.old node) }
+    requires bounded { IsBounded (most_nodes) (row_in rows.old node) }
     requires known { All (IsKnown (O.count order.now)) rows.old }
     ensures { rows.new ≡ spread (O.rank order.now) cone.now node (row_in rows.old node) rows.old }
 {
@@ -132,9 +132,11 @@ fn empty_rows(alloc: Global, count: usize) -> Result<Vec<Option<Entry>>, Memory>
     Ok(vec![in alloc; None; count]?)
 }
 
-/// The table for an end node. Takes a step for each node and each arc of the cone.
+/// The table for an end node: for each node of the cone the entry of its best walk to the end node,
+/// where there is one. Takes a step for each node and each arc of the cone. The one error is want
+/// of memory.
 #[tactic(auto, using(crate::proofs::Knowing::rows_known))]
-pub(crate) fn table_to<O: WalkOrder>(
+pub fn table_to<O: WalkOrder>(
     alloc: Global,
     cone: &Cone,
     order: &O,

@@ -16,8 +16,9 @@ use std::alloc::Global;
 use std::cmp::Ordering;
 use timing_defs::Items;
 
-/// The nodes of the best walk from a node to the end node.
-pub(crate) fn nodes_from(
+/// The nodes of the best walk from a node to the end node, by the entries. Takes a step for each.
+/// The one error is want of memory.
+pub fn nodes_from(
     alloc: Global,
     rows: &[Option<Entry>],
     node: u32,
@@ -88,8 +89,9 @@ fn is_less<O: WalkOrder>(order: &O, left: &[u32], right: &[u32]) -> bool
     left.len() < right.len()
 }
 
-/// Whether a walk comes before another, by slack and then by the whole lists of nodes.
-fn comes_before<O: WalkOrder>(
+/// Whether a walk comes before another, by slack and then by the whole lists of nodes, which are made
+/// only where slacks tie. The one error is want of memory.
+pub fn comes_before<O: WalkOrder>(
     alloc: Global,
     order: &O,
     one: &Walk,

@@ -1,0 +1,16 @@
+pub mod Again
+pub mod Bests
+pub mod Classes
+pub mod Comparing
+pub mod EndTables
+pub mod Firsts
+pub mod Fits
+pub mod Fitting
+pub mod Fronts
+pub mod Leading
+pub mod OutLaws
+pub mod Parting
+pub mod Splits
+pub mod Starting
+pub mod Stems
+pub mod Turning

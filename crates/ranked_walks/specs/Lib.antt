@@ -1,0 +1,4 @@
+pub mod Branches
+pub mod Fitting
+pub mod Outs
+pub mod Searching

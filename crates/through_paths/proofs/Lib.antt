@@ -1,0 +1,5 @@
+pub mod Greedy
+pub mod PassLaws
+pub mod StopLaws
+pub mod BegunLaws
+pub mod ThroughPaths
