@@ -1,10 +1,11 @@
 #!/usr/bin/env python3
 """Checks one crate over what this machine has proved before, without proving the crates below it.
 
-    tools/check_over_kept.py CRATE [--sources CRATE,..] [FLAG..]
+    tools/check_over_kept.py CRATE [--built CLONE] [--sources CRATE,..] [FLAG..]
 
-The crates below come as built libraries where `rt ci` kept them (the newest of each), and else as sources, which prove
-only what is called. --sources names crates that are taken as sources in any case. FLAGs go to `rattle check`:
+The crates below come as built libraries where `rt ci` kept them (the newest of each) or where they stand in the `out/` of
+the same crate of another clone (--built), and else as sources, which prove only what is called. --sources names crates that
+are taken as sources in any case. FLAGs go to `rattle check`:
 `--only FUNCTION` (a path, or its last part; again for more), `--only ''` for the front end alone, `--allow-holes` to go
 past open goals, `--fix-imports`. Without --only the whole crate is checked, its files of lemmas too. Nothing that this
 says counts as proved: that is for `rt ci`.
@@ -67,6 +68,12 @@ def library(name, to):
     return True
 
 
+def built_in(clone, name):
+    """The folder of a crate's library that another clone has built; none where there is none."""
+    folder = pathlib.Path(clone).resolve() / "crates" / name / "out" / "rlib"
+    return folder if (folder / "stamp").is_file() and (folder / (name + ".rlib")).is_dir() else None
+
+
 def words_of(kit, uses, name, kept):
     """The words of the check, with the libraries that are there."""
     libs = below(uses, name)
@@ -96,14 +103,20 @@ def main():
     if not words or words[0] not in uses:
         sys.exit(__doc__)
     name, *flags = words
-    as_sources = []
+    as_sources, clone = [], None
+    if flags[:1] == ["--built"]:
+        clone, flags = flags[1], flags[2:]
     if flags[:1] == ["--sources"]:
         as_sources, flags = flags[1].split(","), flags[2:]
     kit = pathlib.Path(os.path.realpath(shutil.which("rt"))).parent.parent
     kept = {}
     for crate in below(uses, name):
         to = ROOT / "out" / "kept_libraries" / crate
-        if crate not in as_sources and library(crate, to):
+        if crate in as_sources:
+            continue
+        if clone and built_in(clone, crate):
+            kept[crate] = built_in(clone, crate)
+        elif library(crate, to):
             kept[crate] = to
     check, sources = words_of(kit, uses, name, kept)
     print("sources:", " ".join(sources) or "none", flush=True)

@@ -1,0 +1,105 @@
+"""The trials on damaged documents and failing devices: what they take for an answer, and short runs of both."""
+import pathlib
+import shutil
+import sys
+import tempfile
+import unittest
+
+import common
+
+sys.path.append(str(common.TOP / "bench"))
+import damaged_documents  # noqa: E402
+import trials  # noqa: E402
+
+TEXT = b"0123456789"
+DOCUMENTS = {"early": TEXT, "sdc": TEXT, "spef": TEXT, "journal": b"entry 1\nentry 2\n", "script1": b"take\ntake"}
+HEAD, LAST = b"journal 1 1\nentry 1 session 2 edits 1\nremove_net n\n", b"final 1 setup none 0.000 hold -1.500 -3.000\n"
+ROWS = b"session 1 rows 3\n1 0 slew 4.000\n2 0 path setup q slack 1.000 credit none from clk rise to c fall nodes 1\nq rise 3.000\n3 1 at 2 c rise 1.000 c fall 2.000\n"
+GOOD = HEAD + ROWS + b"session 2 rows 2\n1 1 accepted\n2 1 worst 1\nq 1.000\n" + LAST
+
+
+def is_answer(status, out, err=b""):
+    try:
+        trials.check_answer(trials.Ran(status, out, err, 0), DOCUMENTS, 2, False)
+    except trials.Deviates:
+        return False
+    return True
+
+
+class Answers(unittest.TestCase):
+    def test_outputs(self):
+        self.assertTrue(is_answer(0, GOOD))
+        self.assertTrue(is_answer(1, GOOD.replace(b"1 1 accepted", b"1 1 refused E11 a:Z b:A").replace(b"session 2 edits", b"session 1 edits")))
+        for old, new in ((b"1 1 accepted", b"1 1 refused E5 n"), (b"rows 3", b"rows 2"), (b"nodes 1", b"nodes 2"), (b"worst 1", b"worst 2"), (b"at 2", b"at 1"),
+                         (b"3 1 at", b"3 2 at"), (b"1 0 slew", b"1 1 slew"), (b"4.000", b"4.0"), (b"final 1", b"final 0"), (b"edits 1", b"edits 2"),
+                         (b"session 2 edits", b"session 3 edits"), (b"accepted", b"N1"), (LAST, b""), (LAST, LAST + b"more\n"), (LAST, LAST[:-1])):
+            self.assertIn(old, GOOD)
+            self.assertFalse(is_answer(0, GOOD.replace(old, new)), new)
+        self.assertFalse(is_answer(1, GOOD))
+        self.assertFalse(is_answer(0, GOOD, b"a word"))
+
+    def test_faults(self):
+        for line in (b"early L10 10", b"sdc S6 0", b"spef P5 3", b"script1 C2 2", b"journal J5 0", b"journal J4 2 E3 x", b"design E11 a b", b"design E16 net n",
+                     b"design E17 pins x", b"design E3 c"):
+            self.assertTrue(is_answer(3, b"fault " + line + b"\n"), line)
+        for line in (b"early L11 0", b"early L1 11", b"early V1 0", b"sdc S7 0", b"sdc S1", b"late L1 0", b"script1 C1 3", b"script1 C1 0", b"script2 C1 1", b"journal J4 3 E3 x",
+                     b"journal J4 1", b"design E11 a", b"design E16 n", b"design E18 x", b"design N2", b"sdc N1 0", b"sdc S1 0\nmore"):
+            self.assertFalse(is_answer(3, b"fault " + line + b"\n"), line)
+
+    def test_other_statuses(self):
+        for status, out in ((2, b"fault words\n"), (4, b"fault shelf a b too_long\n"), (5, b"jour"), (6, b"")):
+            self.assertTrue(is_answer(status, out), out)
+        for status, out in ((2, b""), (4, b"fault shelf a gone\n"), (6, b"j"), (7, b""), (-11, b""), (None, b""), (127, b""), (70, b"")):
+            self.assertFalse(is_answer(status, out), status)
+
+
+class Damages(unittest.TestCase):
+    def test_same_seed_gives_same_documents(self):
+        designs = trials.gate_designs()
+        first, again, other = ([damaged_documents.Trial(designs, seed, it).files for it in range(40)] for seed in (1, 1, 2))
+        self.assertEqual(first, again)
+        self.assertNotEqual(first, other)
+
+    def test_each_document_is_damaged(self):
+        designs = damaged_documents.all_designs(1)
+        tried = {(it.design.name, it.role) for it in (damaged_documents.Trial(designs, 1, number) for number in range(8 * len(designs)))}
+        self.assertEqual(tried, {(it.name, role) for it in designs for role, _ in it.roles()})
+
+
+class Trials(unittest.TestCase):
+    def setUp(self):
+        self.folder = pathlib.Path(tempfile.mkdtemp())
+        self.addCleanup(shutil.rmtree, self.folder)
+
+    def trial(self, name, *words):
+        return common.run(sys.executable, common.TOP / "bench" / f"{name}.py", *words, cwd=self.folder)
+
+    def fake(self, line):
+        program = self.folder / "fake"
+        program.write_text(f"#!/bin/sh\n{line}\n")
+        program.chmod(0o755)
+        return program
+
+    def test_wrong_programs_are_found(self):
+        for line in ("kill -SEGV $$", "echo fault early L1 99999; exit 3"):
+            status, out, _ = self.trial("damaged_documents", "--program", self.fake(line), "--count", "1", "--keep", "kept")
+            self.assertEqual(status, 1, out)
+            self.assertIn("again: bench/damaged_documents.py --seed 1 --only 0", out)
+            self.assertTrue((self.folder / "kept" / "why").exists())
+        self.assertEqual(self.trial("real_devices", "--program", self.fake("exit 6"), "--short")[0], 1)
+
+    @common.needs_program
+    def test_damaged_documents(self):
+        status, out, err = self.trial("damaged_documents", "--program", common.PROGRAM, "--count", "50")
+        self.assertEqual((status, err), (0, ""), out)
+        self.assertIn("50 damaged documents, each with a documented answer", out)
+
+    @common.needs_program
+    def test_real_devices(self):
+        status, out, err = self.trial("real_devices", "--program", common.PROGRAM, "--short")
+        self.assertEqual((status, err), (0, ""), out)
+        self.assertIn("each as README.md says", out)
+
+
+if __name__ == "__main__":
+    unittest.main()
