@@ -1,5 +1,5 @@
 #!/usr/bin/env python3
-"""Compares a built program with the plain timer of reference_timer.py: bench/compare.py PROGRAM FIRST COUNT [SESSIONS].
+"""Compares a built program with the plain timer of reference_timer.py: bench/compare.py PROGRAM FIRST COUNT [SESSIONS | paths | drafts].
 
 Each seed from FIRST on gives a random design of 25 to 1,200 cells, with or without parasitics, and a script of ten
 random ECOs with reports between; both outputs have to be the same, byte for byte. Where they differ, the documents and
@@ -7,17 +7,28 @@ both outputs are kept in a folder compare-SEED of the caller's folder.
 
 With SESSIONS, 2 to 16, there are so many such scripts, each written for the design as it was read, so that some ECOs are
 refused for what another session did. The output is then checked by tools/check_sessions.py: each answer has to be the one
-that the program gives one session over the journal, and, but for refusals, the one that the plain timer gives."""
-import pathlib, random, subprocess, sys, tempfile
+that the program gives one session over the journal, and, but for refusals, the one that the plain timer gives.
+
+With the word paths, designs are those of small_design.py, and one in five a random design of 25 to 300 cells; their scripts ask mostly for
+paths through pins and for the worst paths of endpoints.
+
+With the word drafts, designs are those of small_design.py, and one in eight a random design of 25 to 120 cells; their scripts are those of
+draft_scripts.py: drafts, advice and ECOs, of which many are refused, and now and then a fault of the script. Of a refusal that may name
+one of several loops or overflows (E11, E16) the code alone has to be the same."""
+import pathlib, random, re, subprocess, sys, tempfile
 
 HERE = pathlib.Path(__file__).resolve().parent
 sys.path[:0] = [str(HERE), str(HERE.parent / "tools")]
 import check_sessions
 import design
+import draft_scripts
 import read_answers
+import small_design
 
 # cells that stand for each other
 
+NO_ANSWERS = {"no", "refused", "not_yet"}
+FREE = re.compile(r"(?m)^((?:\d+ \d+ )?refused E1[16]) .*$")
 SAME = [["INV_X1", "INV_X4", "BUF_X2", "BUF_X4", "CLKBUF_X8"], ["NAND2_X1", "NAND2_X2", "NOR2_X1", "XOR2_X1"], ["AOI21_X1", "OAI21_X1"]]
 
 
@@ -47,6 +58,17 @@ def rc(r, net, driver, sinks):
             hub = s
     return " ".join(words + items)
 
+def walk_to(r, end, sinks, driver):
+    """The pins of a walk to an endpoint from a port, drawn backwards."""
+    net_of = {pin: net for net, pins in sinks.items() for pin in pins}
+    pins = [end]
+    while (net := net_of.get(pins[0], pins[0])) in driver:
+        out = driver[net]
+        inputs = sorted(pin for pin in net_of if pin.rpartition(":")[0] == out.rpartition(":")[0] and not pin.endswith(":D"))
+        pins[:0] = [r.choice(inputs), out]
+    return [net] + pins
+
+
 def script(r, n, ports):
     """Ten ECOs with reports before, between and after."""
     cells = {name: cell for cell, name, _ in n.instances}
@@ -60,7 +82,8 @@ def script(r, n, ports):
             kind = r.choice(["setup", "hold"])
             pin = r.choice([p for s in sinks.values() for p in s] + list(driver.values()))
             split, tran = r.choice(["early", "late"]), r.choice(["rise", "fall"])
-            lines.append(r.choice([f"report_path {end} {kind}", f"report_endpoint {end} {kind}", f"report_wns {kind}", f"report_tns {kind}",
+            asked = small_design.path_questions(r, lambda it: walk_to(r, it, sinks, driver), [end], list(driver.values()), 1)
+            lines.append(r.choice([*asked, *asked, f"report_path {end} {kind}", f"report_endpoint {end} {kind}", f"report_wns {kind}", f"report_tns {kind}",
                 f"report_worst {kind} {r.randrange(1, 20)}", f"report_slew {pin} {split} {tran}", f"report_at {pin} {split} {tran}"]))
     reports(12)
     for k in range(10):
@@ -96,11 +119,11 @@ def script(r, n, ports):
         reports(4)
     return lines
 
-def design_of(r, seed):
+def design_of(r, seed, sizes=(25, 60, 120, 300, 700, 1200)):
     """A random netlist with the number of its cells and of its blocks."""
     design.random = Seeded(seed)
     design.LEAF, design.BRANCH = r.choice([2, 5, 30]), r.choice([2, 4])
-    cells = r.choice([25, 60, 120, 300, 700, 1200])
+    cells = r.choice(sizes)
     n, blocks = design.build(cells)
     return n, cells, blocks
 
@@ -166,29 +189,89 @@ def beside(program, seed, count):
         return not faults
 
 
+def write_paths(d, r, seed):
+    """Writes the documents and a script about paths; gives the words of the run and the number of cells."""
+    if r.random() < 0.8:
+        return small_design.write(d, r)
+    n, cells, blocks = design_of(r, seed, [25, 60, 120, 300])
+    words = write_documents(d, r, n, blocks, 1)
+    driver = {pins[-1][1]: f"{name}:{pins[-1][0]}" for _, name, pins in n.instances}
+    ends = [f"{name}:D" for cell, name, _ in n.instances if cell == "DFF_X1"] + ["result[0]"]
+    others = [pin for pins in n.sinks.values() for pin in pins]
+    asked = small_design.path_questions(r, lambda end: walk_to(r, end, n.sinks, driver), ends, others, 40)
+    (d / "s").write_text("".join(line + "\n" for line in asked[:20]) + (d / "s").read_text() + "".join(line + "\n" for line in asked[20:]))
+    return words, cells
+
+
+def write_drafts(d, r, seed):
+    """Writes the documents and a script of drafts; gives the words of the run and the number of cells."""
+    if r.random() < 0.875:
+        small = small_design.Small(r)
+        words = small_design.write_documents(d, r, small)
+        lines = draft_scripts.script(r, draft_scripts.Names.of_small(r, small))
+        cells = len(small.cells)
+    else:
+        n, cells, blocks = design_of(r, seed, [25, 60, 120])
+        words = write_documents(d, r, n, blocks, 1)
+        driver = {pins[-1][1]: f"{name}:{pins[-1][0]}" for _, name, pins in n.instances}
+        ends = [f"{name}:D" for cell, name, _ in n.instances if cell == "DFF_X1"] + ["result[0]"]
+        joined = [(f"{name}:{pin}", net) for _, name, pins in n.instances for pin, net in pins]
+        clocks = [net for net in n.sinks if net.startswith("cl")]
+        names = draft_scripts.Names(r, {name: cell for cell, name, _ in n.instances}, joined, n.sinks, driver, ends, clocks, SAME)
+        lines = draft_scripts.tried(r, (d / "s").read_text().split("\n")[:-1], names)
+    (d / "s").write_text("".join(line + "\n" for line in lines))
+    return words, cells
+
+
+def status_of(text):
+    """The status of a run with this output: 3 where it is a fault, 1 where some row is no answer."""
+    if text.startswith("fault"):
+        return 3
+    return int(any(row.sort in NO_ANSWERS for rows in read_answers.Output(text).sessions for row in rows))
+
+
+def compared(program, seed, cells, d, words):
+    """Whether the program writes what the plain timer does."""
+    want = subprocess.run([sys.executable, HERE / "reference_timer.py"] + words, cwd=d, capture_output=True, text=True)
+    if want.returncode not in (0, 3) or want.stderr:
+        print(seed, cells, "reference:", want.stderr[-200:])
+        return False
+    got = subprocess.run([program] + words, cwd=d, capture_output=True, text=True)
+    ok = FREE.sub(r"\1", got.stdout) == FREE.sub(r"\1", want.stdout) and got.returncode == status_of(want.stdout)
+    print(seed, cells, words[5], "same" if ok else "DIFFERS", got.returncode, len(got.stdout), flush=True)
+    if not ok:
+        keep(seed, d, {"want": want.stdout, "got": got.stdout + got.stderr})
+    return ok
+
+
 def one(program, seed):
     """Whether both give the same for a seed."""
     r = random.Random(seed)
     n, cells, blocks = design_of(r, seed)
     with tempfile.TemporaryDirectory() as d:
         d = pathlib.Path(d)
-        words = write_documents(d, r, n, blocks, 1)
-        spef = words[5]
-        want = subprocess.run([sys.executable, HERE / "reference_timer.py"] + words, cwd=d, capture_output=True, text=True)
-        if want.returncode:
-            print(seed, cells, "reference:", want.stderr[-200:])
-            return False
-        got = subprocess.run([program] + words, cwd=d, capture_output=True, text=True)
-        ok = got.stdout == want.stdout and got.returncode == 0
-        print(seed, cells, spef, "same" if ok else "DIFFERS", got.returncode, len(got.stdout), flush=True)
-        if not ok:
-            keep(seed, d, {"want": want.stdout, "got": got.stdout + got.stderr})
-        return ok
+        return compared(program, seed, cells, d, write_documents(d, r, n, blocks, 1))
+
+
+def of_form(program, seed, write):
+    """Whether both give the same for the documents and the script that a form of comparison writes for a seed."""
+    with tempfile.TemporaryDirectory() as d:
+        d = pathlib.Path(d)
+        words, cells = write(d, random.Random(seed), seed)
+        return compared(program, seed, cells, d, words)
+
+
+FORMS = {"paths": write_paths, "drafts": write_drafts}
+
 
 def main():
     program, first, count = pathlib.Path(sys.argv[1]).resolve(), int(sys.argv[2]), int(sys.argv[3])
-    sessions = int(sys.argv[4]) if len(sys.argv) > 4 else 1
-    differing = [seed for seed in range(first, first + count) if not (beside(program, seed, sessions) if sessions > 1 else one(program, seed))]
+    form = sys.argv[4] if len(sys.argv) > 4 else "1"
+    def same(seed):
+        if form in FORMS:
+            return of_form(program, seed, FORMS[form])
+        return beside(program, seed, int(form)) if int(form) > 1 else one(program, seed)
+    differing = [seed for seed in range(first, first + count) if not same(seed)]
     print(f"{count - len(differing)} of {count} the same", *differing)
     sys.exit(1 if differing else 0)
 

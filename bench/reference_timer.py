@@ -1,13 +1,21 @@
 #!/usr/bin/env python3
 """A plain, slow timer, written from the definitions and not from the program, to compare the program with: reference_timer.py run
-EARLY LATE NETLIST SDC SPEF WORKERS SCRIPT. It reads what bench/design.py, bench/spef.py and the examples write, and knows no refusals."""
+EARLY LATE NETLIST SDC SPEF WORKERS SCRIPT. It reads what bench/design.py, bench/small_design.py, bench/spef.py and the examples write.
+Documents but the script, and the design that they link to, are taken to be without a fault; faults of the script, refusals of ECOs and
+questions without an answer are told (where one of several loops or overflows may be named, E11 and E16, one of them). Each ECO, tried or
+not, is followed by a whole analysis. Paths through pins and the worst paths of an endpoint come from a list of all paths to it; where that
+has more than MOST_PARTS parts of paths, from the best ways from each node."""
 import re, sys
 from decimal import Decimal
 from math import gcd, isqrt
 
-RISE, FALL = 'rise', 'fall'
+import reference_scripts
+from reference_edits import FALL, RISE, Refused, as_pin, edited, standing
+
+LIM = 10 ** 12
 ORDER = {RISE: 0, FALL: 1}
 OTHER = {RISE: FALL, FALL: RISE}
+MOST_PARTS = 20000
 
 def rnd(n, d):
     return (2 * n + d) // (2 * d)
@@ -271,7 +279,7 @@ class Con:
 
 def read_sdc(text, units):
     c = Con()
-    c.clocks, c.inputs, c.outputs, c.slews, c.loads = {}, {}, {}, {}, {}
+    c.clocks, c.inputs, c.outputs, c.slews, c.loads, c.exceptions = {}, {}, {}, {}, {}, []
     c.derate = {(s, k): 1000000 for s in ('early', 'late') for k in ('cell', 'net')}
     tt, ct = units
     text = text.replace('\\\n', ' ')
@@ -286,8 +294,14 @@ def read_sdc(text, units):
             w = w[1:-1] if w.startswith('{') else w
             return w.split()
         cmd, rest = words[0], words[1:]
+        def exception_objs(w):
+            """The objects of a word of an exception, each its kind and its name."""
+            m = w and re.match(r'\[get_(\w+)s ', w)
+            kind = m.group(1) if m else 'any'
+            return None if w is None else [(kind, as_pin(x) if kind == 'pin' else x) for x in objs(w)]
         opts, plain, i = {}, [], 0
-        valued = {'create_clock': ('-period', '-name', '-waveform'), 'set_units': ('-time', '-capacitance', '-resistance', '-voltage', '-current')}.get(cmd, ('-clock',))
+        valued = {'create_clock': ('-period', '-name', '-waveform'), 'set_units': ('-time', '-capacitance', '-resistance', '-voltage', '-current'),
+                  'set_false_path': ('-from', '-to'), 'set_multicycle_path': ('-from', '-to')}.get(cmd, ('-clock',))
         while i < len(rest):
             w = rest[i]
             if w.startswith('-') and not re.match(r'-[\d.]', w):
@@ -336,6 +350,11 @@ def read_sdc(text, units):
             for s in ss:
                 for k in ks:
                     c.derate[s, k] = dec(plain[0], 6)
+        elif cmd == 'set_false_path':
+            kinds = {k for k in ('setup', 'hold') if '-' + k in opts} or {'setup', 'hold'}
+            c.exceptions.append((kinds, None, exception_objs(opts.get('-from')), exception_objs(opts.get('-to'))))
+        elif cmd == 'set_multicycle_path':
+            c.exceptions.append(({'hold' if '-hold' in opts else 'setup'}, int(plain[0]), exception_objs(opts.get('-from')), exception_objs(opts.get('-to'))))
         elif cmd in ('current_design', 'set_propagated_clock', 'set'):
             pass
         else:
@@ -343,6 +362,9 @@ def read_sdc(text, units):
     return c
 
 # ---------------------------------------------------------------- SPEF
+PASSED = ('*PORTS', '*PHYSICAL_PORTS', '*POWER_NETS', '*GROUND_NETS')
+ATTRIBUTES = ('*C', '*L', '*S', '*D')
+
 def read_spef(text):
     text = re.sub(r'//[^\n]*|/\*.*?\*/', ' ', text, flags=re.S)
     lines = [l.split() for l in text.split('\n') if l.strip()]
@@ -352,6 +374,8 @@ def read_spef(text):
         return re.sub(r'\\([^A-Za-z0-9])', r'\1', w)
     def name(w):
         return nm[w] if w in nm else unesc(w)
+    def fits(w):
+        return w[0] != '*' or w in ATTRIBUTES or all(re.fullmatch(r'\*\d+|[^*].*', it) for it in w.rsplit(delim, 1))
     rcs, net, part, sec = {}, None, None, 'head'
     def node(w):
         if w in nm or delim not in w:
@@ -363,6 +387,8 @@ def read_spef(text):
         return ('p', a + ':' + unesc(b))
     for w in lines:
         k = w[0]
+        if sec == 'ports' and k not in ('*NAME_MAP', '*D_NET', *PASSED) and not all(map(fits, w)):
+            raise SystemExit('spef: ' + ' '.join(w))
         if k == '*C_UNIT':
             cu = {'FF': 3, 'PF': 6}[w[2]]
             assert w[1] == '1'
@@ -373,7 +399,7 @@ def read_spef(text):
             delim = w[1]
         elif k == '*NAME_MAP':
             sec = 'map'
-        elif k == '*PORTS':
+        elif k in PASSED:
             sec = 'ports'
         elif k == '*D_NET':
             sec = 'net'
@@ -414,11 +440,33 @@ class Design:
         self.ports, self.nets, self.insts = mod
         self.con, self.rcs = con, rcs
 
+    def copy(self):
+        return Design(self.lib['early'], self.lib['late'], (self.ports, dict(self.nets), dict(self.insts)), self.con, dict(self.rcs))
+
+class TooMany(Exception):
+    """There are too many paths to list."""
+
 class Timing:
     def __init__(self, d):
-        self.d = d
+        self.d, self.beyond = d, []
         self.build()
         self.propagate()
+
+    def within(self, value, place, name):
+        """Notes a place where a computed value leaves its limit."""
+        if abs(value) > LIM:
+            self.beyond.append(place + ' ' + name)
+        return value
+
+    def overflow(self):
+        """A place where a value leaves its limit that is computed from none that does, or none: the first that is met."""
+        if not self.beyond:
+            self.required()
+            for p in self.endpoints():
+                for node in ((p, RISE), (p, FALL)):
+                    for kind in ('setup', 'hold'):
+                        self.tests(node, kind)
+        return self.beyond[0] if self.beyond else None
 
     def pin_net(self, p):
         d = self.d
@@ -513,7 +561,7 @@ class Timing:
                     total = sum(self.cap_of(p, split) for p in self.netpins[n] if p != dr or rc is not None)
                     if rc is not None:
                         total += rc['lump'] + sum(c for _, c in rc['caps'])
-                    self.load[dr, split] = total
+                    self.load[dr, split] = self.within(total, 'net', n)
                     for p in self.netpins[n]:
                         self.wire[p, split] = (0, 0)
                     continue
@@ -549,10 +597,11 @@ class Timing:
                 y, r = parent[x]
                 out[x] = out[y] + r * down[x]
             return out
+        self.within(sum(r for _, _, r in rc['ress']), 'net', n)
         raw = accumulate(lambda x: cap.get(x, 0))
-        delay = {x: rnd(v, 10**6) for x, v in raw.items()}
+        delay = {x: self.within(rnd(v, 10**6), 'net', n) for x, v in raw.items()}
         raw2 = accumulate(lambda x: cap.get(x, 0) * delay[x])
-        self.load[dr, split] = sum(cap.values()) + rc['lump']
+        self.load[dr, split] = self.within(sum(cap.values()) + rc['lump'], 'net', n)
         for p in self.netpins[n]:
             x = ('p', p)
             beta = rnd(raw2[x], 10**6)
@@ -570,7 +619,7 @@ class Timing:
             load = 0
         for i, k in info:
             arc = self.arc(i, k, split)
-            dl, sl = look_up(arc[5], slew, load), look_up(arc[6], slew, load)
+            dl, sl = (self.within(look_up(tab, slew, load), 'pin', b[0]) for tab in arc[5:7])
             if best is None:
                 best = (dl, sl)
             else:
@@ -633,15 +682,15 @@ class Timing:
             if a not in self.slew[split]:
                 continue
             raw, sl = self.raw(kind, info, split, a, b, self.slew[split][a])
-            delay = rnd(raw * con.derate[split, 'net' if kind == 'net' else 'cell'], 10**6)
+            delay = self.within(rnd(raw * con.derate[split, 'net' if kind == 'net' else 'cell'], 10**6), 'pin', b[0])
             self.delay[split][a, b] = delay
             slew = sl if slew is None else f(slew, sl)
             for e, v in self.at[split].get(a, {}).items():
                 at[e] = v + delay if e not in at else f(at[e], v + delay)
         if slew is not None:
-            self.slew[split][b] = slew
+            self.slew[split][b] = self.within(slew, 'pin', b[0])
         if at:
-            self.at[split][b] = at
+            self.at[split][b] = {e: self.within(v, 'pin', b[0]) for e, v in at.items()}
 
     # tests: (kind, clock pin node or None, capture edge, capture arrival early/late, needed)
     def tests(self, node, kind):
@@ -662,7 +711,7 @@ class Timing:
                     ds = self.slew['late' if kind == 'setup' else 'early'].get(node)
                     if cs is None or ds is None:
                         continue
-                    v = look_up(tab, cs, ds)
+                    v = self.within(look_up(tab, cs, ds), 'pin', p)
                     need[c] = v if c not in need else max(need[c], v)
             for c, v in need.items():
                 early, late = self.at['early'].get(c, {}), self.at['late'].get(c, {})
@@ -674,6 +723,40 @@ class Timing:
                 out.append(dict(clockpin=None, edge=(o[0], RISE), arrival=0, need=o[1] if kind == 'setup' else -o[1]))
         return out
 
+    def required(self):
+        """The required times of each node by split, for each launch edge that arrives there."""
+        if not hasattr(self, '_r'):
+            ends = set(self.endpoints())
+            self._r = {split: self.required_on(split, kind, ends) for split, kind in (('early', 'hold'), ('late', 'setup'))}
+        return self._r
+
+    def required_on(self, split, kind, ends):
+        f, out = min if split == 'late' else max, {}
+        for n in reversed(self.order):
+            times = {}
+            for e in self.at[split].get(n, {}):
+                if n[0] in ends:
+                    found = [self.latest(kind, test, e) for test in self.tests(n, kind)]
+                else:
+                    after = [b for b, _, _ in self.arcs_out.get(n, []) if b[0] not in self.network or n[0] in self.network]
+                    found = [out[b][e] - self.delay[split][n, b] for b in after if e in out.get(b, {})]
+                if found:
+                    times[e] = self.within(f(found), 'pin', n[0])
+            out[n] = times
+        return out
+
+    def latest(self, kind, test, launch):
+        """The time that gives a test slack 0, without credit and exceptions."""
+        sep, clk = self.separation(launch, test['edge'], kind), self.d.con.clocks[test['edge'][0]]
+        if kind == 'setup':
+            return test['arrival'] + sep - test['need'] - clk['setup']
+        return test['arrival'] + sep + test['need'] + clk['hold']
+
+    def graph_slack(self, node, split):
+        """The least over launch edges of required less arrival, or the other way round, or none."""
+        sign, rat = 1 if split == 'late' else -1, self.required()[split].get(node, {})
+        return min((sign * (v - self.at[split][node][e]) for e, v in rat.items()), default=None)
+
     def separation(self, launch, capture, kind):
         cs = self.d.con.clocks
         l, c = cs[launch[0]], cs[capture[0]]
@@ -681,6 +764,36 @@ class Timing:
         off = (c['rise'] if capture[1] == RISE else c['fall']) - (l['rise'] if launch[1] == RISE else l['fall'])
         s = (off - 1) % g + 1
         return s if kind == 'setup' else s - g
+
+    def among(self, objects, pin, clock):
+        """Whether a list of objects of an exception names a pin, its instance or a clock; an absent one always does."""
+        cell = pin.rsplit(':', 1)[0] if ':' in pin else None
+        def names(kind, name):
+            if kind == 'clock' or kind == 'any' and name in self.d.con.clocks:
+                return name == clock
+            if kind == 'any':
+                return name == cell or as_pin(name) == pin or name == pin and cell is None
+            return name == (cell if kind == 'cell' else pin)
+        return objects is None or any(names(*x) for x in objects)
+
+    def moved(self, launch_pin, launch, end_pin, capture, kind):
+        """The separation with multicycles, or none where a false path removes the test."""
+        cycles, cs = {'setup': 1, 'hold': 0}, self.d.con.clocks
+        for kinds, count, start, end in self.d.con.exceptions:
+            if self.among(start, launch_pin, launch[0]) and self.among(end, end_pin, capture[0]):
+                if count is None and kind in kinds:
+                    return None
+                for k in kinds if count is not None else ():
+                    cycles[k] = count
+        s = self.separation(launch, capture, kind) + (cycles['setup'] - 1) * cs[capture[0]]['period']
+        return s if kind == 'setup' else s - cycles['hold'] * cs[launch[0]]['period']
+
+    def slack(self, kind, test, sep, credit, length):
+        """The slack of a path of this length."""
+        clk = self.d.con.clocks[test['edge'][0]]
+        if kind == 'setup':
+            return test['arrival'] + sep - test['need'] - clk['setup'] + credit - length
+        return length - test['arrival'] - sep - test['need'] - clk['hold'] + credit
 
     def walk(self, n):
         """The network walk that ends at the node."""
@@ -748,17 +861,14 @@ class Timing:
                         starts.append((e, [n], v))
                 for e, w, v in starts:
                     for test in tests:
-                        sep = self.separation(e, test['edge'], kind)
-                        clk = self.d.con.clocks[test['edge'][0]]
+                        sep = self.moved(n[0], e, end_pin, test['edge'], kind)
+                        if sep is None:
+                            continue
                         credit = self.credit(w, test) if n[0] in self.network else 0
-                        total = v - sign * suf[n][0]
-                        if kind == 'setup':
-                            slack = test['arrival'] + sep - test['need'] - clk['setup'] + credit - total
-                        else:
-                            slack = total - test['arrival'] - sep - test['need'] - clk['hold'] + credit
+                        slack = self.slack(kind, test, sep, credit, v - sign * suf[n][0])
                         lst = tuple(key(x) for x in w[:-1]) + suf[n][1] if want_path else ()
-                        c = (slack, lst, credit, e, test['edge'], v)
-                        if best is None or c[:2] < best[:2]:
+                        c = (slack, lst, key(test['clockpin']) if test['clockpin'] else (), credit, e, test['edge'])
+                        if best is None or c[:3] < best[:3]:
                             best = c
         return best
 
@@ -804,7 +914,9 @@ class Timing:
         b = self.worst(pin, kind, True)
         if b is None:
             return 'path none'
-        slack, lst, credit, e, cap, _ = b
+        return self.path_lines(pin, kind, *b)
+
+    def path_lines(self, pin, kind, slack, lst, _, credit, e, cap):
         split = 'late' if kind == 'setup' else 'early'
         nodes = [(x[0].decode(), (RISE, FALL)[x[1]]) for x in lst]
         time = self.at[split][nodes[0]][e]
@@ -815,60 +927,150 @@ class Timing:
             lines.append('%s %s %s' % (*n, ps(time)))
         return '\n'.join(lines)
 
+    # paths one by one: each list of nodes from a start to a node of an endpoint, joined by arcs
+    def start_of(self, n, split):
+        """The launch edge and the time of a path that begins at the node, or none."""
+        p, t = n
+        if p in self.clock_ports:
+            return (self.clock_ports[p], t), 0
+        if self.d.ports.get(p) == 'input' and (p, split, t) in self.d.con.inputs:
+            clock, delay = self.d.con.inputs[p, split, t]
+            return (clock, RISE), delay
+        return None
+
+    def lists_to(self, end, split):
+        """All lists of nodes from a start to the node."""
+        parts, seen = [(end,)], 0
+        while parts:
+            part = parts.pop()
+            seen += 1
+            if seen > MOST_PARTS:
+                raise TooMany
+            if self.start_of(part[0], split):
+                yield part
+            parts += [(a,) + part for a in {a for a, _, _ in self.ins(part[0])} if (a, part[0]) in self.delay[split]]
+
+    def all_paths(self, end_pin, kind):
+        """All tested paths to an endpoint, each by its slack, its nodes and the test that counts, in order."""
+        split = 'late' if kind == 'setup' else 'early'
+        key = lambda n: (n[0].encode(), ORDER[n[1]])
+        found = []
+        for end in ((end_pin, RISE), (end_pin, FALL)):
+            tests = self.tests(end, kind)
+            for nodes in self.lists_to(end, split) if tests else ():
+                launch, time = self.start_of(nodes[0], split)
+                length = time + sum(self.delay[split][step] for step in zip(nodes, nodes[1:]))
+                launch_pin = [n[0] for k, n in enumerate(nodes) if k == 0 or n[0] in self.network][-1]
+                by_test = []
+                for test in tests:
+                    sep = self.moved(launch_pin, launch, end_pin, test['edge'], kind)
+                    if sep is not None:
+                        credit = self.credit(nodes, test) if launch_pin in self.network else 0
+                        clock = key(test['clockpin']) if test['clockpin'] else ()
+                        by_test.append((self.slack(kind, test, sep, credit, length), tuple(map(key, nodes)), clock, credit, launch, test['edge']))
+                if by_test:
+                    found.append(min(by_test))
+        return sorted(found)
+
+    @staticmethod
+    def passes(pins, path):
+        """Whether a path has nodes of the pins, each behind the one before."""
+        rest = iter(path[1])
+        return all(any(n[0].decode() == pin for n in rest) for pin in pins)
+
+    # many paths: the best ways from each node to the end
+    def best_ways(self, end_pin, kind, count, pins):
+        """The worst paths to an endpoint that pass the pins in order, at most so many, as `worst` finds one: for each node, and each number
+        of pins that are still to pass before it, the best so many ways to the end."""
+        split = 'late' if kind == 'setup' else 'early'
+        key = lambda n: (n[0].encode(), ORDER[n[1]])
+        left = lambda n, todo: todo - 1 if todo and pins[todo - 1] == n[0] else todo
+        found = {}
+        for end in ((end_pin, RISE), (end_pin, FALL)):
+            tests = self.tests(end, kind)
+            if not tests:
+                continue
+            cone, sign = self.suffixes(end, split)
+            ways = {end: {left(end, len(pins)): [(0, (key(end),))]}}
+            for b in self.cone_order(cone):
+                for todo, best in ways.get(b, {}).items():
+                    best[:] = sorted(best)[:count]
+                    for a in {a for a, _, _ in self.arcs_in.get(b, [])} if b[0] not in self.network else ():
+                        dl = self.delay[split].get((a, b))
+                        if dl is not None:
+                            ways.setdefault(a, {}).setdefault(left(a, todo), []).extend((s - sign * dl, (key(a),) + l) for s, l in best)
+            for n, by_todo in ways.items():
+                if n[0] not in self.network and not self.start_of(n, split):
+                    continue
+                w = self.walk(n) if n[0] in self.network else [n]
+                launch, _ = self.start_of(w[0], split)
+                for todo, best in by_todo.items():
+                    for x in w[-2::-1]:
+                        todo = left(x, todo)
+                    for s, l in best if todo == 0 else ():
+                        lst = tuple(key(x) for x in w[:-1]) + l
+                        c = self.test_that_counts(kind, tests, end_pin, w, launch, lst, self.at[split][n][launch] - sign * s)
+                        if c:
+                            found[lst] = c
+        return sorted(found.values())[:count]
+
+    def test_that_counts(self, kind, tests, end_pin, w, launch, lst, length):
+        """A path, which begins with a walk to its launch pin, with the test that gives its least slack."""
+        by_test = []
+        for test in tests:
+            sep = self.moved(w[-1][0], launch, end_pin, test['edge'], kind)
+            if sep is not None:
+                credit = self.credit(w, test) if w[-1][0] in self.network else 0
+                clock = (test['clockpin'][0].encode(), ORDER[test['clockpin'][1]]) if test['clockpin'] else ()
+                by_test.append((self.slack(kind, test, sep, credit, length), lst, clock, credit, launch, test['edge']))
+        return min(by_test, default=None)
+
+    def worst_paths(self, pin, kind, count, pins=()):
+        """The worst paths to an endpoint that pass the pins in order, at most so many."""
+        try:
+            return [x for x in self.all_paths(pin, kind) if self.passes(pins, x)][:count]
+        except TooMany:
+            return self.best_ways(pin, kind, count, pins)
+
+    def through_text(self, pin, kind, pins):
+        found = self.worst_paths(pin, kind, 1, pins)
+        return self.path_lines(pin, kind, *found[0]) if found else 'path none'
+
+    def paths_text(self, pin, kind, count):
+        found = self.worst_paths(pin, kind, count)
+        return '\n'.join(['paths %d' % len(found)] + [self.path_lines(pin, kind, *x) for x in found])
+
+    def unknown(self, pins):
+        """The first of some pins that is not there, or none."""
+        def pins_of(i):
+            return self.d.lib['late'][self.d.insts[i][0]].pins if i in self.d.insts else {}
+        parts = ((p, *p.rpartition(':')) for p in pins)
+        return next((p for p, i, _, q in parts if p not in self.d.ports and q not in pins_of(i)), None)
+
+    def fault(self, end_pin, kind, pins=()):
+        """Why a question about an endpoint is refused, or none: a pin that is not there, no endpoint, no clock."""
+        d, gone = self.d, self.unknown((end_pin, *pins))
+        if gone:
+            return 'no Q1 ' + gone
+        if end_pin in d.ports:
+            return None if d.ports[end_pin] == 'output' else 'no Q2 ' + end_pin
+        i, q = end_pin.rsplit(':', 1)
+        tests = [t for t in d.lib['late'][d.insts[i][0]].tests if t[0] == q]
+        if not tests:
+            return 'no Q2 ' + end_pin
+        return None if any(t[4] == kind and i + ':' + t[2] in self.network for t in tests) else 'no Q3 ' + end_pin
+
 # ---------------------------------------------------------------- edits and scripts
-def edit(d, w):
-    k = w[0]
-    lib = d.lib['late']
-    if k == 'repower_gate':
-        assert set(d.insts[w[1]][1]) <= set(lib[w[2]].pins)
-        d.insts[w[1]] = [w[2], d.insts[w[1]][1]]
-    elif k == 'insert_gate':
-        assert w[1] not in d.insts and w[2] in lib
-        d.insts[w[1]] = [w[2], {}]
-    elif k == 'insert_net':
-        assert w[1] not in d.nets
-        d.nets[w[1]] = 1
-    elif k == 'connect_pin':
-        i, q = w[1].rsplit(':', 1)
-        assert d.insts[i][1].get(q) is None and w[2] in d.nets
-        d.insts[i] = [d.insts[i][0], {**d.insts[i][1], q: w[2]}]
-        d.rcs.pop(w[2], None)
-    elif k == 'disconnect_pin':
-        i, q = w[1].rsplit(':', 1)
-        n = d.insts[i][1][q]
-        d.insts[i] = [d.insts[i][0], {a: b for a, b in d.insts[i][1].items() if a != q}]
-        d.rcs.pop(n, None)
-    elif k == 'insert_buffer':
-        _, n, i, fresh, cell, *sinks = w
-        assert i not in d.insts and fresh not in d.nets
-        c = lib[cell]
-        [a] = [p for p, v in c.pins.items() if v[0] == 'input']
-        [y] = [p for p, v in c.pins.items() if v[0] == 'output']
-        d.nets[fresh] = 1
-        for s in sinks:
-            j, q = s.rsplit(':', 1)
-            assert d.insts[j][1][q] == n, s
-            d.insts[j] = [d.insts[j][0], {**d.insts[j][1], q: fresh}]
-        d.insts[i] = [cell, {a: n, y: fresh}]
-        d.rcs.pop(n, None)
-    elif k == 'set_parasitics':
-        if w[2] == 'none':
-            d.rcs.pop(w[1], None)
-        else:
-            rc = dict(caps=[], ress=[], lump=0)
-            nd = lambda x: ('n', int(x[1:])) if x.startswith('#') else ('p', x)
-            j = 2
-            while j < len(w):
-                if w[j] == 'c':
-                    rc['caps'].append((nd(w[j + 1]), int(w[j + 2])))
-                    j += 3
-                else:
-                    rc['ress'].append((nd(w[j + 1]), nd(w[j + 2]), int(w[j + 3])))
-                    j += 4
-            assert w[1] in d.nets
-            d.rcs[w[1]] = rc
-    else:
-        raise SystemExit('edit ' + k)
+def tried(t, edits):
+    """The analysis of the design that edits make of another; or they are refused."""
+    d = edited(t.d, edits)
+    fault = standing(d)
+    if fault:
+        raise Refused(fault)
+    after = Timing(d)
+    if after.overflow():
+        raise Refused('E16 ' + after.overflow())
+    return after
 
 def canonical(w):
     if w[0] != 'set_parasitics' or w[2] == 'none':
@@ -892,17 +1094,58 @@ def ask(t, w):
     if k == 'report_worst':
         s = sorted((v, p.encode()) for p, v in t.slacks(w[1]).items())[:int(w[2])]
         return '\n'.join(['worst %d' % len(s)] + ['%s %s' % (p.decode(), ps(v)) for v, p in s])
+    if k in ('report_path', 'report_endpoint', 'report_through', 'report_paths'):
+        fault = t.fault(w[1], w[2], w[3:] if k == 'report_through' else ())
+        if fault:
+            return fault
     if k == 'report_path':
         return t.path_text(w[1], w[2])
+    if k == 'report_through':
+        return t.through_text(w[1], w[2], w[3:])
+    if k == 'report_paths':
+        return t.paths_text(w[1], w[2], int(w[3]))
     if k == 'report_endpoint':
         b = t.worst(w[1], w[2])
         return 'endpoint ' + ps(b[0] if b else None)
+    if t.unknown(w[1:2]):
+        return 'no Q1 ' + w[1]
+    split, node = w[2], (w[1], w[3])
     if k == 'report_slew':
-        return 'slew ' + ps(t.slew[w[2]].get((w[1], w[3])))
-    if k == 'report_at':
-        a = t.at[w[2]].get((w[1], w[3]), {})
-        return 'at %d' % len(a) + ''.join(' %s %s %s' % (c, e, ps(a[c, e])) for c, e in sorted(a, key=lambda x: (x[0], ORDER[x[1]])))
-    raise SystemExit('report ' + k)
+        return 'slew ' + ps(t.slew[split].get(node))
+    if k == 'report_slack':
+        return 'slack ' + ps(t.graph_slack(node, split))
+    a = t.at[split].get(node, {}) if k == 'report_at' else t.required()[split].get(node, {})
+    clocks = list(t.d.con.clocks)
+    return '%s %d' % (k[7:], len(a)) + ''.join(' %s %s %s' % (c, e, ps(a[c, e])) for c, e in sorted(a, key=lambda x: (clocks.index(x[0]), ORDER[x[1]])))
+
+def drafted(t, trials):
+    """The answers of a draft over a design: the list of its designs, each with its analysis, is what the trials change."""
+    shown, answers = [t], []
+    for sort, *more in trials:
+        if sort == 'try':
+            try:
+                shown.append(tried(shown[-1], *more))
+                answers.append('tried')
+            except Refused as why:
+                answers.append('refused %s' % why)
+        elif sort == 'drop':
+            answers.append('dropped' if len(shown) > 1 else 'no_draft')
+            shown = shown[:-1] or shown
+        else:
+            answers.append(ask(shown[-1], *more))
+    return '\n'.join(['what_if %d' % len(trials)] + answers)
+
+def advised(t, kind, pairs):
+    """The first resize of greatest worst slack."""
+    best = None
+    for inst, cell in pairs:
+        try:
+            value = tried(t, [['repower_gate', inst, cell]]).wns(kind)
+        except Refused:
+            continue
+        if value is not None and (best is None or value > best[2]):
+            best = inst, cell, value
+    return 'advice %s %s %s' % (*best[:2], ps(best[2])) if best else 'advice none'
 
 def main():
     early, late, netlist, sdc, spef, _, script = sys.argv[2:9]
@@ -913,33 +1156,28 @@ def main():
     for n in d.rcs:
         assert n in d.nets, ('E2', n)
     t = Timing(d)
-    number, rows, journal, k = 0, [], [], 0
-    group = None
-    for line in open(script):
-        w = line.split()
-        if not w or w[0].startswith('#'):
-            continue
-        if w[0] == 'begin_eco':
-            group = []
-            continue
-        if group is not None and w[0] != 'commit_eco':
-            group.append(w)
-            continue
-        k += 1
-        if w[0] == 'take':
-            rows.append('%d %d taken' % (k, number))
-        elif w[0].startswith('report'):
-            rows.append('%d %d %s' % (k, number, ask(t, w)))
+    try:
+        commands = reference_scripts.read(open(script, encoding='latin-1', newline='').read())
+    except reference_scripts.Fault as why:
+        print('fault script1 %s %d' % why.args)
+        sys.exit(3)
+    number, rows, journal = 0, [], []
+    for k, (sort, *more) in enumerate(commands, 1):
+        if sort == 'change':
+            try:
+                t = tried(t, *more)
+                number += 1
+                journal.append('\n'.join(['entry %d session 1 edits %d' % (number, len(*more))] + [canonical(e) for e in more[0]]))
+                answer = 'accepted'
+            except Refused as why:
+                answer = 'refused %s' % why
+        elif sort == 'await':
+            answer = 'reached' if number >= more[0] else 'not_yet %d' % more[1]
         else:
-            edits = group if group is not None else [w]
-            group = None
-            for e in edits:
-                edit(d, e)
-            number += 1
-            t = Timing(d)
-            journal.append('\n'.join(['entry %d session 1 edits %d' % (number, len(edits))] + [canonical(e) for e in edits]))
-            rows.append('%d %d accepted' % (k, number))
-    print('\n'.join(['journal 1 %d' % number] + journal + ['session 1 rows %d' % k] + rows
+            answer = {'take': lambda: 'taken', 'ask': lambda w: ask(t, w), 'what_if': lambda trials: drafted(t, trials),
+                      'advise': lambda kind, pairs: advised(t, kind, pairs)}[sort](*more)
+        rows.append('%d %d %s' % (k, number, answer))
+    print('\n'.join(['journal 1 %d' % number] + journal + ['session 1 rows %d' % len(rows)] + rows
                     + ['final %d setup %s %s hold %s %s' % (number, ps(t.wns('setup')), ps(t.tns('setup')), ps(t.wns('hold')), ps(t.tns('hold')))]))
 
 main()

@@ -32,7 +32,9 @@ import read_answers  # noqa: E402
 GATES = {"cb": "BUF_X1", "g1": "BUF_X1", "g2": "BUF_X1", "g3": "SLW"}
 SIZES = ["BUF_X1", "BUF_X4", "BUF_T", "SLW"]
 QUESTIONS = ["report_endpoint r2:D setup", "report_endpoint o setup", "report_endpoint r2:D hold", "report_wns hold", "report_tns setup", "report_path o setup",
-             "report_path r2:D hold", "report_worst setup 3", "report_slew g1:Z late rise", "report_at r2:D late rise", "report_slack g3:A early fall"]
+             "report_path r2:D hold", "report_worst setup 3", "report_slew g1:Z late rise", "report_at r2:D late rise", "report_slack g3:A early fall",
+             "advise setup g1 BUF_X4 g2 BUF_T g3 BUF_X4", "advise hold cb BUF_X4 g1 BUF_T", "report_paths o setup 5", "report_through o setup g1:Z",
+             "begin_what_if\nrepower_gate g2 BUF_X4\nreport_path r2:D setup\nrepower_gate g3 BUF_T\nreport_wns hold\ndrop_last\nreport_wns setup\nend_what_if"]
 EACH = 25          # an ECO in so many has a question behind it
 MOST_EDITS = 1000  # of one ECO
 
@@ -106,8 +108,7 @@ class Small:
                 self.rows[row.sort] += 1
                 if row.sort in found.told_elsewhere:
                     continue
-                words = tuple(check_sessions.lines_of(check_sessions.edits_of(command)) if check_sessions.edits_of(command) else [" ".join(command.words)])
-                told = self.ask(states[row.design], words)
+                told = self.ask(states[row.design], tuple(check_sessions.asked_again(command)))
                 if check_sessions.answer(row) != told:
                     raise NotLegal(f"session {session}, row {row.command}: {check_sessions.answer(row)}, and a fresh run says {told} at design {row.design}")
 

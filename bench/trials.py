@@ -22,11 +22,14 @@ NAME = rb"[^ \n]+"
 CODES = {b"early": b"L", b"late": b"L", b"netlist": b"V", b"sdc": b"S", b"spef": b"P", b"journal": b"J"}
 LASTS = {b"L": 10, b"V": 6, b"S": 6, b"P": 5, b"C": 2, b"J": 5}
 ONE_NAME = {b"E%d" % n for n in [*range(1, 11), 12, 13, 14, 15]}
+PATH = re.compile(rb"path (?:setup|hold) %s slack %s credit %s from %s (?:rise|fall) to %s (?:rise|fall) nodes ([0-9]+)" % (NAME, TIME, TIME, NAME, NAME))
 LAUNCHES = rb"((?: %s (?:rise|fall) -?[0-9]+\.[0-9]{3})*)" % NAME
 ANSWERS = [
     rb"slew %s" % TIME, rb"slack %s" % TIME, rb"endpoint %s" % TIME, rb"wns %s" % TIME, rb"tns -?[0-9]+\.[0-9]{3}", rb"path none",
-    rb"accepted", rb"taken", rb"reached"]
-NO_ANSWERS = [rb"no Q[123] %s" % NAME, rb"not_yet [0-9]+"]
+    rb"advice none", rb"advice %s %s -?[0-9]+\.[0-9]{3}" % (NAME, NAME)]
+DONE = [rb"accepted", rb"taken", rb"reached", rb"not_yet [0-9]+"]
+TRIED = [rb"tried", rb"dropped", rb"no_draft"]
+NO_ANSWER = rb"no Q[123] %s" % NAME
 
 
 class Deviates(Exception):
@@ -138,29 +141,45 @@ def is_fault_of_design(text):
     return code in ONE_NAME and len(names) == 1
 
 
+def is_told(lines, text):
+    """Whether a text is the answer to a question; takes the lines that belong to it."""
+    launches = re.fullmatch(rb"(?:at|rat) ([0-9]+)" + LAUNCHES, text)
+    if launches and launches[2].count(b" ") != 3 * int(launches[1]):
+        raise Deviates(f"line {lines.at} of the output has another number of launch edges than it says")
+    several = re.fullmatch(rb"(paths|what_if) ([0-9]+)", text)
+    for _ in range(int(several[2]) if several else 0):
+        part = lines.take("part of an answer", rb".*")[0]
+        is_part = is_tried(lines, part) if several[1] == b"what_if" else PATH.fullmatch(part) and is_told(lines, part)
+        if not is_part:
+            raise Deviates(f"line {lines.at} of the output is no part of an answer of the documented form: {part[:120]!r}")
+    path, worst = PATH.fullmatch(text), re.fullmatch(rb"worst ([0-9]+)", text)
+    if path:
+        lines.many(path[1], "node of a path", rb"%s (?:rise|fall) -?[0-9]+\.[0-9]{3}" % NAME)
+    if worst:
+        lines.many(worst[1], "endpoint of a list", rb"%s -?[0-9]+\.[0-9]{3}" % NAME)
+    return bool(launches or several or path or worst) or any(re.fullmatch(it, text) for it in ANSWERS)
+
+
+def is_refused(text):
+    return text.startswith(b"refused ") and is_fault_of_design(text[8:])
+
+
+def is_tried(lines, text):
+    """Whether a text is the answer to a trial of a draft; takes the lines that belong to it."""
+    if text.startswith((b"paths ", b"what_if ", b"advice ")):
+        return False
+    return any(re.fullmatch(it, text) for it in [*TRIED, NO_ANSWER]) or is_refused(text) or is_told(lines, text)
+
+
 def check_row(lines, number, last):
     """One row with the lines that belong to it; gives its design, and whether it is an answer."""
     row = lines.take("row", rb"([0-9]+) ([0-9]+) (.*)")
     if int(row[1]) != number or int(row[2]) < last:
         raise Deviates(f"line {lines.at} of the output: row {number}, of design {last} or later, is {row[0][:80]!r}")
     text, design = row[3], int(row[2])
-    launches = re.fullmatch(rb"(?:at|rat) ([0-9]+)" + LAUNCHES, text)
-    if launches:
-        if launches[2].count(b" ") != 3 * int(launches[1]):
-            raise Deviates(f"line {lines.at} of the output has another number of launch edges than it says")
-        return design, True
-    path = re.fullmatch(rb"path (?:setup|hold) %s slack %s credit %s from %s (?:rise|fall) to %s (?:rise|fall) nodes ([0-9]+)"
-                        % (NAME, TIME, TIME, NAME, NAME), text)
-    if path:
-        lines.many(path[1], "node of a path", rb"%s (?:rise|fall) -?[0-9]+\.[0-9]{3}" % NAME)
-        return design, True
-    worst = re.fullmatch(rb"worst ([0-9]+)", text)
-    if worst:
-        lines.many(worst[1], "endpoint of a list", rb"%s -?[0-9]+\.[0-9]{3}" % NAME)
-        return design, True
-    if any(re.fullmatch(it, text) for it in ANSWERS):
-        return design, True
-    if any(re.fullmatch(it, text) for it in NO_ANSWERS) or text.startswith(b"refused ") and is_fault_of_design(text[8:]):
+    if any(re.fullmatch(it, text) for it in DONE) or is_told(lines, text):
+        return design, not text.startswith(b"not_yet ")
+    if re.fullmatch(NO_ANSWER, text) or is_refused(text):
         return design, False
     raise Deviates(f"line {lines.at} of the output is no row of the documented form: {row[0][:120]!r}")
 
@@ -260,7 +279,10 @@ ALL_COMMANDS = one_script(
     "report_endpoint o hold", "report_path o setup", "report_wns hold", "report_tns setup", "report_worst setup 3", "take", "await 0 3",
     "repower_gate g1 BUF_T", "insert_buffer c1 cb2 c2 BUF_X1 r2:CK", "set_parasitics n2 r g1:Z #1 1000 r #1 g2:A 500 r g2:A g3:A 2000 c #1 9000",
     "set_parasitics n2 none", "begin_eco", "insert_gate r3 DFF", "insert_net z", "connect_pin r3:CK g", "connect_pin r3:Q z", "commit_eco",
-    "begin_eco", "disconnect_pin r3:CK", "disconnect_pin r3:Q", "remove_gate r3", "remove_net z", "commit_eco", "report_worst hold 2")
+    "begin_eco", "disconnect_pin r3:CK", "disconnect_pin r3:Q", "remove_gate r3", "remove_net z", "commit_eco", "report_worst hold 2",
+    "report_through r2:D setup g1:Z", "report_paths o setup 3", "advise setup cb BUF_X4 g2 BUF_X4", "begin_what_if", "repower_gate g2 BUF_X4",
+    "report_path r2:D setup", "begin_eco", "repower_gate g1 BUF_X4", "repower_gate cb BUF_X4", "commit_eco", "report_worst setup 2", "drop_last",
+    "report_rat g1:Z late rise", "end_what_if", "report_wns setup")
 JOURNAL = b"""journal 1 1
 entry 1 session 1 edits 1
 repower_gate g2 BUF_X4

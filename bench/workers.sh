@@ -19,7 +19,7 @@ fi
 
 cd "$top"
 git ls-files -z crates crates.txt HANDLES | xargs -0 cp --parents -t "$work"
-echo 'workers_bench: sta_units sta_outside timing_defs sta_text liberty_syntax liberty_cells verilog_netlist sdc_reader spef_reader cow_table rc_tree nldm_lookup path_rules netlist_store store_pins levelizer pin_graph design_link session_engine node_rows node_tests level_workers arrival_engine required_engine affected_cone' >> "$work/crates.txt"
+echo 'workers_bench: sta_units sta_outside timing_defs sta_text liberty_syntax liberty_cells verilog_netlist sdc_reader spef_reader cow_table rc_tree nldm_lookup path_rules netlist_store store_pins levelizer pin_graph design_link eco_analysis node_rows node_tests level_workers arrival_engine required_engine affected_cone' >> "$work/crates.txt"
 mkdir -p "$work/crates/workers_bench/src" "$work/crates/workers_bench/proofs" "$work/crates/workers_bench/data"
 data=$work/crates/workers_bench/data
 
@@ -90,7 +90,7 @@ use netlist_store::Store;
 use pin_graph::Graph;
 use required_engine::Required;
 use sdc_reader::read_constraints;
-use session_engine::sound_graph;
+use eco_analysis::sound_graph;
 use spef_reader::read_parasitics;
 use sta_outside::NoGate;
 use sta_units::Memory;

@@ -34,17 +34,29 @@ def in_order(edit):
     return " ".join([name, words[0], *items["c"], *items["r"], *words[at:]])
 
 
+SORTS = {"report_through": "path", "begin_what_if": "what_if", "advise": "advice"}
+
+
 def edits_of(command):
     """The edits of an ECO's command, each by its words, or none where it is no ECO."""
     name = command.words[0]
-    if name == "begin_eco":
-        return [in_order(it) for it in command.lines[1:-1]]
-    is_other = name in ("take", "await") or name.startswith("report_")
-    return [] if is_other else [in_order(" ".join(command.words))]
+    is_other = name in ("take", "await") or name in SORTS or name.startswith("report_")
+    return [] if is_other else [in_order(it) for it in command.edits()]
+
+
+def sort_of(question):
+    """What the answer to a question begins with."""
+    return SORTS.get(question, question.removeprefix("report_"))
 
 
 def lines_of(edits):
     return edits if len(edits) == 1 else ["begin_eco", *edits, "commit_eco"]
+
+
+def asked_again(command):
+    """The lines that ask a command again: those of an ECO with its edits in the order of the journal."""
+    edits = edits_of(command)
+    return lines_of(edits) if edits else [" ".join(it.split()) for it in command.lines]
 
 
 def answer(row):
@@ -100,7 +112,7 @@ class Sessions:
             reached = row.sort == "reached" and row.design >= number
             fits = reached or row.sort == "not_yet" and row.design < number and row.words == [str(looks)]
         elif not edits:
-            fits = row.sort in (name.removeprefix("report_"), "no") and last in (None, row.design)
+            fits = row.sort in (sort_of(name), "no") and last in (None, row.design)
         elif row.sort == "accepted":
             fits = self.output.first < row.design <= self.newest and self.eco(row.design) == edits and row.design != last
         else:
@@ -114,8 +126,7 @@ class Sessions:
         for session, (commands, rows) in enumerate(zip(self.scripts, self.output.sessions), 1):
             for command, row in zip(commands, rows):
                 if row.sort not in self.told_elsewhere:
-                    lines = tuple(lines_of(edits_of(command)) if edits_of(command) else [" ".join(command.words)])
-                    found.setdefault((row.design, lines), []).append((session, row))
+                    found.setdefault((row.design, tuple(asked_again(command))), []).append((session, row))
         return found
 
     def compare(self, run):

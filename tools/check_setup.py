@@ -335,7 +335,7 @@ def check_parasitics(findings, joined, name):
     findings.add("nets of the SPEF that the netlist lacks (E2)", sorted(it for it in spef.nets if it not in joined.nets))
     findings.add("nets whose parasitics do not fit (E14, E15)", sorted(filter(None, (misfit(joined, it) for it in spef.nets.values()))))
     odd = [f"{name}:{documents.line_and_column(text, offset)[0]}: {word} behind {section}" for word, offset, section in spef.odd_words]
-    findings.add("words that begin with * and are passed over with what follows", odd)
+    findings.add("words of the SPEF that begin with * and fit no section (P1)", odd)
     findings.add("sections of the SPEF that are passed over", [f"{section}, {count} words" for section, count in spef.passed_over.items()], True)
 
 

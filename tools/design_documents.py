@@ -506,6 +506,8 @@ SECTIONS = {"*NAME_MAP", "*PORTS", "*PHYSICAL_PORTS", "*POWER_NETS", "*GROUND_NE
             "*DEFINE", "*PDEFINE", "*VARIATION_PARAMETERS"}
 PASSED_OVER = {"*PORTS", "*PHYSICAL_PORTS", "*POWER_NETS", "*GROUND_NETS"}
 PARTS = {"*CONN", "*CAP", "*RES", "*END", "*INDUC"}
+ATTRIBUTES = {"*C", "*L", "*S", "*D"}
+REFERENCE = re.compile(r"\*\d+|[^*].*", re.S)
 SPEF_VALUE = re.compile(r"[-+]?[\d.][\d.eE:+-]*")
 CAP_UNITS, RES_UNITS = {"PF": 1000000, "FF": 1000}, {"OHM": 1000, "KOHM": 1000000}
 
@@ -570,7 +572,7 @@ class Spef:
             self.at += 1
         elif section in PASSED_OVER:
             self.passed_over[section] = self.passed_over.get(section, 0) + 1
-            if re.match(r"\*[A-Za-z_]", word) and word not in ("*C", "*L", "*S", "*D", "*N", "*I", "*P"):
+            if word not in ATTRIBUTES and word.startswith("*") and not all(map(REFERENCE.fullmatch, word.rsplit(self.delimiter, 1))):
                 self.odd_words.append((word, offset, section))
         elif section is None:
             self.header(word)

@@ -116,7 +116,7 @@ def hints(role, code, place, text, line):
         if re.match(pattern, COMMENTS.sub("", text[:100000])) and role.rstrip("0123456789") not in roles:
             return [f"  the file looks like {kind}, and stands in the place of {role}: the order is run {ORDER}"]
     if role.startswith("script"):
-        return [f"  {it}" for it in script_hints(code, line)]
+        return [f"  {it}" for it in script_hints(code, line, text.split("\n")[:place - 1])]
     if role == "sdc":
         return [f"  {it}" for it in sdc_hints(code, text, place)]
     if role == "journal":
@@ -174,18 +174,53 @@ def bracket_hints(text):
 
 
 PINS = {"report_slew", "report_at", "report_rat", "report_slack"}
-KIND_WORDS = {"report_wns": 1, "report_tns": 1, "report_endpoint": 2, "report_path": 2, "report_worst": 2}
+KIND_WORDS = {"report_wns": 1, "report_tns": 1, "report_endpoint": 2, "report_path": 2, "report_worst": 2, "report_paths": 3}
+BEHIND_PIN = ("report_endpoint", "report_path", "report_paths", "report_through")
+COUNTED = ("report_worst", "report_paths")
+MOST_PINS, MOST_PAIRS, MOST_TRIALS = 16, 100, 100
 EDITS = {"repower_gate": 2, "insert_gate": 2, "remove_gate": 1, "insert_net": 1, "remove_net": 1, "connect_pin": 2, "disconnect_pin": 1}
-OTHERS = {"take": 0, "await": 2, "begin_eco": 0, "commit_eco": 0}
+DRAFTS = ("begin_what_if", "end_what_if", "drop_last")
+NOT_IN_DRAFTS = ("take", "await", "report_through", "report_paths", "advise")
+OTHERS = {"take": 0, "await": 2, "begin_eco": 0, "commit_eco": 0, **{it: 0 for it in DRAFTS}}
 LONGEST_LINE = 65536
 
 
-def script_hints(code, line):
-    """Why a line of a script is no command, where that can be seen in the line."""
+def what_is_open(lines):
+    """Whether a draft and a group of edits are open behind these lines, and how many trials of the draft are before."""
+    is_draft, is_group, trials = False, False, 0
+    for line in lines:
+        name = (line.split() or ["#"])[0]
+        if name.startswith("#"):
+            continue
+        trials += is_draft and not is_group
+        if name == "begin_what_if":
+            is_draft, trials = True, 0
+        is_draft = is_draft and name != "end_what_if"
+        is_group = is_group and name != "commit_eco" or name == "begin_eco"
+    return is_draft, is_group, trials
+
+
+def draft_hints(name, is_draft, is_group):
+    """Why a command may not stand in a draft, or outside of one."""
+    if is_draft and is_group and name in DRAFTS:
+        return [f"{name} stands in a group of edits: the group has to end before, with commit_eco"]
+    if is_draft and name in (*NOT_IN_DRAFTS, "begin_what_if"):
+        return [f"{name} does not stand in a draft, which has edits, groups of edits, drop_last, and questions other than "
+                "report_through, report_paths and advise"]
+    if name == "begin_what_if":
+        return [f"a draft has 1 to {MOST_TRIALS} trials and its end, and so has each group in it: begin_what_if, trials, end_what_if"]
+    return [f"{name} stands in a draft alone: begin_what_if, trials, end_what_if"] if name in DRAFTS else []
+
+
+def script_hints(code, line, before):
+    """Why a line of a script is no command, where that can be seen in the line and those before it."""
     words = line.split()
     name = words[0] if words else ""
+    is_draft, is_group, trials = what_is_open(before)
     if code == "C2":
-        return [f"this line has {len(line)} bytes"] if len(line) > LONGEST_LINE else []
+        if len(line) > LONGEST_LINE:
+            return [f"this line has {len(line)} bytes"]
+        return [f"{MOST_TRIALS} trials of the draft stand before it, and a draft has at most {MOST_TRIALS}"] if is_draft and trials >= MOST_TRIALS else []
     if "\r" in line:
         return ["the line ends with CR LF; lines of a script end with a line feed alone: tr -d '\\r' <SCRIPT"]
     if any(it > "~" for it in line):
@@ -200,12 +235,18 @@ def script_hints(code, line):
         return [f"{name} takes {counts[name]} word{'' if counts[name] == 1 else 's'}, and here {here}: see docs/SCRIPTS.md"]
     if name in PINS and (words[2] not in ("early", "late") or words[3] not in ("rise", "fall")):
         return [f"{name} takes a pin, then early or late, then rise or fall"]
-    if name in KIND_WORDS and words[2 if name in ("report_endpoint", "report_path") else 1] not in ("setup", "hold"):
+    if name == "report_through" and not 1 <= len(words) - 3 <= MOST_PINS:
+        return [f"report_through takes a pin, then setup or hold, then 1 to {MOST_PINS} pins that the path passes"]
+    if (name in KIND_WORDS or name == "report_through") and words[2 if name in BEHIND_PIN else 1] not in ("setup", "hold"):
         return [f"{name} takes setup or hold, in small letters, in this place"]
-    if name == "report_worst" and not (words[2].isdigit() and 1 <= int(words[2]) <= 100):
-        return ["report_worst takes a number from 1 to 100"]
+    if name == "advise" and not (len(words) % 2 == 0 and 4 <= len(words) <= 2 + 2 * MOST_PAIRS and words[1] in ("setup", "hold")):
+        return [f"advise takes setup or hold, then 1 to {MOST_PAIRS} pairs of an instance and a cell"]
+    if name in COUNTED and not (words[-1].isdigit() and 1 <= int(words[-1]) <= 100):
+        return [f"{name} takes a number from 1 to 100"]
     if name == "await" and not (words[2].isdigit() and 1 <= int(words[2]) <= 1000):
         return ["await takes a number of a design, then a number of looks from 1 to 1000"]
+    if draft_hints(name, is_draft, is_group):
+        return draft_hints(name, is_draft, is_group)
     if name in ("begin_eco", "commit_eco"):
         return ["a group has edits alone, at least one, and its end: begin_eco, edits, commit_eco"]
     if name in ("journal", "entry", "session", "final"):
@@ -214,7 +255,7 @@ def script_hints(code, line):
         return ["set_parasitics takes a net, and then none, or items `c NODE AF` and `r NODE NODE MO`: AF and MO are whole numbers up to 10^12"]
     if name == "insert_buffer":
         return ["insert_buffer takes a net, a new instance, a new net, a cell, and the sinks that move, at least one"]
-    if name in counts:
+    if name in counts or name == "report_through":
         return [f"the words of {name} do not fit, or it stands in a group of edits that allows no report: see docs/SCRIPTS.md"]
     return [f"there is no command {name[:60]}: docs/SCRIPTS.md has all"] if name else []
 

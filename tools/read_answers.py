@@ -13,9 +13,11 @@ It prints a line for each row with its question, as `report_endpoint r2:D setup 
   --design N                            for the three above: the design whose rows count (default: the last one with endpoints)
   --session N                           the session whose script it is (default: 1)
 
-Endpoints are those of the script's report_endpoint and report_worst; tools/endpoint_questions.py writes a script that asks all.
+Endpoints are those of the script's report_endpoint and report_worst; tools/endpoint_questions.py writes a script that asks all. The paths
+of a report_paths stand one below the other, worst first; below a draft stands each of its trials with its answer.
 """
 import argparse
+import copy
 import csv
 import json
 import sys
@@ -30,33 +32,52 @@ QUESTIONS = {"Q1": "there is no such pin", "Q2": "it is no endpoint", "Q3": "the
 # ------------------------------------------------------------------------------------------------ the script and the output
 
 class Command:
-    """A command of a script: its words, its lines, and where it begins."""
+    """A command of a script: its number, its lines with their numbers, where it begins, and its words."""
 
-    def __init__(self, number, line, lines):
-        self.number, self.line, self.lines = number, line, lines
-        self.words = lines[0].split()
+    def __init__(self, number, numbered):
+        self.number, self.numbered = number, numbered
+        self.line, self.lines = numbered[0][0], [line for _, line in numbered]
+        self.words = self.lines[0].split()
 
     def text(self):
-        return " ".join(self.words) if len(self.lines) == 1 else f"begin_eco ({len(self.lines) - 2} edits)"
+        if len(self.lines) == 1:
+            return " ".join(self.words)
+        return f"begin_eco ({len(self.lines) - 2} edits)" if self.words[0] == "begin_eco" else f"begin_what_if ({len(self.trials())} trials)"
+
+    def trials(self):
+        """The trials of a draft, groups of edits as one."""
+        return commands_of(self.numbered[1:-1], "begin_eco") if self.words[0] == "begin_what_if" else []
+
+    def edits(self):
+        """The edits of an ECO, alone or as a group, by their words."""
+        return self.lines[1:-1] if self.words[0] == "begin_eco" else [" ".join(self.words)]
 
 
-def read_script(text):
-    """The commands of a script, groups as one."""
-    commands, group = [], None
-    for number, line in enumerate(text.split("\n"), 1):
+ENDS = {"begin_eco": "commit_eco", "begin_what_if": "end_what_if"}
+
+
+def commands_of(numbered, *begins):
+    """The commands of some lines with their numbers: what these words begin is one, up to its end."""
+    commands, group, end = [], None, None
+    for number, line in numbered:
         words = line.split()
         if not words or words[0].startswith("#"):
             continue
         if group is not None:
-            group.append(" ".join(words))
-        if words[0] == "begin_eco":
-            group, begin = ["begin_eco"], number
-        elif words[0] == "commit_eco" and group is not None:
-            commands.append(Command(len(commands) + 1, begin, group))
-            group = None
-        elif group is None:
-            commands.append(Command(len(commands) + 1, number, [line]))
+            group.append((number, " ".join(words)))
+            if words[0] == end:
+                commands.append(Command(len(commands) + 1, group))
+                group = None
+        elif words[0] in begins:
+            group, end = [(number, words[0])], ENDS[words[0]]
+        else:
+            commands.append(Command(len(commands) + 1, [(number, line)]))
     return commands
+
+
+def read_script(text):
+    """The commands of a script, groups of edits and drafts as one."""
+    return commands_of(enumerate(text.split("\n"), 1), *ENDS)
 
 
 class Row:
@@ -66,6 +87,28 @@ class Row:
         self.command, self.design, self.sort = int(words[0]), int(words[1]), words[2]
         self.words, self.below = words[3:], below
 
+    def parts(self):
+        """Each path of a row of several, or each answer of a draft, as a row of its own."""
+        found, at = [], 0
+        while at < len(self.below):
+            head = self.below[at]
+            end = at + 1 + lines_below(head, self.below, at + 1)
+            found.append(Row([str(self.command), str(self.design), *head], self.below[at + 1:end]))
+            at = end
+        return found
+
+
+def lines_below(answer, lines, at):
+    """How many lines of paths, of a list of endpoints or of the answers of a draft belong to an answer; they begin at this line."""
+    if answer[0] == "worst":
+        return int(answer[1])
+    if answer[0] in ("paths", "what_if"):
+        end = at
+        for _ in range(int(answer[1])):
+            end += 1 + lines_below(lines[end], lines, end + 1)
+        return end - at
+    return int(answer[-1]) if answer[0] == "path" and answer[1] != "none" else 0
+
 
 class Output:
     """The output of a run: how many saved entries stand before, the ECOs of its journal with the sessions that made them, the rows of its
@@ -73,16 +116,16 @@ class Output:
 
     def __init__(self, text):
         self.first, self.ecos, self.makers, self.sessions, self.final, self.rows = 0, [], [], [], None, []
-        lines, at = text.split("\n"), 0
-        if not lines[0].startswith("journal"):
-            raise ValueError(f"this is no output of a run: {lines[0][:60]}")
-        if lines[0].startswith("journal 2 "):
-            self.first = int(lines[0].split(" ")[2])
+        lines, at = [it.split(" ") for it in text.split("\n")], 0
+        if not lines[0][0].startswith("journal"):
+            raise ValueError(f"this is no output of a run: {' '.join(lines[0])[:60]}")
+        if lines[0][:2] == ["journal", "2"]:
+            self.first = int(lines[0][2])
         while at < len(lines):
-            words = lines[at].split(" ")
+            words = lines[at]
             at += 1
             if words[0] == "entry":
-                self.ecos.append(lines[at:at + int(words[5])])
+                self.ecos.append([" ".join(it) for it in lines[at:at + int(words[5])]])
                 self.makers.append(int(words[3]))
                 at += int(words[5])
             elif words[0] == "session":
@@ -90,16 +133,9 @@ class Output:
             elif words[0] == "final":
                 self.final = words[1:]
             elif self.sessions and words[0].isdigit():
-                count = self.lines_below(words)
-                self.sessions[-1].append(Row(words, [it.split(" ") for it in lines[at:at + count]]))
+                count = lines_below(words[2:], lines, at)
+                self.sessions[-1].append(Row(words, lines[at:at + count]))
                 at += count
-
-    @staticmethod
-    def lines_below(words):
-        """How many lines of a path or a list of endpoints belong to a row."""
-        if words[2] == "worst":
-            return int(words[3])
-        return int(words[-1]) if words[2] == "path" and words[3] != "none" else 0
 
 
 # ------------------------------------------------------------------------------------------------ the design of a row
@@ -119,6 +155,14 @@ class Edited:
         if self.joined is None:
             self.joined = documents.Joined(self.netlist, self.library)
         return self.joined
+
+    def drafted(self, number, edits):
+        """The design of this number after edits that are tried, as one of its own."""
+        self.at(number)
+        other = Edited(copy.deepcopy(self.netlist), self.library, [])
+        for edit in edits:
+            other.edit(edit.split())
+        return other
 
     def pin(self, word):
         instance, _, pin = word.rpartition(":")
@@ -153,6 +197,19 @@ def beside(design, pin, direction):
     return {"cell": cell, "net": net.name if drives else None, "fanout": len(net.sinks) if drives else None}
 
 
+def draft_rows(command, row, edited):
+    """Each trial of a draft with its answer, and the design that it speaks of where designs are there."""
+    tried, shown = [], edited
+    for trial, answer in zip(command.trials(), row.parts()):
+        yield trial, answer, shown
+        if answer.sort == "tried":
+            tried.append(trial.edits())
+        elif answer.sort == "dropped":
+            tried.pop()
+        if edited and answer.sort in ("tried", "dropped"):
+            shown = edited.drafted(row.design, [edit for edits in tried for edit in edits]) if tried else edited
+
+
 def path_lines(row, edited):
     """The pins of a path with the delay of each stage, and what stands beside them."""
     design, before, found = edited.at(row.design) if edited else None, None, []
@@ -181,8 +238,14 @@ def picoseconds(value):
 def answer_text(row):
     """The answer of a row, in a line."""
     words = row.words
-    if row.sort in ("taken", "reached", "accepted"):
+    if row.sort in ("taken", "reached", "accepted", "tried", "dropped"):
         return row.sort
+    if row.sort == "no_draft":
+        return "nothing to drop"
+    if row.sort == "what_if":
+        return f"{words[0]} answer{'' if words[0] == '1' else 's'}"
+    if row.sort == "advice":
+        return "no resize" if words[0] == "none" else f"{words[0]} to {words[1]}, worst slack {words[2]} ps"
     if row.sort == "not_yet":
         return f"not yet, after {words[0]} looks"
     if row.sort == "refused":
@@ -194,6 +257,8 @@ def answer_text(row):
         return ", ".join(edges) or ("no arrival" if row.sort == "at" else "no required time")
     if row.sort == "worst":
         return f"{words[0]} endpoints"
+    if row.sort == "paths":
+        return f"{words[0]} path{'' if words[0] == '1' else 's'}"
     if row.sort == "path":
         return "no tested path" if words[0] == "none" else f"slack {words[3]} ps, credit {words[5]} ps, from {words[7]} {words[8]} to {words[10]} {words[11]}"
     return words[0] if words[0] == "none" else f"{words[0]} ps"
@@ -221,17 +286,30 @@ def path_text(row, edited):
     yield bound_text(row)
 
 
+def lines_of_row(command, row, edited):
+    """What stands below the line of a row."""
+    if row.sort == "worst":
+        width = max((len(time) for _, time in row.below), default=0)
+        for pin, time in row.below:
+            yield f"  {time:>{width}} ps  {pin}"
+    elif row.sort == "path" and row.below:
+        yield from path_text(row, edited)
+    elif row.sort == "paths":
+        for place, path in enumerate(row.parts(), 1):
+            yield f"  path {place}: {answer_text(path)}"
+            yield from path_text(path, edited)
+    elif row.sort == "what_if":
+        for trial, answer, shown in draft_rows(command, row, edited):
+            yield f"  {trial.text()} -> {answer_text(answer)}"
+            yield from (f"  {line}" for line in lines_of_row(trial, answer, shown))
+
+
 def print_lines(commands, output, edited):
     for row in output.rows:
         command = commands[row.command - 1]
         print(f"{command.text()} -> {answer_text(row)} (design {row.design})")
-        if row.sort == "worst":
-            width = max((len(time) for _, time in row.below), default=0)
-            for pin, time in row.below:
-                print(f"  {time:>{width}} ps  {pin}")
-        elif row.sort == "path" and row.below:
-            for line in path_text(row, edited):
-                print(line)
+        for line in lines_of_row(command, row, edited):
+            print(line)
     number, *totals = output.final
     kinds = [f"{kind} worst {worst if worst == 'none' else worst + ' ps'}, total {total} ps" for kind, worst, total in (totals[:3], totals[3:])]
     print(f"at the end, design {number}: {'; '.join(kinds)}")
@@ -239,9 +317,14 @@ def print_lines(commands, output, edited):
 
 # ------------------------------------------------------------------------------------------------ rows for programs
 
-def row_value(row, edited):
+def row_value(command, row, edited):
     """The answer of a row as data; times are texts in picoseconds."""
     words = row.words
+    if row.sort == "what_if":
+        return {"answers": [{"line": trial.line, "question": trial.lines, "answer": answer.sort, **row_value(trial, answer, shown)}
+                            for trial, answer, shown in draft_rows(command, row, edited)]}
+    if row.sort == "advice":
+        return {"advice": None if words[0] == "none" else {"instance": words[0], "cell": words[1], "wns": words[2]}}
     if row.sort in ("refused", "no"):
         return {"code": words[0], "names": words[1:]}
     if row.sort in ("at", "rat"):
@@ -252,6 +335,8 @@ def row_value(row, edited):
         if words[0] == "none":
             return {"path": None}
         return {"slack": words[3], "credit": words[5], "launch": words[7:9], "capture": words[10:12], "path": path_lines(row, edited)}
+    if row.sort == "paths":
+        return {"paths": [row_value(command, path, edited) for path in row.parts()]}
     if row.sort == "not_yet":
         return {"looks": int(words[0])}
     return {"time": None if words[0] == "none" else words[0]} if words else {}
@@ -259,28 +344,43 @@ def row_value(row, edited):
 
 def as_data(commands, output, edited):
     rows = [{"command": row.command, "line": commands[row.command - 1].line, "question": commands[row.command - 1].lines,
-             "design": row.design, "answer": row.sort, **row_value(row, edited)} for row in output.rows]
+             "design": row.design, "answer": row.sort, **row_value(commands[row.command - 1], row, edited)} for row in output.rows]
     number, _, setup, setup_total, _, hold, hold_total = output.final
     final = {"design": int(number), "setup": {"wns": setup, "tns": setup_total}, "hold": {"wns": hold, "tns": hold_total}}
     return {"first": output.first, "journal": output.ecos, "rows": rows, "final": final}
 
 
 def print_csv(commands, output):
-    """One line for each row, or for each edge or line below it: command, design, question, answer, pin or clock, edge, time."""
+    """One line for each row and each trial of a draft, or for each edge or line below it: command, design, question, answer, pin or clock,
+    edge, time. Trials of a draft are marked by a > before them."""
     out = csv.writer(sys.stdout, lineterminator="\n")
     out.writerow(["command", "design", "question", "answer", "pin", "edge", "time"])
     for row in output.rows:
-        head = [row.command, row.design, commands[row.command - 1].text(), row.sort]
-        if row.sort in ("at", "rat") and len(row.words) > 1:
-            for i in range(1, len(row.words) - 2, 3):
-                out.writerow([*head, row.words[i], row.words[i + 1], row.words[i + 2]])
-        elif row.below:
-            for line in row.below:
-                out.writerow([*head, line[0], line[1] if len(line) == 3 else "", line[-1]])
-        else:
-            is_time = row.sort in ("slew", "slack", "endpoint", "wns", "tns") and row.words[0] != "none"
-            said = "" if is_time else "none" if row.words == ["0"] else " ".join(row.words)
-            out.writerow([*head, said, "", row.words[0] if is_time else ""])
+        command = commands[row.command - 1]
+        if row.sort != "what_if":
+            out.writerows(csv_lines([row.command, row.design, command.text(), row.sort], row))
+        for trial, answer, _ in draft_rows(command, row, None):
+            out.writerows(csv_lines([row.command, row.design, f"> {trial.text()}", answer.sort], answer))
+
+
+def csv_lines(head, row):
+    """The lines of a row, which begin with its head."""
+    if row.sort in ("at", "rat") and len(row.words) > 1:
+        for i in range(1, len(row.words) - 2, 3):
+            yield [*head, row.words[i], row.words[i + 1], row.words[i + 2]]
+    elif row.sort == "paths" and row.below:
+        for place, path in enumerate(row.parts(), 1):
+            for line in path.below:
+                yield [*head[:3], f"path {place}", *line]
+    elif row.sort == "advice" and row.words[0] != "none":
+        yield [*head, " ".join(row.words[:2]), "", row.words[2]]
+    elif row.below:
+        for line in row.below:
+            yield [*head, line[0], line[1] if len(line) == 3 else "", line[-1]]
+    else:
+        is_time = row.sort in ("slew", "slack", "endpoint", "wns", "tns") and row.words[0] != "none"
+        said = "" if is_time else "none" if row.words == ["0"] else " ".join(row.words)
+        yield [*head, said, "", row.words[0] if is_time else ""]
 
 
 # ------------------------------------------------------------------------------------------------ slacks of endpoints

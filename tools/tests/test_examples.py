@@ -63,6 +63,14 @@ class Pages(unittest.TestCase):
             if block not in commands:
                 self.assertIn(block + "\n", out)
 
+    def test_closing_setup(self):
+        given = blocks(EXAMPLES / "closing-setup" / "README.md")
+        commands = [it for it in given if it.startswith(("cd ", "../", "grep "))]
+        out = self.run_blocks(commands, "")
+        for block in given:
+            if block not in commands:
+                self.assertIn(block + "\n", out)
+
     @unittest.skipUnless(LIBRARY.exists(), "no library for examples/pulse-width: apt-get install qflow-tech-osu018")
     def test_walk(self):
         given = blocks(EXAMPLES / "README.md")
@@ -77,13 +85,20 @@ class Pages(unittest.TestCase):
 
     @unittest.skipUnless(LIBRARY.exists(), "no library for examples/pulse-width: apt-get install qflow-tech-osu018")
     def test_scripts_page(self):
-        """The rows of docs/SCRIPTS.md are those of its commands."""
         shutil.copy(LIBRARY, self.top / "examples" / "pulse-width")
-        for block in blocks(common.TOP / "docs" / "SCRIPTS.md"):
-            if re.search(r" {3,}1 \d ", block):
-                parts = [re.split(r" {3,}", line) for line in block.split("\n")]
-                script, rows = [it[0] for it in parts if it[0]], [it[1] for it in parts if len(it) > 1]
-                (self.top / "s.eco").write_text("\n".join(script) + "\n")
-                library = "osu018_stdcells.lib"
-                out = self.run_blocks([f"../../lizdrog run {library} {library} netlist.v pulse_width.sdc netlist.spef 1 ../../s.eco"], "examples/pulse-width")
-                self.assertIn("\n".join(rows) + "\n", out)
+        self.check_scripts_page("pulse-width", "osu018_stdcells.lib osu018_stdcells.lib netlist.v pulse_width.sdc netlist.spef")
+
+    def test_scripts_page_of_drafts(self):
+        self.check_scripts_page("closing-setup", "sizes.lib sizes.lib accumulator.v accumulator.sdc accumulator.spef")
+
+    def check_scripts_page(self, name, documents):
+        """The rows of docs/SCRIPTS.md are those of its commands, behind "Of `examples/NAME`" on the documents of that example."""
+        parts = re.split(r"(?m)^Of `examples/([\w-]+)`:\n", (common.TOP / "docs" / "SCRIPTS.md").read_text())
+        for example, text in zip(parts[1::2], parts[2::2]):
+            for block in re.findall(r"^```\n(.*?)\n```", text, re.S | re.M):
+                if example == name and re.search(r" {3,}1 \d ", block):
+                    lines = [re.split(r" {3,}", line) for line in block.split("\n")]
+                    script, rows = [it[0] for it in lines if it[0]], [it[1] for it in lines if len(it) > 1]
+                    (self.top / "s.eco").write_text("\n".join(script) + "\n")
+                    out = self.run_blocks([f"../../lizdrog run {documents} 1 ../../s.eco"], f"examples/{name}")
+                    self.assertIn("\n".join(rows) + "\n", out)

@@ -16,9 +16,20 @@ DAMAGES = [
     ("byte above 127", {"script": "# gr\xfc\xdfe\n"}, "fault script1 C1 1", "a byte above 127"),
     ("mistyped command", {"script": "take\nreport_wsn setup\n"}, "fault script1 C1 2", "s.eco:2:1", "no command report_wsn"),
     ("number above 100", {"script": "report_worst setup 101\n"}, "fault script1 C1 1", "from 1 to 100"),
+    ("number of paths above 100", {"script": "report_paths q setup 101\n"}, "fault script1 C1 1", "report_paths takes a number from 1 to 100"),
+    ("seventeen pins", {"script": "report_through q setup" + " g1:A" * 17 + "\n"}, "fault script1 C1 1", "then 1 to 16 pins that the path passes"),
+    ("pins before the kind", {"script": "report_through q g1:A setup\n"}, "fault script1 C1 1", "report_through takes setup or hold, in small letters"),
     ("max for setup", {"script": "report_wns max\n"}, "fault script1 C1 1", "setup or hold"),
     ("a word too few", {"script": "report_slew r2:D late\n"}, "fault script1 C1 1", "takes 3 words, and here are 2"),
     ("report in a group", {"script": "begin_eco\nreport_wns setup\ncommit_eco\n"}, "fault script1 C1 2", "allows no report"),
+    ("draft without its end", {"script": "take\nbegin_what_if\nreport_wns setup\n"}, "fault script1 C1 2", "a draft has 1 to 100 trials and its end"),
+    ("draft without trials", {"script": "begin_what_if\n# none\nend_what_if\n"}, "fault script1 C1 1", "a draft has 1 to 100 trials and its end"),
+    ("take in a draft", {"script": "begin_what_if\nreport_wns setup\ntake\nend_what_if\n"}, "fault script1 C1 3", "take does not stand in a draft"),
+    ("paths in a draft", {"script": "begin_what_if\nreport_paths q setup 2\nend_what_if\n"}, "fault script1 C1 2", "report_paths does not stand in a draft"),
+    ("end of a draft in a group", {"script": "begin_what_if\nbegin_eco\nrepower_gate g1 BUF\nend_what_if\n"}, "fault script1 C1 4", "end_what_if stands in a group of edits"),
+    ("drop outside a draft", {"script": "drop_last\n"}, "fault script1 C1 1", "drop_last stands in a draft alone"),
+    ("101 trials", {"script": "begin_what_if\n" + "drop_last\n" * 101 + "end_what_if\n"}, "fault script1 C2 102", "100 trials of the draft stand before it"),
+    ("candidate without a cell", {"script": "advise setup g1 BUF r1\n"}, "fault script1 C1 1", "1 to 100 pairs of an instance and a cell"),
     ("compressed", {"spef": gzip.compress(SPEF.encode()).decode("latin-1")}, "fault spef P1 0", "top.spef:1:1", "compressed"),
     ("byte order mark", {"sdc": "\xef\xbb\xbf" + CONSTRAINTS}, "fault sdc S1 0", "byte order mark"),
     ("empty", {"netlist": ""}, "fault netlist V5 0", "top.v:1:1", "the file is empty"),
@@ -200,7 +211,7 @@ class Damages(unittest.TestCase):
                 ("P1", "*SPEF", "*SPEFX"), ("P1", "*DELIMITER :\n", ""), ("P1", "1 FF", "1 UF"), ("P1", "1 OHM", "2 OHM"), ("", "1 OHM", "0.001 KOHM"),
                 ("P3", "*D_NET", "*R_NET"), ("P3", "*D_NET", "*DEFINE x\n*D_NET"), ("P3", "*RES", "*INDUC\n*RES"), ("P4", "1 *1:1 2.5", "1 *1:1 -2.5"),
                 ("P4", "*3:D 50", "*3:D 1e30"), ("P2", "*2:Z O", "*9:Z O"), ("P5", "*END\n", "*END\n*D_NET *1 1\n*END\n"), ("", "3.5", "3.5 *V 1"),
-                ("", "1 *1:1 2.5", "1 *1:1 2:2.5:3"), ("", "2 *3:D 1", "2 *3:D r1:Q 1"), ("", "*D_NET", "*PORTS\nclk I\nq O\n*D_NET"), ("", "*D BUF", "*C 1 2 *S 1 2 *D BUF")]:
+                ("", "1 *1:1 2.5", "1 *1:1 2:2.5:3"), ("", "2 *3:D 1", "2 *3:D r1:Q 1"), ("", "*D_NET", "*PORTS\nclk I\n*1 O *D *2\n*D_NET"), ("P1", "*D_NET", "*PORTS\nclk I\n*d_net"), ("", "*D BUF", "*C 1 2 *S 1 2 *D BUF")]:
             with self.subTest(f"{old} -> {new}"):
                 self.assertIn(old, SPEF)
                 self.check("spef", code, SPEF.replace(old, new, 1))

@@ -8,6 +8,7 @@ import unittest
 import common
 
 sys.path.append(str(common.TOP / "bench"))
+import board_stress  # noqa: E402
 import damaged_documents  # noqa: E402
 import trials  # noqa: E402
 
@@ -35,6 +36,9 @@ class Answers(unittest.TestCase):
                          (b"session 2 edits", b"session 3 edits"), (b"accepted", b"N1"), (LAST, b""), (LAST, LAST + b"more\n"), (LAST, LAST[:-1])):
             self.assertIn(old, GOOD)
             self.assertFalse(is_answer(0, GOOD.replace(old, new)), new)
+        several = GOOD.replace(b"2 0 path ", b"2 0 paths 1\npath ")
+        self.assertTrue(is_answer(0, several))
+        self.assertFalse(is_answer(0, several.replace(b"paths 1", b"paths 2")))
         self.assertFalse(is_answer(1, GOOD))
         self.assertFalse(is_answer(0, GOOD, b"a word"))
 
@@ -64,6 +68,41 @@ class Damages(unittest.TestCase):
         designs = damaged_documents.all_designs(1)
         tried = {(it.design.name, it.role) for it in (damaged_documents.Trial(designs, 1, number) for number in range(8 * len(designs)))}
         self.assertEqual(tried, {(it.name, role) for it in designs for role, _ in it.roles()})
+
+
+class Boards(unittest.TestCase):
+    """Histories of two seats: three takes, two publications, one that came too late."""
+
+    def history(self):
+        marks = [0]
+        for seat, number in ((1, 0), (2, 0)):
+            marks.append(board_stress.mark_after(marks[-1], seat, number))
+        calls = [("take", 1, 0, 1, 0, 0, 0), ("take", 2, 2, 3, 0, 0, 0), ("published", 1, 4, 6, 0, 1, marks[1]), ("moved", 2, 5, 7, 0, 1, marks[1]),
+                 ("published", 2, 8, 9, 1, 2, marks[2]), ("take", 1, 10, 11, 2, 2, marks[2])]
+        return [board_stress.Call(*it) for it in calls], [board_stress.Entry(0, 0, 0, 0), board_stress.Entry(1, 1, 0, marks[1]), board_stress.Entry(2, 2, 0, marks[2])]
+
+    def amiss(self, at=None, entry=None, **how):
+        calls, entries = self.history()
+        if at is not None:
+            calls[at] = calls[at]._replace(**how)
+        if entry is not None:
+            entries[entry] = entries[entry]._replace(**how)
+        try:
+            return not board_stress.check(calls, entries, 6)
+        except board_stress.Amiss:
+            return True
+
+    def test_histories(self):
+        kinds, overlaps, seats = board_stress.check(*self.history(), 6)
+        self.assertEqual((kinds, overlaps, seats), ({"take": 3, "published": 2, "moved": 1}, 2, 2))
+        for how in ({"at": 5, "count": 1}, {"at": 5, "mark": 1}, {"at": 4, "base": 0}, {"at": 4, "count": 1}, {"at": 3, "base": 1}, {"at": 2, "seat": 2}, {"at": 0, "ended": 5},
+                    {"entry": 1, "seat": 2}, {"entry": 1, "number": 1}, {"entry": 2, "count": 3}, {"entry": 2, "mark": 5}):
+            self.assertTrue(self.amiss(**how), how)
+        calls, entries = self.history()
+        early = [*calls[:5], calls[5]._replace(count=1, base=1, mark=entries[1].mark)]
+        self.assertRaises(board_stress.Amiss, board_stress.check, early, entries, 6)
+        self.assertRaises(board_stress.Amiss, board_stress.check, calls, [*entries, entries[2]], 6)
+        self.assertRaises(board_stress.Amiss, board_stress.check, calls, entries[:2], 6)
 
 
 class Trials(unittest.TestCase):

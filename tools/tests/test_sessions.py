@@ -98,6 +98,32 @@ class Checker(unittest.TestCase):
             faults, _ = faults_of(OUTPUT.replace(old, new))
             self.assertTrue(any(said in it for it in faults), (new, faults))
 
+    def test_questions_about_paths(self):
+        path = "path setup q slack 7.000 credit 0.000 from clk rise to clk rise nodes 1\nq rise 3.000\n"
+        rows = f"session 1 rows 2\n1 0 paths 1\n{path}2 0 {path}"
+        output = f"journal 1 0\n{rows}final 0 setup 7.000 0.000 hold none 0.000\n"
+        script = "report_paths q setup 5\nreport_through q setup b1:A b1:Z\n"
+        self.assertEqual(faults_of(output, output, (script,)), ([], script))
+        faults, _ = faults_of(output, output.replace("q rise 3.000", "q rise 3.001", 1), (script,))
+        self.assertEqual(faults, ["session 1, command 1: paths 1, and one session says paths 1 at design 0"])
+        faults, _ = faults_of(output.replace("2 0 path ", "2 0 endpoint "), output, (script,))
+        self.assertIn("report_through q setup b1:A b1:Z has the answer endpoint", faults[0])
+
+    def test_drafts_and_advice(self):
+        draft = "begin_what_if\nrepower_gate g1 BUF\nreport_path q setup\ndrop_last\nend_what_if\n"
+        path = "path setup q slack 7.000 credit 0.000 from clk rise to clk rise nodes 1\nq rise 3.000\n"
+        rows = f"session 1 rows 3\n1 0 what_if 3\ntried\n{path}dropped\n2 0 advice g1 BUF 7.000\n3 0 taken\n"
+        output = f"journal 1 0\n{rows}final 0 setup 7.000 0.000 hold none 0.000\n"
+        asked = draft + "advise setup g1 BUF\n"
+        script = asked.replace("repower", "# a comment\n  repower") + "take\n"
+        self.assertEqual(faults_of(output, output, (script,)), ([], asked))
+        faults, _ = faults_of(output, output.replace("q rise 3.000", "q rise 3.001"), (script,))
+        self.assertEqual(faults, ["session 1, command 1: what_if 3, and one session says what_if 3 at design 0"])
+        faults, _ = faults_of(output.replace("advice g1", "advice g2"), output, (script,))
+        self.assertEqual(faults, ["session 1, command 2: advice g2 BUF 7.000, and one session says advice g1 BUF 7.000 at design 0"])
+        faults, _ = faults_of(output.replace("2 0 advice g1", "2 0 wns g1"), output, (script,))
+        self.assertIn("advise setup g1 BUF has the answer wns", faults[0])
+
     def test_parasitics_are_written_in_order(self):
         self.assertEqual(check_sessions.in_order("set_parasitics n r a b 5 c a 1 r b d 7 c d 2"), "set_parasitics n c a 1 c d 2 r a b 5 r b d 7")
         self.assertEqual(check_sessions.in_order("set_parasitics n none"), "set_parasitics n none")
@@ -140,7 +166,8 @@ class Runs(unittest.TestCase):
         names = [f"s{number}.eco" for number in range(1, 17)]
         for number, name in enumerate(names):
             made = f"insert_gate b{number // 2} BUF\nreport_worst setup 2\ntake\nreport_path r2:D setup\ninsert_buffer n2 x{number} m{number} BUF r2:D\nreport_wns hold\n"
-            (self.folder / name).write_text(made * 2)
+            tried = f"begin_what_if\ninsert_gate b{number // 2} BUF\nreport_path r2:D setup\nend_what_if\nadvise hold g1 BUF x{number} BUF\n"
+            (self.folder / name).write_text((made + tried) * 2)
         output = self.check([*words[:7], *names], self.folder)
         self.assertGreaterEqual(len(output.ecos), 9)
 

@@ -9,6 +9,7 @@ import common
 from common import CONSTRAINTS, LIBRARY, NETLIST, SPEF
 import check_setup
 import design_documents as documents
+import explain_fault
 import read_answers
 import test_faults
 
@@ -73,6 +74,58 @@ class Answers(unittest.TestCase):
         rows = "1 0 at 0\n2 0 rat 2 clk rise 1.000 clk fall 2.000\n3 0 worst 0\n4 0 path none\n"
         (self.folder / "out").write_text(f"journal 1 0\nsession 1 rows 4\n{rows}final 0 setup none 0.000 hold none 0.000\n")
         self.assertEqual([it.split(",")[0] for it in self.read("--csv").split("\n")[1:-1]], ["1", "2", "2", "3", "4"])
+
+    def test_paths(self):
+        (self.folder / "s.eco").write_text("report_paths r2:D setup 3\nreport_through r2:D setup g1:A g1:Z\nreport_paths r1:D hold 2\nreport_wns setup\n")
+        first, second = "path setup r2:D slack -2.350 credit 0.000 from clk rise to clk rise nodes 1\nr2:D rise 97.350\n", \
+            "path setup r2:D slack 1.000 credit 0.500 from clk rise to clk rise nodes 2\ng1:Z rise 90.000\nr2:D fall 94.000\n"
+        rows = f"1 0 paths 2\n{first}{second}2 0 {second}3 0 paths 0\n4 0 wns -2.350\n"
+        (self.folder / "out").write_text(f"journal 1 0\nsession 1 rows 4\n{rows}final 0 setup -2.350 -2.350 hold none 0.000\n")
+        lines = self.read().split("\n")
+        self.assertEqual(lines[:2], ["report_paths r2:D setup 3 -> 2 paths (design 0)",
+                                     "  path 1: slack -2.350 ps, credit 0.000 ps, from clk rise to clk rise"])
+        self.assertEqual([it for it in lines if "->" in it][1:],
+                         ["report_through r2:D setup g1:A g1:Z -> slack 1.000 ps, credit 0.500 ps, from clk rise to clk rise (design 0)",
+                          "report_paths r1:D hold 2 -> 0 paths (design 0)", "report_wns setup -> -2.350 ps (design 0)"])
+        self.assertIn("       95.000 is the latest time that the setup test allows, with credit", lines)
+        told = json.loads(self.read("--json"))["rows"]
+        self.assertEqual([(it["slack"], len(it["path"])) for it in told[0]["paths"]], [("-2.350", 1), ("1.000", 2)])
+        self.assertEqual((told[0]["paths"][1]["path"], told[2]["paths"]), (told[1]["path"], []))
+        self.assertEqual([it.split(",")[3:] for it in self.read("--csv").split("\n")[1:-1]],
+                         [["path 1", "r2:D", "rise", "97.350"], ["path 2", "g1:Z", "rise", "90.000"], ["path 2", "r2:D", "fall", "94.000"],
+                          ["path", "g1:Z", "rise", "90.000"], ["path", "r2:D", "fall", "94.000"], ["paths", "none", "", ""], ["wns", "", "", "-2.350"]])
+
+    def test_drafts_and_advice(self):
+        (self.folder / "s.eco").write_text("take\nbegin_what_if\n# slower\nrepower_gate g1 BUF\n  report_path r2:D setup\nbegin_eco\ninsert_net n9\n"
+                                           "insert_buffer n2 b1 n3 BUF r2:D\ncommit_eco\nreport_path r2:D setup\nreport_worst setup 2\ndrop_last\n\n"
+                                           "repower_gate g1 NO\nreport_endpoint zz hold\ndrop_last\ndrop_last\nend_what_if\n"
+                                           "advise setup g1 BUF g2 BUF\nadvise hold g1 NO\nreport_wns setup\n")
+        path = "path setup r2:D slack {} credit 0.000 from clk rise to clk rise nodes 2\n{} rise 90.000\nr2:D fall 94.000\n"
+        rows = ["1 0 taken\n2 0 what_if 10\ntried\n", path.format("-2.350", "g1:Z"), "tried\n", path.format("-3.000", "b1:Z"), "worst 2\nr2:D -3.000\nq 4.000\ndropped\n",
+                "refused E3 NO\nno Q1 zz\ndropped\nno_draft\n", "3 0 advice g1 BUF -1.000\n4 0 advice none\n5 0 wns -2.350\n"]
+        (self.folder / "out").write_text(f"journal 1 0\nsession 1 rows 5\n{''.join(rows)}final 0 setup -2.350 -2.350 hold none 0.000\n")
+        lines = self.read().split("\n")
+        self.assertEqual([it for it in lines if "->" in it], [
+            "take -> taken (design 0)", "begin_what_if (10 trials) -> 10 answers (design 0)", "  repower_gate g1 BUF -> tried",
+            "  report_path r2:D setup -> slack -2.350 ps, credit 0.000 ps, from clk rise to clk rise", "  begin_eco (2 edits) -> tried",
+            "  report_path r2:D setup -> slack -3.000 ps, credit 0.000 ps, from clk rise to clk rise", "  report_worst setup 2 -> 2 endpoints",
+            "  drop_last -> dropped", "  repower_gate g1 NO -> refused E3 NO: " + explain_fault.sentence("E3"),
+            "  report_endpoint zz hold -> no answer, Q1 zz: there is no such pin", "  drop_last -> dropped", "  drop_last -> nothing to drop",
+            "advise setup g1 BUF g2 BUF -> g1 to BUF, worst slack -1.000 ps (design 0)", "advise hold g1 NO -> no resize (design 0)",
+            "report_wns setup -> -2.350 ps (design 0)"])
+        self.assertIn("    -3.000 ps  r2:D", lines)
+        told = json.loads(self.read("--json", "--netlist", "top.v", "--library", "late.lib"))["rows"]
+        answers = told[1]["answers"]
+        self.assertEqual([(it["line"], it["answer"]) for it in answers][:4], [(4, "tried"), (5, "path"), (6, "tried"), (10, "path")])
+        self.assertEqual([[it[key] for key in ("pin", "cell", "net")] for at in (1, 3) for it in answers[at]["path"][:1]],
+                         [["g1:Z", "BUF", "n2"], ["b1:Z", "BUF", "n3"]])
+        self.assertEqual([(it["answer"], it["code"], it["names"]) for it in answers[6:8]], [("refused", "E3", ["NO"]), ("no", "Q1", ["zz"])])
+        self.assertEqual([it["advice"] for it in told[2:4]], [{"instance": "g1", "cell": "BUF", "wns": "-1.000"}, None])
+        written = [it.split(",") for it in self.read("--csv").split("\n")[1:-1]]
+        self.assertEqual(written[1], ["2", "0", "> repower_gate g1 BUF", "tried", "", "", ""])
+        self.assertEqual(written[-3], ["3", "0", "advise setup g1 BUF g2 BUF", "advice", "g1 BUF", "", "-1.000"])
+        self.assertEqual({it[0] for it in written}, set("12345"))
+        self.assertIn("0 of 0 endpoints that were asked fail", self.read("--failing"))
 
     def test_failing_and_histogram(self):
         out = self.read("--failing", "--histogram", "--svg", "bars.svg")
@@ -156,7 +209,7 @@ FINDINGS = [
     ("a register without a clock", {"netlist": NETLIST.replace("r2 (.D(n2), .CK(clk)", "r2 (.D(n2), .CK(nc)")}, "1 registers without a clock", "r2 (DFF)"),
     ("parasitics of another netlist", {"spef": SPEF.replace("*3 r2", "*3 r9")}, "n2: r9:D not on the net"),
     ("parasitics that are no tree", {"spef": SPEF.replace("1 *1:1 2.5", "1 *1:7 2.5")}, "n2: no resistor ends at the node #7"),
-    ("a mistyped section", {"spef": SPEF.replace("*D_NET", "*PORTS\nclk I\n*d_net")}, "words that begin with * and are passed over", "*d_net behind *PORTS"),
+    ("a mistyped section", {"spef": SPEF.replace("*D_NET", "*PORTS\nclk I\n*d_net")}, "words of the SPEF that begin with * and fit no section (P1)", "*d_net behind *PORTS"),
     ("a mistyped type of a test", {"early": LIBRARY.replace("setup_rising", "setup_risng"), "late": LIBRARY.replace("setup_rising", "setup_risng")}, "setup_risng in 1 cells, first DFF"),
     ("libraries exchanged", {"early": LIBRARY.replace('"10, 30"', '"11, 31"')}, "arcs whose early delay exceeds the late one", "BUF A rise Z rise"),
     ("derates crossed", {"sdc": WHOLE + "set_timing_derate -early 1.1\nset_timing_derate -late 0.9\n"}, "cell delays: early 1.1, late 0.9"),

@@ -17,7 +17,7 @@ use Rattle.pin_graph.specs.Nodes.{node_at, node_bound, node_number, number_at, t
 use Rattle.timing_defs.proofs.Members.{some_is}
 use Rattle.store_pins.proofs.PinLaws.{there, told_at, below_bound}
 use Rattle.pin_graph.proofs.NodeLaws.{under_number, tran_of_number}
-use Rattle.affected_cone.specs.Asked.{IsRefusal, IsNode, IsAskedEnd}
+use Rattle.affected_cone.specs.Asked.{IsRefusal, IsNode, IsAskedPin, IsAskedEnd}
 
 none_some : {X : Type 0} (o : Option X) → is_some o ≡ false → o ≡ None
 none_some None e = refl
@@ -35,6 +35,15 @@ module _ (s : Stored) (num : IsNumbered s) where
 
   pub no_pin : (name : List ℕ) → number_of s.pins name ≡ None → pin_named s.design name ≡ None
   no_pin name e = none_some (pin_named s.design name) (sym (num.pin_names name) ∙ ap is_some e)
+
+  -- a name with a number is no unknown pin, and one without is
+  pub asked_pin : (name : List ℕ) (n : ℕ) → number_of s.pins name ≡ Some n → IsAskedPin s name n
+  asked_pin name n e =
+      let p = pin_at_name name n e in
+      record { told = p.2; free = ap (λ o. if is_some o then None else Some (UnknownPin name)) p.1 }
+
+  pub unasked_pin : (name : List ℕ) → None ≡ number_of s.pins name → Some (UnknownPin name) ≡ unknown_pin s.design name
+  unasked_pin name e = sym (ap (λ o. if is_some o then None else Some (UnknownPin name)) (no_pin name (sym e)))
 
   pub named_node : (g : Stored) → g ≡ s → (name : List ℕ) (tran : Tran) (node : ℕ) → Some node ≡ number_at g name tran → IsNode s name tran node
   named_node g same name tran node e = by (number_of s.pins name) refl

@@ -5,9 +5,11 @@ use Rattle.std.specs.Prelude.{slice_get, Some}
 use Rattle.timing_defs.specs.declared.rows.NodeRow.{NodeRow}
 use Rattle.timing_defs.specs.declared.rows.BackRow.{BackRow}
 use Rattle.timing_defs.specs.Checks.{IsSound}
+use Rattle.timing_defs.specs.Range.{NoOrigin}
 use Rattle.netlist_store.specs.Numbering.{Stored, IsNumbered}
 use Rattle.netlist_store.specs.Linked.{IsLinked}
 use Rattle.pin_graph.specs.Graphs.{Graphed, IsGraph}
+use Rattle.pin_graph.specs.RowTables.{AreRows}
 use Rattle.arrival_engine.specs.declared.tables.Arrivals.{Arrivals}
 use Rattle.arrival_engine.specs.Analysed.{AreTables}
 use Rattle.arc_delays.specs.Delays.{AreDelays}
@@ -16,9 +18,10 @@ use Rattle.pessimism_credit.specs.declared.rows.TreeRow.{TreeRow}
 use Rattle.required_engine.specs.Worked.{is_back_within}
 use Rattle.path_search.specs.Trees.{IsClockTree}
 use Rattle.affected_cone.specs.declared.ends.EndSlacks.{EndSlacks}
+use Rattle.affected_cone.specs.declared.ends.Search.{Search}
 use Rattle.affected_cone.specs.declared.found.Found.{Found}
 use Rattle.affected_cone.specs.declared.asking.Known.{Known}
-use Rattle.affected_cone.specs.Analysed.{IsAnalysis, IsKept}
+use Rattle.affected_cone.specs.Analysed.{IsAnalysis, IsKept, IsSearch}
 use Rattle.affected_cone.specs.Found.{IsFound}
 use Rattle.affected_cone.specs.Known.{IsKnown}
 
@@ -61,4 +64,19 @@ known_told k arrivals backs ends g tree store graph rows required trees list a k
       (subst (λ (x : Arrivals). AreDelays g.stored (arc_value x.delays)) (sym rows) kept.delays);
   within = subst (λ (x : List BackRow). (node : ℕ) (row : BackRow) → slice_get x node ≡ Some row → is_back_within row ≡ true) (sym required) kept.within;
   tree = subst (λ (x : Graphed). IsClockTree x k.tree.now) (sym graph) (subst (λ (x : List TreeRow). IsClockTree g x) (sym trees) kept.tree);
+}
+
+-- what paths are searched over, of the parts of an analysis
+pub search_told : (x : Search) (arrivals : Arrivals) (backs : List BackRow) (ends : List EndSlacks) (g : Graphed) (tree : List TreeRow) → x.store.now ≡ g.stored → x.graph.now ≡ g
+    → x.arrivals.now ≡ arrivals → x.tree.now ≡ tree → IsAnalysis (record { stored = g.stored; rows = arrivals.rows; backs = backs; ends = ends }) → IsKept g arrivals backs tree → IsSearch x
+search_told x arrivals backs ends g tree store graph rows trees a kept = record {
+  sound = subst (λ (s : Stored). IsSound s.design) (sym store) a.sound;
+  graph = ap (λ (y : Graphed). y.stored) graph ∙ sym store;
+  fine = subst (λ (s : Stored). NoOrigin s.design) (sym store) a.fine;
+  rows = subst (λ (s : Stored). AreRows s x.arrivals.now.rows) (sym store) (subst (λ (y : Arrivals). AreRows g.stored y.rows) (sym rows) a.rows);
+  tables = subst (λ (s : Stored). AreTables s x.arrivals.now) (sym store) (subst (λ (y : Arrivals). AreTables g.stored y) (sym rows) kept.tables);
+  delays =
+      subst (λ (s : Stored). AreDelays s (arc_value x.arrivals.now.delays)) (sym store)
+      (subst (λ (y : Arrivals). AreDelays g.stored (arc_value y.delays)) (sym rows) kept.delays);
+  tree = subst (λ (y : Graphed). IsClockTree y x.tree.now) (sym graph) (subst (λ (y : List TreeRow). IsClockTree g y) (sym trees) kept.tree);
 }

@@ -124,25 +124,25 @@ module _ {E : Type 0} (key : E → ℕ) where
       under (suc a) (suc b) l = elim (under a b (omega (arith, l))) [ inl h ↦ inl (omega (arith, h)) | inr h ↦ inr (ap suc h) ]
 
   -- each item is that of its number
-  each_map : (R : ℕ → E → Type 0) (es : List E) → ((e : E) → Contains es e → R (key e) e) → IsMap R (map key es) es
-  each_map R [] h = tt
-  each_map R (e ∷ es) h = (h e (first_in e es), each_map R es (λ x c. h x (later_in e es x c)))
+  each_map : (Held : ℕ → E → Type 0) (es : List E) → ((e : E) → Contains es e → Held (key e) e) → IsMap Held (map key es) es
+  each_map Held [] h = tt
+  each_map Held (e ∷ es) h = (h e (first_in e es), each_map Held es (λ x c. h x (later_in e es x c)))
 
-  keys_are : (R : ℕ → E → Type 0) → ((n : ℕ) (e : E) → R n e → key e ≡ n) → (ns : List ℕ) (es : List E) → IsMap R ns es → map key es ≡ ns
-  keys_are R keyed [] [] m = refl
-  keys_are R keyed [] (e ∷ es) m = absurd m
-  keys_are R keyed (n ∷ ns) [] m = absurd m
-  keys_are R keyed (n ∷ ns) (e ∷ es) m = λ k. keyed n e m.0 k ∷ keys_are R keyed ns es m.1 k
+  keys_are : (Held : ℕ → E → Type 0) → ((n : ℕ) (e : E) → Held n e → key e ≡ n) → (ns : List ℕ) (es : List E) → IsMap Held ns es → map key es ≡ ns
+  keys_are Held keyed [] [] m = refl
+  keys_are Held keyed [] (e ∷ es) m = absurd m
+  keys_are Held keyed (n ∷ ns) [] m = absurd m
+  keys_are Held keyed (n ∷ ns) (e ∷ es) m = λ k. keyed n e m.0 k ∷ keys_are Held keyed ns es m.1 k
 
 -- what two versions say of a number
-pub record AreNumbered {E : Type 0} (key : E → ℕ) (R : ℕ → E → Type 0) (p : ℕ → Bool) (n : ℕ) : Type 0 where
-  pub keyed : (k : ℕ) (e : E) → R k e → key e ≡ k
+pub record AreNumbered {E : Type 0} (key : E → ℕ) (Held : ℕ → E → Type 0) (p : ℕ → Bool) (n : ℕ) : Type 0 where
+  pub keyed : (k : ℕ) (e : E) → Held k e → key e ≡ k
   pub low : (k : ℕ) → p k ≡ true → k < n
 
-module _ {E : Type 0} (key : E → ℕ) (R R2 : ℕ → E → Type 0) (p p2 : ℕ → Bool) (len len2 : ℕ) (old : AreNumbered key R p len) (new : AreNumbered key R2 p2 len2)
+module _ {E : Type 0} (key : E → ℕ) (Held Holds : ℕ → E → Type 0) (p p2 : ℕ → Bool) (len len2 : ℕ) (old : AreNumbered key Held p len) (new : AreNumbered key Holds p2 len2)
     (there : ℕ → Bool) (known : (n : ℕ) → p2 n ≡ true → there n ≡ true) (dirty : List ℕ)
     (end : (n : ℕ) → there n ≡ true → is_in dirty n ≡ false → p2 n ≡ p n)
-    (moves : (n : ℕ) (e : E) → there n ≡ true → is_in dirty n ≡ false → R n e → R2 n e) where
+    (moves : (n : ℕ) (e : E) → there n ≡ true → is_in dirty n ≡ false → Held n e → Holds n e) where
   abbrev stays : ℕ → Bool
   stays n = there n && not (is_in dirty n)
 
@@ -164,28 +164,28 @@ module _ {E : Type 0} (key : E → ℕ) (R R2 : ℕ → E → Type 0) (p p2 : �
   not_is true h = absurd (false≢true h)
   not_is false h = refl
 
-  module _ (ends : List E) (m : IsMap R (filter p (range_with_len 0 len)) ends) (found : List E) (m2 : IsMap R2 (filter_map again dirty) found) where
-    in_kept : (e : E) → Contains (filter_map kept ends) e → (stays (key e) ≡ true) × R2 (key e) e × (p2 (key e) ≡ true)
+  module _ (ends : List E) (m : IsMap Held (filter p (range_with_len 0 len)) ends) (found : List E) (m2 : IsMap Holds (filter_map again dirty) found) where
+    in_kept : (e : E) → Contains (filter_map kept ends) e → (stays (key e) ≡ true) × Holds (key e) e × (p2 (key e) ≡ true)
     in_kept e c =
         let within = part_in kept key (λ x y. choice_same (stays (key x)) x y) ends e c in
         let pass = choice_is (stays (key e)) e e (part_passes kept key (λ x y. choice_same (stays (key x)) x y) ends e c) in
         let parts = and_parts (there (key e)) (not (is_in dirty (key e))) pass in
         let off = not_is (is_in dirty (key e)) parts.1 in
-        let it = item_of R (filter p (range_with_len 0 len)) ends m e within in
+        let it = item_of Held (filter p (range_with_len 0 len)) ends m e within in
         let is : key e ≡ it.item = old.keyed it.item e it.gives in
-        let mine : R (key e) e = subst (λ (n : ℕ). R n e) (sym is) it.gives in
+        let mine : Held (key e) e = subst (λ (n : ℕ). Held n e) (sym is) it.gives in
         let was : p (key e) ≡ true = ap p is ∙ passes_in p (range_with_len 0 len) it.item it.within in
         (pass, moves (key e) e parts.0 off mine, end (key e) parts.0 off ∙ was)
 
-    in_found : (e : E) → Contains found e → Contains dirty (key e) × R2 (key e) e × (p2 (key e) ≡ true)
+    in_found : (e : E) → Contains found e → Contains dirty (key e) × Holds (key e) e × (p2 (key e) ≡ true)
     in_found e c =
-        let it = item_of R2 (filter_map again dirty) found m2 e c in
+        let it = item_of Holds (filter_map again dirty) found m2 e c in
         let is : key e ≡ it.item = new.keyed it.item e it.gives in
         let within = part_in again (λ n. n) (λ x y. choice_same (p2 x) x y) dirty it.item it.within in
         let pass = choice_is (p2 it.item) it.item it.item (part_passes again (λ n. n) (λ x y. choice_same (p2 x) x y) dirty it.item it.within) in
-        (subst (Contains dirty) (sym is) within, subst (λ (n : ℕ). R2 n e) (sym is) it.gives, ap p2 is ∙ pass)
+        (subst (Contains dirty) (sym is) within, subst (λ (n : ℕ). Holds n e) (sym is) it.gives, ap p2 is ∙ pass)
 
-    in_all : (e : E) → Contains (filter_map kept ends ++ found) e → R2 (key e) e × (p2 (key e) ≡ true)
+    in_all : (e : E) → Contains (filter_map kept ends ++ found) e → Holds (key e) e × (p2 (key e) ≡ true)
     in_all e c = elim (Contains-append_cases (filter_map kept ends) found e c) [
       | inl h ↦ let k = in_kept e h in (k.1, k.2)
       | inr h ↦ let k = in_found e h in (k.1, k.2)
@@ -196,8 +196,8 @@ module _ {E : Type 0} (key : E → ℕ) (R R2 : ℕ → E → Type 0) (p p2 : �
         subst Apart (sym (map_both (filter_map kept ends)))
         (apart_both (map key (filter_map kept ends)) (map key found)
         (part_apart kept key (λ x y. choice_same (stays (key x)) x y) ends
-        (subst Apart (sym (keys_are key R old.keyed (filter p (range_with_len 0 len)) ends m)) (apart_rising (filter p (range_with_len 0 len)) (rises p 0 len))))
-        (subst Apart (sym (keys_are key R2 new.keyed (filter_map again dirty) found m2))
+        (subst Apart (sym (keys_are key Held old.keyed (filter p (range_with_len 0 len)) ends m)) (apart_rising (filter p (range_with_len 0 len)) (rises p 0 len))))
+        (subst Apart (sym (keys_are key Holds new.keyed (filter_map again dirty) found m2))
         (subst Apart (plain (filter_map again dirty)) (part_apart again (λ n. n) (λ x y. choice_same (p2 x) x y) dirty (subst Apart (sym (plain dirty)) (apart_distinct dirty d)))))
         other)
       where
@@ -225,12 +225,12 @@ module _ {E : Type 0} (key : E → ℕ) (R R2 : ℕ → E → Type 0) (p p2 : �
           let r = any_back (nat_eq n) dirty e in
           let c : Contains dirty n = subst (Contains dirty) (sym (eqb-true n r.item r.passes)) r.within in
           let told : again n ≡ Some n = ap (λ b. if b then Some n else None) h in
-          let o = result_of R2 (filter_map again dirty) found m2 n (in_filter_map again dirty n n c told) in
+          let o = result_of Holds (filter_map again dirty) found m2 n (in_filter_map again dirty n n c told) in
           subst (Contains (map key (filter_map kept ends ++ found))) (new.keyed n o.result o.gives)
           (in_map key (filter_map kept ends ++ found) o.result (Contains-append_right (filter_map kept ends) found o.result o.within))
       | inr e ↦
           let was : p n ≡ true = sym (end n (known n h) e) ∙ h in
-          let o = result_of R (filter p (range_with_len 0 len)) ends m n (in_filter p (range_with_len 0 len) n (number_in len n (old.low n was)) was) in
+          let o = result_of Held (filter p (range_with_len 0 len)) ends m n (in_filter p (range_with_len 0 len) n (number_in len n (old.low n was)) was) in
           let is : key o.result ≡ n = old.keyed n o.result o.gives in
           let stay : stays (key o.result) ≡ true = ap stays is ∙ and_from (there n) (not (is_in dirty n)) (known n h) (ap not e) in
           let told : kept o.result ≡ Some o.result = ap (λ b. if b then Some o.result else None) stay in
@@ -240,7 +240,7 @@ module _ {E : Type 0} (key : E → ℕ) (R R2 : ℕ → E → Type 0) (p p2 : �
     ]
 
     pub renewed_all : IsDistinct nat_eq dirty → (result : List E) → IsPermutation (filter_map kept ends ++ found) result → IsNonDecreasingBy key result
-        → IsMap R2 (filter p2 (range_with_len 0 len2)) result
+        → IsMap Holds (filter p2 (range_with_len 0 len2)) result
     renewed_all d result perm up =
         let all = filter_map kept ends ++ found in
         let back = IsPermutation-sym all result perm in
@@ -253,4 +253,4 @@ module _ {E : Type 0} (key : E → ℕ) (R R2 : ℕ → E → Type 0) (p p2 : �
         let good : p2 n ≡ true = ap p2 (sym i.same) ∙ (in_all i.item (Contains-permutation result all i.item back i.within)).1 in
         in_filter p2 (range_with_len 0 len2) n (number_in len2 n (new.low n good)) good)
         (λ n c. Contains-permutation (map key all) (map key result) n keys (has_all n (passes_in p2 (range_with_len 0 len2) n c))) in
-        subst (λ (ns : List ℕ). IsMap R2 ns result) same (each_map key R2 result (λ e c. (in_all e (Contains-permutation result all e back c)).0))
+        subst (λ (ns : List ℕ). IsMap Holds ns result) same (each_map key Holds result (λ e c. (in_all e (Contains-permutation result all e back c)).0))

@@ -6,7 +6,7 @@ use Rattle.timing_defs.specs.declared.kinds.Kind.{Kind}
 use Rattle.timing_defs.specs.declared.faults.QueryFault.{QueryFault}
 use Rattle.timing_defs.specs.declared.faults.QueryFault.TheVariants.{Memory}
 use Rattle.timing_defs.specs.Netlist.{Pin, pin_named}
-use Rattle.timing_defs.specs.Reports.{endpoint_fault}
+use Rattle.timing_defs.specs.Reports.{unknown_pin, endpoint_fault}
 use Rattle.netlist_store.specs.Numbering.{Stored, name_at}
 use Rattle.pin_graph.specs.Nodes.{node_at, node_bound}
 use Rattle.affected_cone.specs.Analysed.{is_end}
@@ -21,6 +21,11 @@ pub record IsNode (s : Stored) (name : List ℕ) (tran : Tran) (node : ℕ) : Ty
   pub named : pin_named s.design name ≡ Some pin
   pub told : node_at s node ≡ Some (record { pin = pin; tran = tran })
   pub below : node < node_bound s
+
+-- a pin that is there, by its name
+pub record IsAskedPin (s : Stored) (name : List ℕ) (pin : ℕ) : Type 0 where
+  pub told : name_at s.pins pin ≡ Some name
+  pub free : unknown_pin s.design name ≡ None
 
 -- an endpoint that a question of a kind may ask for, by its name
 pub record IsAskedEnd (s : Stored) (kind : Kind) (name : List ℕ) (pin : ℕ) : Type 0 where

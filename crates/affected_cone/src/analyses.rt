@@ -7,10 +7,10 @@ ghost use Rattle.timing_defs.specs.Reports.{AreTotals, is_plain};
 ghost use Rattle.timing_defs.specs.Questions.{Told, query_fault};
 ghost use Rattle.netlist_store.specs.Applying.{IsEditOf};
 ghost use Rattle.pin_graph.specs.RowTables.{IsRangeFault};
-ghost use Rattle.affected_cone.specs.Analysed.{IsAnalysis};
+ghost use Rattle.affected_cone.specs.Analysed.{IsAnalysis, IsSearch};
 
 use crate::asking::{Known, answer};
-use crate::ends::EndSlacks;
+use crate::ends::{EndSlacks, Search};
 use crate::found::find_all;
 use crate::totals::totals_of;
 use crate::updating::{Base, find_after};
@@ -156,6 +156,21 @@ impl Analysis {
         ensures { result.now.stored ≡ self.now.stored }
     {
         &self.graph
+    }
+
+    /// What paths are searched over: the store with the graph, the arrivals and the clock tree of the
+    /// analysis. Takes no memory.
+    pub fn search<'a>(&'a self, store: &'a Store) -> Search<'a>
+        requires { store.now ≡ self.now.stored }
+        ensures store { result.store.now ≡ store.now }
+        ensures search { IsSearch result }
+    {
+        Search {
+            store,
+            graph: &self.graph,
+            arrivals: &self.arrivals,
+            tree: self.tree.get(),
+        }
     }
 
     /// The worst slack (none where there is none) and the total negative slack of both kinds, in fs,

@@ -3,7 +3,7 @@
 ghost use Rattle.std.specs.Prelude.{◌≡◌, true, Some, IfOk, IfErr};
 ghost use Rattle.timing_defs.specs.Reports.{unknown_pin, endpoint_fault};
 ghost use Rattle.netlist_store.specs.Numbering.{name_at};
-ghost use Rattle.affected_cone.specs.Asked.{IsRefusal, IsNode, IsAskedEnd};
+ghost use Rattle.affected_cone.specs.Asked.{IsRefusal, IsNode, IsAskedPin, IsAskedEnd};
 
 use netlist_store::Store;
 use node_tests::{is_clocked, is_endpoint};
@@ -60,6 +60,19 @@ pub(crate) fn node_named(
     }
 }
 
+/// The number of a pin; `UnknownPin` exactly where no pin has that name. Takes memory only for the name
+/// in a fault.
+pub fn pin_there(alloc: Global, store: &Store, pin: &Name) -> Result<u32, QueryFault>
+    ensures pin { IfOk result (IsAskedPin store.now pin.now) }
+    ensures refused { IfErr result (IsRefusal (unknown_pin store.now.design pin.now)) }
+{
+    store.laws();
+    match store.pin(pin) {
+        Some(number) => Ok(number),
+        None => Err(unknown_pin(alloc, pin)),
+    }
+}
+
 /// The number of the pin of an endpoint that is clocked for a kind.
 fn end_at(
     alloc: Global,
@@ -88,8 +101,8 @@ fn end_at(
 
 /// The number of an endpoint's pin. `UnknownPin` exactly where no pin has that name, else `NotEndpoint`
 /// exactly where the pin is no endpoint, else `NotClocked` exactly where it is a register's pin that is
-/// not clocked for the kind.
-pub(crate) fn end_named(
+/// not clocked for the kind. Takes memory for the name in a fault, and for what a test of clocks asks.
+pub fn end_named(
     alloc: Global,
     store: &Store,
     graph: &Graph,

@@ -27,11 +27,11 @@ pub struct EndSlacks {
 
 /// What paths are searched over.
 #[derive(Clone, Copy, Drop)]
-pub(crate) struct Search<'a> {
-    pub(crate) store: &'a Store,
-    pub(crate) graph: &'a Graph,
-    pub(crate) arrivals: &'a Arrivals,
-    pub(crate) tree: &'a ClockTree,
+pub struct Search<'a> {
+    pub store: &'a Store,
+    pub graph: &'a Graph,
+    pub arrivals: &'a Arrivals,
+    pub tree: &'a ClockTree,
 }
 
 /// The slack of an endpoint of a kind.
@@ -111,7 +111,7 @@ pub(crate) fn all_ends(alloc: Global, store: &Store) -> Result<Items<u32>, Memor
     Ok(ends)
 }
 
-/// The slacks of an endpoint, by one search for both kinds.
+/// The slacks of an endpoint, by a search for each kind.
 pub(crate) fn end_slacks(alloc: Global, search: &Search<'_>, pin: u32) -> Result<EndSlacks, Memory>
     requires search { IsSearch search.now }
     requires pin { is_end search.now.store.now pin ≡ true }

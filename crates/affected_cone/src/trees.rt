@@ -72,7 +72,7 @@ fn any_placed(graph: &Graph, nodes: &[u32]) -> bool
 
 /// Whether an ECO leaves the clock network, with its places, and reaches none of its nodes; `nodes` are those that it
 /// reaches. Takes time of these, and of a comparison of two lists of the network's nodes.
-pub(crate) fn leaves_network(base: &Graph, graph: &Graph, nodes: &[u32]) -> bool
+pub(crate) fn keeps_network(base: &Graph, graph: &Graph, nodes: &[u32]) -> bool
     requires { All (λ node. node < node_bound graph.now.stored) nodes.now }
     ensures { IsTrue result → IsNetworkLeft base.now graph.now nodes.now }
 {

@@ -18,7 +18,7 @@ ghost use Rattle.affected_cone.specs.Updated.{IsBase, IsReach};
 use crate::end_updates::ends_after;
 use crate::ends::{EndSlacks, Search};
 use crate::found::Found;
-use crate::trees::{leaves_network, shared_tree};
+use crate::trees::{keeps_network, shared_tree};
 use arrival_engine::Arrivals;
 use cow_table::Held;
 use edit_reach::nodes_behind;
@@ -205,7 +205,7 @@ fn tree_after(
     graph.laws();
     base.graph.store().laws();
     graph.store().laws();
-    if leaves_network(base.graph, graph, reach.nodes.as_slice()) {
+    if keeps_network(base.graph, graph, reach.nodes.as_slice()) {
         return base.tree.share();
     }
     shared_tree(alloc, store, graph, arrivals)

@@ -61,6 +61,12 @@ P1 *NAME_MAP *1 #*2
 P1 *NAME_MAP #x y
 P1 *PORTS a I \"b#
 P1 *PORTS a I *C 1 2 /* b#
+P1 *NAME_MAP *1 n *PORTS *1 I #*d_net *1 2 *END
+P1 *PHYSICAL_PORTS *2:A I *L 1 *D *3 #*C_UNIT 1 FF
+P1 *POWER_NETS *1 *2 #*1/VDD
+P1 *GROUND_NETS g #*Signals x
+P1 *PORTS a I #*END
+P1 *PORTS a I #* b
 P2 *D_NET #*1 2 *END
 P2 *D_NET #*1 2 *END *NAME_MAP *1 a
 P2 *NAME_MAP *1 a *D_NET *1 2 *CONN *I #*2:Z I *END
@@ -193,7 +199,7 @@ fn reads_parasitics(rt: HostRuntime) {
         (
             "*SPEF \"x\" // units
 *C_UNIT 0.001 PF *R_UNIT 1e3 KOHM *DELIMITER | *BUS_DELIMITER < > *VENDOR \"a\" \"b\"
-*PORTS p I *C 1 2 \"q\" *END
+*PORTS p I *C 1 2 \"q\" *7 O *L 1 *D *9 *S 1 2 *PHYSICAL_PORTS *7|A I *POWER_NETS *1 v
 *D_NET a\\<1\\> 2.5 *END *D_NET a<2> 1:2:3 *V 5 *CAP *RES *END
 *D_NET b 7 *CAP 1 x 1 2 b|1 2:0.0004:9 *END
 *D_NET c 7 *CAP 1 c|1 -0.0001 *END

@@ -1,36 +1,48 @@
 -- The ECOs and questions of a script that is read are as engines ask of them.
-use Rattle.std.proofs.Common.{◌≡◌, ℕ, ◌+◌, ◌≤◌, Bool, true, false, List, [], ◌∷◌, ◌++◌, length, cond, refl, subst, arith, length-append}
-use Rattle.std.specs.Prelude.{Option, Some, None, option_map, option_and_then, Result, Ok, Err, IfOk, nat_le, codes, ◌==◌}
+use Rattle.std.proofs.Common.{◌≡◌, ℕ, ◌+◌, ◌*◌, ◌-◌, ◌≤◌, Bool, true, false, List, [], ◌∷◌, ◌++◌, length, drop, cond, refl, ap, subst, ◌∙◌, arith, length-append, length-drop}
+use Rattle.std.specs.Prelude.{Option, Some, None, option_map, option_and_then, Result, Ok, Err, IfOk, nat_le, codes, ◌==◌, ◌&&◌}
 use Rattle.std.specs.List.{list_all}
-use Rattle.std.proofs.lemmas.Bool.{cond_both, and_parts, and_from, le-leb}
+use Rattle.std.proofs.lemmas.Bool.{cond_both, and_parts, and_from, le-leb, leb-true, false≢true}
 use Rattle.std.proofs.lemmas.Bool.Decides.{nat_tests}
+use Rattle.std.proofs.lemmas.List.{length-map}
 use Rattle.std.proofs.lemmas.List.Folds.{list_all-append}
 use Rattle.timing_defs.specs.declared.codes.ReadFault.{ReadFault}
 use Rattle.timing_defs.specs.declared.edits.Edit.{Edit}
-use Rattle.timing_defs.specs.declared.reports.Query.{Query}
+use Rattle.timing_defs.specs.declared.reports.Candidate.{Candidate}
+use Rattle.timing_defs.specs.declared.reports.Query.{Query, items_hidden-the_row-Trial-0}
+use Rattle.timing_defs.specs.declared.reports.Query.TheVariants.{Slew, At, Rat, Slack, Endpoint, WorstPath, Wns, Tns, Worst, Through, Paths, WhatIf', Advise}
+use Rattle.timing_defs.specs.declared.reports.Trial.{Trial}
+use Rattle.timing_defs.specs.declared.reports.Trial.TheVariants.{Drop, Ask as ask_draft}
 use Rattle.timing_defs.specs.declared.scripts.Command.{Command}
-use Rattle.timing_defs.specs.declared.scripts.Command.TheVariants.{Take}
+use Rattle.timing_defs.specs.declared.scripts.Command.TheVariants.{Take, Await, Ask, Change}
 use Rattle.timing_defs.specs.declared.scripts.Script.{Script}
 use Rattle.timing_defs.specs.declared.kinds.Kind.{Kind}
-use Rattle.timing_defs.specs.Documents.{is_edit}
+use Rattle.timing_defs.specs.Documents.{is_edit, is_eco, is_count, is_trial, is_question}
 use Rattle.timing_defs.specs.Reports.{is_plain}
 use Rattle.sta_text.specs.declared.faults.Wrong.{Wrong}
 use Rattle.sta_text.specs.Faults.{least_from}
 use Rattle.sta_text.proofs.FaultsLemmas.{least_none}
 use Rattle.eco_journal.specs.declared.stops.Stop.{Stop}
 use Rattle.eco_journal.specs.Lines.{Part, lines_of}
-use Rattle.eco_journal.specs.Words.{text, says, number_of, within}
-use Rattle.eco_journal.specs.EditLines.{edit_of}
+use Rattle.eco_journal.specs.Words.{text, says, is_word, number_of, within}
+use Rattle.eco_journal.specs.EditLines.{names, texts_of, edit_of}
 use Rattle.eco_journal.specs.Journal.{Tells}
 use Rattle.eco_journal.proofs.KeptLaws.{line_kept}
 use Rattle.script_reader.specs.declared.commands.Node.{Node}
-use Rattle.script_reader.specs.Commands.{words_in, kind_of, node_of, endpoint_of, only_kind, worst_at, node_asked, node_query, endpoint_asked, endpoint_query, total_asked, total_query, first_of_two, awaited, asked, query_of, command_of}
-use Rattle.script_reader.specs.Scripts.{Event, long, single, change, group_begin, group_end, unknown, is_ascii, is_passed, is_alone, edit_said, command_said, words_said, line_said, too_long, events, Place, outside, inside, eco, commands, behind, if_empty, excess, faults, told, script_of}
-use Rattle.script_reader.specs.Answerable.{is_answerable, are_answerable}
+use Rattle.script_reader.specs.Commands.{words_in, kind_of, node_of, endpoint_of, only_kind, worst_at, node_asked, node_query, endpoint_asked, endpoint_query, total_asked, total_query, through_at, through_of, paths_at, paths_of, path_query, are_pairs, candidates_of, advise_at, advise_query, first_of_two, awaited, asked, query_of, command_of}
+use Rattle.script_reader.specs.Scripts.{Event, long, single, change, group_begin, group_end, draft_begin, draft_end, dropped, unknown, is_ascii, is_passed, is_alone, edit_said, command_said, words_said, line_said, too_long, events, Place, outside, inside, drafted, tried, eco, trial, what_if, commands, bad, behind, if_empty, excess, faults, told, script_of}
+use Rattle.script_reader.specs.Answerable.{is_asked, is_answerable, are_answerable}
+
+-- a command by itself, as a line says it
+abbrev is_said : Command → Bool
+is_said (Ask q) = is_question q
+is_said (Change eco) = is_eco eco
+is_said Take = true
+is_said (Await number looks) = true
 
 -- commands by themselves and edits, as lines say them
 abbrev is_fine : Event → Bool
-is_fine (single n command) = is_answerable command
+is_fine (single n command) = is_said command
 is_fine (change n e) = is_edit e
 is_fine e = true
 
@@ -53,60 +65,138 @@ edit_fine n (Err stop) h = done (unknown n ∷ []) refl
 -- a command that no edit line gives changes nothing
 abbrev IfSome : Option Command → Type 0
 IfSome None = Unit {0}
-IfSome (Some command) = is_answerable command ≡ true
+IfSome (Some command) = is_said command ≡ true
 
 await_fine : (number looks : Option ℕ) → IfSome (awaited number looks)
 await_fine None looks = tt
 await_fine (Some number) None = tt
 await_fine (Some number) (Some looks) = refl
 
--- the questions are plain
-abbrev IfPlain : Option Query → Type 0
-IfPlain None = Unit {0}
-IfPlain (Some query) = is_plain query ≡ true
+-- the questions are such as a script may ask
+abbrev IfAsked : Option Query → Type 0
+IfAsked None = Unit {0}
+IfAsked (Some query) = is_question query ≡ true
 
-node_plain : (words : List Part) (node : Option Node) → IfPlain (option_and_then (node_asked words) node)
-node_plain words None = tt
-node_plain words (Some n) =
-    cond_both (says words 0 (codes "report_slew")) _ _ IfPlain (λ _. refl)
-    (λ _. cond_both (says words 0 (codes "report_at")) _ _ IfPlain (λ _. refl)
-    (λ _. cond_both (says words 0 (codes "report_rat")) _ _ IfPlain (λ _. refl)
-    (λ _. cond_both (says words 0 (codes "report_slack")) _ _ IfPlain (λ _. refl) (λ _. tt))))
+node_fine : (words : List Part) (node : Option Node) → IfAsked (option_and_then (node_asked words) node)
+node_fine words None = tt
+node_fine words (Some n) =
+    cond_both (says words 0 (codes "report_slew")) _ _ IfAsked (λ _. refl)
+    (λ _. cond_both (says words 0 (codes "report_at")) _ _ IfAsked (λ _. refl)
+    (λ _. cond_both (says words 0 (codes "report_rat")) _ _ IfAsked (λ _. refl)
+    (λ _. cond_both (says words 0 (codes "report_slack")) _ _ IfAsked (λ _. refl) (λ _. tt))))
 
-end_plain : (words : List Part) (end : Option (List ℕ × Kind)) → IfPlain (option_and_then (endpoint_asked words) end)
-end_plain words None = tt
-end_plain words (Some e) =
-    cond_both (says words 0 (codes "report_endpoint")) _ _ IfPlain (λ _. refl)
-    (λ _. cond_both (says words 0 (codes "report_path")) _ _ IfPlain (λ _. refl) (λ _. tt))
+end_fine : (words : List Part) (end : Option (List ℕ × Kind)) → IfAsked (option_and_then (endpoint_asked words) end)
+end_fine words None = tt
+end_fine words (Some e) =
+    cond_both (says words 0 (codes "report_endpoint")) _ _ IfAsked (λ _. refl)
+    (λ _. cond_both (says words 0 (codes "report_path")) _ _ IfAsked (λ _. refl) (λ _. tt))
 
-sum_plain : (words : List Part) (kind : Option Kind) → IfPlain (option_and_then (total_asked words) kind)
-sum_plain words None = tt
-sum_plain words (Some kind) =
-    cond_both (says words 0 (codes "report_wns")) _ _ IfPlain (λ _. refl)
-    (λ _. cond_both (says words 0 (codes "report_tns")) _ _ IfPlain (λ _. refl) (λ _. tt))
+sum_fine : (words : List Part) (kind : Option Kind) → IfAsked (option_and_then (total_asked words) kind)
+sum_fine words None = tt
+sum_fine words (Some kind) =
+    cond_both (says words 0 (codes "report_wns")) _ _ IfAsked (λ _. refl)
+    (λ _. cond_both (says words 0 (codes "report_tns")) _ _ IfAsked (λ _. refl) (λ _. tt))
 
-worst_plain : (kind : Option Kind) (count : Option ℕ) → IfPlain (worst_at kind count)
-worst_plain None count = tt
-worst_plain (Some kind) None = tt
-worst_plain (Some kind) (Some count) = refl
+-- a number within a range from 1 is a count
+worst_fine : (kind : Option Kind) (count : Option ℕ) → IfAsked (worst_at kind (within 1 100 count))
+worst_fine None count = tt
+worst_fine (Some kind) None = tt
+worst_fine (Some kind) (Some n) =
+    cond_both (nat_le 1 n && nat_le n 100) (Some n) None (λ count. IfAsked (worst_at (Some kind) count)) (λ h. h) (λ _. tt)
 
-total_plain : (words : List Part) → IfPlain (total_query words)
-total_plain words =
-    cond_both (says words 0 (codes "report_worst")) _ _ IfPlain
-    (λ _. cond_both (length words == 3) _ _ IfPlain
-    (λ _. worst_plain (kind_of (text words 1)) (within 1 100 (number_of (text words 2)))) (λ _. tt))
-    (λ _. sum_plain words (only_kind words))
+total_fine : (words : List Part) → IfAsked (total_query words)
+total_fine words =
+    cond_both (says words 0 (codes "report_worst")) _ _ IfAsked
+    (λ _. cond_both (length words == 3) _ _ IfAsked
+    (λ _. worst_fine (kind_of (text words 1)) (number_of (text words 2))) (λ _. tt))
+    (λ _. sum_fine words (only_kind words))
 
-two_plain : (first other : Option Query) → IfPlain first → IfPlain other → IfPlain (first_of_two first other)
-two_plain None other h k = k
-two_plain (Some query) other h k = h
+paths_at_fine : (pin : List ℕ) (kind : Option Kind) (count : Option ℕ) → IfAsked (paths_at pin kind (within 1 100 count))
+paths_at_fine pin None count = tt
+paths_at_fine pin (Some kind) None = tt
+paths_at_fine pin (Some kind) (Some n) =
+    cond_both (nat_le 1 n && nat_le n 100) (Some n) None (λ count. IfAsked (paths_at pin (Some kind) count)) (λ h. h) (λ _. tt)
 
-query_plain : (words : List Part) → IfPlain (query_of words)
-query_plain words =
-    two_plain (node_query words) (first_of_two (endpoint_query words) (total_query words)) (node_plain words (node_of words))
-    (two_plain (endpoint_query words) (total_query words) (end_plain words (endpoint_of words)) (total_plain words))
+paths_fine : (words : List Part) → IfAsked (paths_of words)
+paths_fine words =
+    cond_both (length words == 4 && names words 1) _ _ IfAsked
+    (λ _. paths_at_fine (text words 1) (kind_of (text words 2)) (number_of (text words 3))) (λ _. tt)
 
-asked_fine : (query : Option Query) → IfPlain query → IfSome (option_map asked query)
+through_at_fine : (pin : List ℕ) (pins : List (List ℕ)) (kind : Option Kind) → is_count 16 (length pins) ≡ true → IfAsked (through_at pin pins kind)
+through_at_fine pin pins None h = tt
+through_at_fine pin pins (Some kind) h = h
+
+-- behind three words of 4 to 19 stand 1 to 16
+words_counted : (words : List Part) → nat_le 4 (length words) ≡ true → nat_le (length words) 19 ≡ true → is_count 16 (length (texts_of (drop 3 words))) ≡ true
+words_counted words some few =
+    let low : 4 ≤ length words = leb-true 4 (length words) some in
+    let high : length words ≤ 19 = leb-true (length words) 19 few in
+    let count : length (texts_of (drop 3 words)) ≡ length words - 3 = length-map (drop 3 words) (λ (w : Part). w.text) ∙ length-drop 3 words in
+    and_from (nat_le 1 (length (texts_of (drop 3 words)))) (nat_le (length (texts_of (drop 3 words))) 16)
+    (le-leb 1 (length (texts_of (drop 3 words))) (omega (arith, low, count))) (le-leb (length (texts_of (drop 3 words))) 16 (omega (arith, high, count)))
+
+through_fine : (words : List Part) → IfAsked (through_of words)
+through_fine words =
+    cond_both (nat_le 4 (length words) && nat_le (length words) 19 && names words 1 && list_all is_word (drop 3 words)) _ _ IfAsked
+    (λ h.
+    let named = and_parts (nat_le 4 (length words) && nat_le (length words) 19 && names words 1) (list_all is_word (drop 3 words)) h in
+    let counted = and_parts (nat_le 4 (length words) && nat_le (length words) 19) (names words 1) named.0 in
+    let bounds = and_parts (nat_le 4 (length words)) (nat_le (length words) 19) counted.0 in
+    through_at_fine (text words 1) (texts_of (drop 3 words)) (kind_of (text words 2)) (words_counted words bounds.0 bounds.1))
+    (λ _. tt)
+
+path_fine : (words : List Part) → IfAsked (path_query words)
+path_fine words =
+    cond_both (says words 0 (codes "report_through")) _ _ IfAsked (λ _. through_fine words)
+    (λ _. cond_both (says words 0 (codes "report_paths")) _ _ IfAsked (λ _. paths_fine words) (λ _. tt))
+
+-- names in pairs are twice as many as the candidates
+pairs_counted : (words : List Part) → are_pairs words ≡ true → length words ≡ 2 * length (candidates_of words)
+pairs_counted [] h = refl
+pairs_counted (inst ∷ []) h = absurd (false≢true h)
+pairs_counted (inst ∷ cell ∷ words) h =
+    let more = pairs_counted words (and_parts (is_word inst && is_word cell) (are_pairs words) h).1 in omega (arith, more)
+
+-- behind two words of 4 to 202 stand 1 to 100 pairs
+candidates_counted : (words : List Part) → nat_le 4 (length words) ≡ true → nat_le (length words) 202 ≡ true → are_pairs (drop 2 words) ≡ true
+    → is_count 100 (length (candidates_of (drop 2 words))) ≡ true
+candidates_counted words some few pairs =
+    let low : 4 ≤ length words = leb-true 4 (length words) some in
+    let high : length words ≤ 202 = leb-true (length words) 202 few in
+    let twice : length (drop 2 words) ≡ 2 * length (candidates_of (drop 2 words)) = pairs_counted (drop 2 words) pairs in
+    let count : length (drop 2 words) ≡ length words - 2 = length-drop 2 words in
+    and_from (nat_le 1 (length (candidates_of (drop 2 words)))) (nat_le (length (candidates_of (drop 2 words))) 100)
+    (le-leb 1 (length (candidates_of (drop 2 words))) (omega (arith, low, twice, count)))
+    (le-leb (length (candidates_of (drop 2 words))) 100 (omega (arith, high, twice, count)))
+
+advise_at_fine : (candidates : List Candidate) (kind : Option Kind) → is_count 100 (length candidates) ≡ true → IfAsked (advise_at candidates kind)
+advise_at_fine candidates None h = tt
+advise_at_fine candidates (Some kind) h = h
+
+advise_fine : (words : List Part) → IfAsked (advise_query words)
+advise_fine words =
+    cond_both (says words 0 (codes "advise")) _ _ IfAsked
+    (λ _. cond_both (nat_le 4 (length words) && nat_le (length words) 202 && are_pairs (drop 2 words)) _ _ IfAsked
+    (λ h.
+    let paired = and_parts (nat_le 4 (length words) && nat_le (length words) 202) (are_pairs (drop 2 words)) h in
+    let bounds = and_parts (nat_le 4 (length words)) (nat_le (length words) 202) paired.0 in
+    advise_at_fine (candidates_of (drop 2 words)) (kind_of (text words 1)) (candidates_counted words bounds.0 bounds.1 paired.1))
+    (λ _. tt))
+    (λ _. tt)
+
+two_fine : (first other : Option Query) → IfAsked first → IfAsked other → IfAsked (first_of_two first other)
+two_fine None other h k = k
+two_fine (Some query) other h k = h
+
+query_fine : (words : List Part) → IfAsked (query_of words)
+query_fine words =
+    two_fine (node_query words) (first_of_two (endpoint_query words) (first_of_two (total_query words) (first_of_two (path_query words) (advise_query words))))
+    (node_fine words (node_of words))
+    (two_fine (endpoint_query words) (first_of_two (total_query words) (first_of_two (path_query words) (advise_query words))) (end_fine words (endpoint_of words))
+    (two_fine (total_query words) (first_of_two (path_query words) (advise_query words)) (total_fine words)
+    (two_fine (path_query words) (advise_query words) (path_fine words) (advise_fine words))))
+
+asked_fine : (query : Option Query) → IfAsked query → IfSome (option_map asked query)
 asked_fine None h = tt
 asked_fine (Some query) h = h
 
@@ -118,7 +208,7 @@ command_fine words =
     (λ _. cond_both (says words 0 (codes "await")) _ _ IfSome
     (λ _. cond_both (length words == 3) _ _ IfSome
     (λ _. await_fine (within 0 18446744073709551615 (number_of (text words 1))) (within 1 1000 (number_of (text words 2)))) (λ _. tt))
-    (λ _. asked_fine (query_of words) (query_plain words)))
+    (λ _. asked_fine (query_of words) (query_fine words)))
 
 said_fine : (n : ℕ) (words : List Part) (command : Option Command) → IfSome command → AreFine (command_said n words command)
 said_fine n words None h = edit_fine n (edit_of true words) (λ e read. line_kept true words e read)
@@ -128,7 +218,10 @@ words_fine : (n : ℕ) (words : List Part) → AreFine (words_said n words)
 words_fine n words =
     pick (is_passed words) _ _ (done [] refl)
     (pick (is_alone words (codes "begin_eco")) _ _ (done (group_begin n ∷ []) refl)
-    (pick (is_alone words (codes "commit_eco")) _ _ (done (group_end n ∷ []) refl) (said_fine n words (command_of words) (command_fine words))))
+    (pick (is_alone words (codes "commit_eco")) _ _ (done (group_end n ∷ []) refl)
+    (pick (is_alone words (codes "begin_what_if")) _ _ (done (draft_begin n ∷ []) refl)
+    (pick (is_alone words (codes "end_what_if")) _ _ (done (draft_end n ∷ []) refl)
+    (pick (is_alone words (codes "drop_last")) _ _ (done (dropped n ∷ []) refl) (said_fine n words (command_of words) (command_fine words)))))))
 
 line_fine : (n : ℕ) (line : List ℕ) → AreFine (line_said n line)
 line_fine n line = pick (list_all is_ascii line) _ _ (words_fine n (words_in line)) (done (unknown n ∷ []) refl)
@@ -151,45 +244,146 @@ behind_none limit before n rest h = by_cases (nat_le limit before) refl h
     by_cases true e g = absurd (cc)
     by_cases false e g = (e, g)
 
--- the edits of an open group
+-- a question that a line asks may be asked, and of a draft where it is plain
+asked_said : (q : Query) → is_question q ≡ true → is_asked q ≡ true
+asked_said (Slew pin split tran) h = refl
+asked_said (At pin split tran) h = refl
+asked_said (Rat pin split tran) h = refl
+asked_said (Slack pin split tran) h = refl
+asked_said (Endpoint pin kind) h = refl
+asked_said (WorstPath pin kind) h = refl
+asked_said (Wns kind) h = refl
+asked_said (Tns kind) h = refl
+asked_said (Worst kind count) h = refl
+asked_said (Through pin kind pins) h = h
+asked_said (Paths pin kind count) h = h
+asked_said (WhatIf' shape trials) h = h
+asked_said (Advise kind candidates) h = h
+
+trial_said : (q : Query) → is_question q ≡ true → is_plain q ≡ true → is_trial (ask_draft q) ≡ true
+trial_said (Slew pin split tran) h plain = refl
+trial_said (At pin split tran) h plain = refl
+trial_said (Rat pin split tran) h plain = refl
+trial_said (Slack pin split tran) h plain = refl
+trial_said (Endpoint pin kind) h plain = refl
+trial_said (WorstPath pin kind) h plain = refl
+trial_said (Wns kind) h plain = refl
+trial_said (Tns kind) h plain = refl
+trial_said (Worst kind count) h plain = h
+trial_said (Through pin kind pins) h plain = absurd (false≢true plain)
+trial_said (Paths pin kind count) h plain = absurd (false≢true plain)
+trial_said (WhatIf' shape trials) h plain = absurd (false≢true plain)
+trial_said (Advise kind candidates) h plain = absurd (false≢true plain)
+
+answerable_said : (c : Command) → is_said c ≡ true → is_answerable c ≡ true
+answerable_said Take h = refl
+answerable_said (Await number looks) h = refl
+answerable_said (Ask q) h = asked_said q h
+answerable_said (Change eco) h = h
+
+-- the edits of an open group, and the trials of an open draft
 abbrev IsOpen : Place → Type 0
 IsOpen outside = Unit {0}
 IsOpen (inside begin edits) = (list_all is_edit edits ≡ true) × (length edits ≤ 1000)
+IsOpen (drafted begin trials) = (list_all is_trial trials ≡ true) × (length trials ≤ 100)
+IsOpen (tried begin trials group edits) =
+    (list_all is_trial trials ≡ true) × (nat_le 100 (length trials) ≡ false) × (list_all is_edit edits ≡ true) × (length edits ≤ 1000)
 
-eco_made : (edits : List Edit) → 1 ≤ length edits → length edits ≤ 1000 → list_all is_edit edits ≡ true → is_answerable (eco edits) ≡ true
+eco_made : (edits : List Edit) → 1 ≤ length edits → length edits ≤ 1000 → list_all is_edit edits ≡ true → is_eco (record { edits = edits }) ≡ true
 eco_made edits some few good = rw (le-leb 1 (length edits) some, le-leb (length edits) 1000 few, good) refl
 
-ended : (begin : ℕ) (edits : List Edit) (rest : List Wrong) → IsOpen (inside begin edits) → if_empty begin edits rest ≡ [] → (is_answerable (eco edits) ≡ true) × (rest ≡ [])
-ended begin [] rest h g = absurd (cc)
-ended begin (e ∷ es) rest h g = (eco_made (e ∷ es) (omega arith) h.1 h.0, g)
+draft_counted : (trials : List Trial) → 1 ≤ length trials → length trials ≤ 100 → list_all is_trial trials ≡ true
+    → (is_count 100 (length trials) && list_all is_trial trials) ≡ true
+draft_counted trials some few good = rw (le-leb 1 (length trials) some, le-leb (length trials) 100 few, good) refl
+
+draft_made : (trials : List Trial) → 1 ≤ length trials → length trials ≤ 100 → list_all is_trial trials ≡ true → is_answerable (what_if trials) ≡ true
+draft_made trials some few good =
+    ap (λ (xs : List Trial). is_count 100 (length xs) && list_all is_trial xs) (items_hidden-the_row-Trial-0 trials)
+    ∙ draft_counted trials some few good
+
+ended : {X : Type 0} (begin : ℕ) (xs : List X) (rest : List Wrong) → if_empty begin xs rest ≡ [] → (1 ≤ length xs) × (rest ≡ [])
+ended begin [] rest g = absurd (cc)
+ended begin (x ∷ xs) rest g = (omega arith, g)
+
+-- one more
+one_longer : {X : Type 0} (most : ℕ) (xs : List X) (x : X) → nat_le most (length xs) ≡ false → length (xs ++ x ∷ []) ≤ most
+one_longer most xs x room = grind (arith, nat_tests, length-append xs (x ∷ []), room)
+
+all_longer : {X : Type 0} (good : X → Bool) (xs : List X) (x : X) → list_all good xs ≡ true → good x ≡ true → list_all good (xs ++ x ∷ []) ≡ true
+all_longer good xs x h k = rw (list_all-append good xs (x ∷ [])) (rw (h, k) refl)
+
+-- a question that is no plain one has a fault in a draft
+plain_kept : (plain : Bool) (n : ℕ) (xs : List Wrong) (cs : List Command) → (plain ≡ true → xs ≡ [] → list_all is_answerable cs ≡ true)
+    → cond plain xs (bad n ∷ []) ≡ [] → list_all is_answerable (cond plain cs []) ≡ true
+plain_kept true n xs cs kept h = kept refl h
+plain_kept false n xs cs kept h = absurd (cc)
 
 behind_fine : (e : Event) (es : List Event) → AreFine (e ∷ es) → AreFine es
 behind_fine e es h = done es (and_parts (is_fine e) (list_all is_fine es) h.all).1
 
 commands_kept : (count : ℕ) (place : Place) (es : List Event) → IsOpen place → AreFine es → faults count place es ≡ [] → list_all is_answerable (commands place es) ≡ true
 unfolding commands faults
-commands_kept count place (long n ∷ es) group fine h = absurd (cc)
-commands_kept count outside (single n command ∷ es) group fine h =
-    let both = and_parts (is_answerable command) (list_all is_fine es) fine.all in
-    and_from (is_answerable command) (list_all is_answerable (commands outside es)) both.0
+commands_kept count place (long n ∷ es) stands fine h = absurd (cc)
+commands_kept count outside (single n command ∷ es) stands fine h =
+    let both = and_parts (is_said command) (list_all is_fine es) fine.all in
+    and_from (is_answerable command) (list_all is_answerable (commands outside es)) (answerable_said command both.0)
     (commands_kept (count + 1) outside es tt (done es both.1) (behind_none 10000 count n (faults (count + 1) outside es) h).1)
-commands_kept count outside (change n e ∷ es) group fine h =
+commands_kept count outside (change n e ∷ es) stands fine h =
     let both = and_parts (is_edit e) (list_all is_fine es) fine.all in
     and_from (is_answerable (eco (e ∷ []))) (list_all is_answerable (commands outside es)) (eco_made (e ∷ []) (omega arith) (omega arith) (rw both.0 refl))
     (commands_kept (count + 1) outside es tt (done es both.1) (behind_none 10000 count n (faults (count + 1) outside es) h).1)
-commands_kept count outside (group_begin n ∷ es) group fine h =
+commands_kept count outside (group_begin n ∷ es) stands fine h =
     commands_kept count (inside n []) es (refl, omega arith) (behind_fine (group_begin n) es fine)
     (behind_none 10000 count n (faults count (inside n []) es) h).1
-commands_kept count (inside begin edits) (change n e ∷ es) group fine h =
+commands_kept count outside (draft_begin n ∷ es) stands fine h =
+    commands_kept count (drafted n []) es (refl, omega arith) (behind_fine (draft_begin n) es fine)
+    (behind_none 10000 count n (faults count (drafted n []) es) h).1
+commands_kept count (inside begin edits) (change n e ∷ es) stands fine h =
     let both = and_parts (is_edit e) (list_all is_fine es) fine.all in
     let room = behind_none 1000 (length edits) n (faults count (inside begin (edits ++ e ∷ [])) es) h in
-    let few : length (edits ++ e ∷ []) ≤ 1000 = grind (arith, nat_tests, length-append edits (e ∷ []), room.0) in
-    commands_kept count (inside begin (edits ++ e ∷ [])) es (rw (list_all-append is_edit edits (e ∷ [])) (rw (group.0, both.0) refl), few) (done es both.1) room.1
-commands_kept count (inside begin edits) (group_end n ∷ es) group fine h =
-    let closed = ended begin edits (faults (count + 1) outside es) group h in
-    and_from (is_answerable (eco edits)) (list_all is_answerable (commands outside es)) closed.0
+    commands_kept count (inside begin (edits ++ e ∷ [])) es
+    (all_longer is_edit edits e stands.0 both.0, one_longer 1000 edits e room.0) (done es both.1) room.1
+commands_kept count (inside begin edits) (group_end n ∷ es) stands fine h =
+    let closed = ended begin edits (faults (count + 1) outside es) h in
+    and_from (is_answerable (eco edits)) (list_all is_answerable (commands outside es)) (eco_made edits closed.0 stands.1 stands.0)
     (commands_kept (count + 1) outside es tt (behind_fine (group_end n) es fine) closed.1)
-commands_kept count place es group fine h = refl
+commands_kept count (drafted begin trials) (single n (Ask q) ∷ es) stands fine h =
+    let both = and_parts (is_question q) (list_all is_fine es) fine.all in
+    plain_kept (is_plain q) n (behind 100 (length trials) n ++ faults count (drafted begin (trials ++ ask_draft q ∷ [])) es)
+    (commands (drafted begin (trials ++ ask_draft q ∷ [])) es)
+    (λ plain none.
+    let room = behind_none 100 (length trials) n (faults count (drafted begin (trials ++ ask_draft q ∷ [])) es) none in
+    commands_kept count (drafted begin (trials ++ ask_draft q ∷ [])) es
+    (all_longer is_trial trials (ask_draft q) stands.0 (trial_said q both.0 plain), one_longer 100 trials (ask_draft q) room.0) (done es both.1) room.1)
+    h
+commands_kept count (drafted begin trials) (change n e ∷ es) stands fine h =
+    let both = and_parts (is_edit e) (list_all is_fine es) fine.all in
+    let one : Trial = trial (e ∷ []) in
+    let room = behind_none 100 (length trials) n (faults count (drafted begin (trials ++ one ∷ [])) es) h in
+    commands_kept count (drafted begin (trials ++ one ∷ [])) es
+    (all_longer is_trial trials one stands.0 (eco_made (e ∷ []) (omega arith) (omega arith) (rw both.0 refl)), one_longer 100 trials one room.0) (done es both.1) room.1
+commands_kept count (drafted begin trials) (dropped n ∷ es) stands fine h =
+    let room = behind_none 100 (length trials) n (faults count (drafted begin (trials ++ Drop ∷ [])) es) h in
+    commands_kept count (drafted begin (trials ++ Drop ∷ [])) es (all_longer is_trial trials Drop stands.0 refl, one_longer 100 trials Drop room.0)
+    (behind_fine (dropped n) es fine) room.1
+commands_kept count (drafted begin trials) (group_begin n ∷ es) stands fine h =
+    let room = behind_none 100 (length trials) n (faults count (tried begin trials n []) es) h in
+    commands_kept count (tried begin trials n []) es (stands.0, room.0, refl, omega arith) (behind_fine (group_begin n) es fine) room.1
+commands_kept count (drafted begin trials) (draft_end n ∷ es) stands fine h =
+    let closed = ended begin trials (faults (count + 1) outside es) h in
+    and_from (is_answerable (what_if trials)) (list_all is_answerable (commands outside es)) (draft_made trials closed.0 stands.1 stands.0)
+    (commands_kept (count + 1) outside es tt (behind_fine (draft_end n) es fine) closed.1)
+commands_kept count (tried begin trials group edits) (change n e ∷ es) stands fine h =
+    let both = and_parts (is_edit e) (list_all is_fine es) fine.all in
+    let room = behind_none 1000 (length edits) n (faults count (tried begin trials group (edits ++ e ∷ [])) es) h in
+    commands_kept count (tried begin trials group (edits ++ e ∷ [])) es
+    (stands.0, stands.1, all_longer is_edit edits e stands.2 both.0, one_longer 1000 edits e room.0) (done es both.1) room.1
+commands_kept count (tried begin trials group edits) (group_end n ∷ es) stands fine h =
+    let closed = ended group edits (faults count (drafted begin (trials ++ trial edits ∷ [])) es) h in
+    commands_kept count (drafted begin (trials ++ trial edits ∷ [])) es
+    (all_longer is_trial trials (trial edits) stands.0 (eco_made edits closed.0 stands.3 stands.2), one_longer 100 trials (trial edits) stands.1)
+    (behind_fine (group_end n) es fine) closed.1
+commands_kept count place es stands fine h = refl
 
 told_kept : (r : Result Script ReadFault) (least : Option Wrong) (cs : List Command) → (least ≡ None → list_all is_answerable cs ≡ true) → Tells r (told least cs) → IfOk r (λ script. are_answerable script ≡ true)
 told_kept (Ok script) None cs h read = subst (λ (r : Result Script ReadFault). IfOk r (λ s. are_answerable s ≡ true)) read (h refl)

@@ -1,5 +1,6 @@
 -- The commands of a session's script, by the words of a line (own; the reports are those of OpenTimer).
-use Rattle.std.specs.Prelude.{ℕ, List, ◌==◌, ◌&&◌, length, map, if◌then◌else◌, codes, Option, Some, None, option_map, option_and_then}
+use Rattle.std.specs.Prelude.{ℕ, List, [], ◌∷◌, Bool, true, false, ◌==◌, ◌&&◌, nat_le, length, map, drop, if◌then◌else◌, codes, Option, Some, None, option_map, option_and_then}
+use Rattle.std.specs.List.{list_all}
 use Rattle.std.specs.Str.{bytes_eq}
 use Rattle.timing_defs.specs.declared.kinds.Kind.{Kind}
 use Rattle.timing_defs.specs.declared.kinds.Kind.TheVariants.{Setup, Hold}
@@ -8,15 +9,16 @@ use Rattle.timing_defs.specs.declared.kinds.Split.TheVariants.{Early, Late}
 use Rattle.timing_defs.specs.declared.kinds.Tran.{Tran}
 use Rattle.timing_defs.specs.declared.kinds.Tran.TheVariants.{Rise, Fall}
 use Rattle.timing_defs.specs.declared.texts.Style.TheVariants.{Script as script_style}
+use Rattle.timing_defs.specs.declared.reports.Candidate.{Candidate}
 use Rattle.timing_defs.specs.declared.reports.Query.{Query}
-use Rattle.timing_defs.specs.declared.reports.Query.TheVariants.{Slew, At, Rat, Slack, Endpoint, WorstPath, Wns, Tns, Worst}
+use Rattle.timing_defs.specs.declared.reports.Query.TheVariants.{Slew, At, Rat, Slack, Endpoint, WorstPath, Wns, Tns, Worst, Through, Paths, Advise}
 use Rattle.timing_defs.specs.declared.scripts.Command.{Command}
 use Rattle.timing_defs.specs.declared.scripts.Command.TheVariants.{Take, Await, Ask}
 use Rattle.script_reader.specs.declared.commands.Node.{Node}
 use Rattle.sta_text.specs.Tokens.{Tok, tokens_of}
 use Rattle.eco_journal.specs.Lines.{Part}
-use Rattle.eco_journal.specs.Words.{text, says, number_of, within}
-use Rattle.eco_journal.specs.EditLines.{names}
+use Rattle.eco_journal.specs.Words.{text, says, is_word, number_of, within}
+use Rattle.eco_journal.specs.EditLines.{names, texts_of}
 
 abbrev pub word_of : Tok → Part
 word_of token = record { text = token.text; at = token.start }
@@ -93,6 +95,61 @@ abbrev pub total_query : List Part → Option Query
 total_query words =
     (if says words 0 (codes "report_worst") then worst_of words else option_and_then (total_asked words) (only_kind words))
 
+abbrev pub through_at : List ℕ → List (List ℕ) → Option Kind → Option Query
+through_at pin pins None = None
+through_at pin pins (Some kind) = Some (Through pin kind pins)
+
+-- PIN KIND and 1 to 16 names behind a command
+abbrev pub through_of : List Part → Option Query
+through_of words =
+    (if nat_le 4 (length words) && nat_le (length words) 19 && names words 1 && list_all is_word (drop 3 words)
+    then through_at (text words 1) (texts_of (drop 3 words)) (kind_of (text words 2))
+    else None)
+
+abbrev pub paths_at : List ℕ → Option Kind → Option ℕ → Option Query
+paths_at pin None count = None
+paths_at pin (Some kind) None = None
+paths_at pin (Some kind) (Some count) = Some (Paths pin kind count)
+
+-- PIN KIND K behind a command, K from 1 to 100
+abbrev pub paths_of : List Part → Option Query
+paths_of words =
+    (if length words == 4 && names words 1
+    then paths_at (text words 1) (kind_of (text words 2)) (within 1 100 (number_of (text words 3)))
+    else None)
+
+-- the question about paths to an endpoint
+abbrev pub path_query : List Part → Option Query
+path_query words =
+    (if says words 0 (codes "report_through") then through_of words else
+    (if says words 0 (codes "report_paths") then paths_of words else None))
+
+-- names in pairs, the one of an instance and that of a cell
+abbrev pub are_pairs : List Part → Bool
+are_pairs [] = true
+are_pairs (inst ∷ []) = false
+are_pairs (inst ∷ cell ∷ words) = is_word inst && is_word cell && are_pairs words
+
+abbrev pub candidates_of : List Part → List Candidate
+candidates_of [] = []
+candidates_of (inst ∷ []) = []
+candidates_of (inst ∷ cell ∷ words) = record { inst = inst.text; cell = cell.text } ∷ candidates_of words
+
+abbrev pub advise_at : List Candidate → Option Kind → Option Query
+advise_at candidates None = None
+advise_at candidates (Some kind) = Some (Advise kind candidates)
+
+-- KIND and 1 to 100 pairs of names behind a command
+abbrev pub advise_of : List Part → Option Query
+advise_of words =
+    (if nat_le 4 (length words) && nat_le (length words) 202 && are_pairs (drop 2 words)
+    then advise_at (candidates_of (drop 2 words)) (kind_of (text words 1))
+    else None)
+
+-- the question about resizes
+abbrev pub advise_query : List Part → Option Query
+advise_query words = (if says words 0 (codes "advise") then advise_of words else None)
+
 -- the first of two that is there
 abbrev pub first_of_two : Option Query → Option Query → Option Query
 first_of_two None other = other
@@ -100,7 +157,9 @@ first_of_two (Some q) other = Some q
 
 -- the question of a line
 abbrev pub query_of : List Part → Option Query
-query_of words = first_of_two (node_query words) (first_of_two (endpoint_query words) (total_query words))
+query_of words =
+    first_of_two (node_query words)
+    (first_of_two (endpoint_query words) (first_of_two (total_query words) (first_of_two (path_query words) (advise_query words))))
 
 abbrev pub awaited : Option ℕ → Option ℕ → Option Command
 awaited None looks = None

@@ -1,22 +1,34 @@
 //! The command of a line, by its words.
 
-ghost use Rattle.std.specs.Prelude.{◌≡◌, ◌≤◌, map, IfOk, IfSome};
+ghost use Rattle.std.specs.Prelude.{◌≡◌, ◌≤◌, ◌&&◌, true, false, map, IfOk, IfSome, MatchOption};
+ghost use Rattle.std.specs.List.{list_all};
 ghost use Rattle.std.specs.Str.{bytes_eq};
+ghost use Rattle.timing_defs.specs.Names.{is_name};
 ghost use Rattle.eco_journal.specs.Lines.{part_of};
-ghost use Rattle.eco_journal.specs.Words.{number_of, within};
-ghost use Rattle.script_reader.specs.Commands.{words_in, split_of, tran_of, kind_of, node_of, endpoint_of, only_kind, worst_of, node_query, endpoint_query, total_query, query_of, await_of, take_of, command_of};
+ghost use Rattle.eco_journal.specs.Words.{is_word, number_of, within};
+ghost use Rattle.eco_journal.specs.EditLines.{texts_of};
+ghost use Rattle.script_reader.specs.Commands.{words_in, split_of, tran_of, kind_of, node_of, endpoint_of, only_kind, worst_of, node_query, endpoint_query, total_query, through_of, paths_of, path_query, are_pairs, candidates_of, advise_of, advise_query, query_of, await_of, take_of, command_of};
 
 use eco_journal::{Span, number_of, says, text_at, within};
 use sta_text::Cursor;
 use sta_units::Memory;
 use std::alloc::Global;
-use timing_defs::{Command, Items, Kind, Name, Query, Split, Style, Tran};
+use timing_defs::{Candidate, Command, Items, Kind, Name, Query, Split, Style, Tran};
 
 /// The greatest number of looks of an `await`.
 const LOOK_LIMIT: u64 = 1_000;
 
 /// The greatest number of endpoints of a `report_worst`.
 const WORST_LIMIT: u64 = 100;
+
+/// The greatest number of pins of a `report_through`.
+const PIN_LIMIT: usize = 16;
+
+/// The greatest number of paths of a `report_paths`.
+const PATH_LIMIT: u64 = 100;
+
+/// The greatest number of candidates of an `advise`.
+const CANDIDATE_LIMIT: usize = 100;
 
 /// A node: a pin, a split and a transition.
 #[derive(Drop)]
@@ -201,6 +213,138 @@ fn total_query(words: &[Span<'_>]) -> Option<Query>
     }
 }
 
+/// The words as names; none where one is no name.
+#[tactic(auto, using(std::proofs::lemmas::List::drop_more))]
+fn names_of(alloc: Global, words: &[Span<'_>]) -> Result<Option<Items<Name>>, Memory>
+    ensures { IfOk result (λ found. MatchOption found (list_all is_word (map part_of words.now) ≡ false) (λ names. (list_all is_word (map part_of words.now) ≡ true) × (names ≡ texts_of (map part_of words.now)))) }
+{
+    let mut names = Items::new(alloc);
+    for word in words {
+        let Some(name) = Name::from_bytes(alloc, word.text)? else {
+            return Ok(None);
+        };
+        names.push(name)?;
+    }
+    Ok(Some(names))
+}
+
+/// PIN KIND and 1 to 16 names behind a command.
+#[tactic(auto, using(eco_journal::proofs::EditLemmas::map_drop))]
+fn through_of(alloc: Global, words: &[Span<'_>]) -> Result<Option<Query>, Memory>
+    ensures { IfOk result (λ query. query ≡ through_of (map part_of words.now)) }
+{
+    if words.len() < 4 || 3 + PIN_LIMIT < words.len() {
+        return Ok(None);
+    }
+    let Some(kind) = kind_of(text_at(words, 2)) else {
+        return Ok(None);
+    };
+    let Some(pin) = Name::from_bytes(alloc, text_at(words, 1))? else {
+        return Ok(None);
+    };
+    match names_of(alloc, words.split_at(3).1)? {
+        Some(pins) => Ok(Some(Query::Through { pin, kind, pins })),
+        None => Ok(None),
+    }
+}
+
+/// PIN KIND K behind a command.
+fn paths_of(alloc: Global, words: &[Span<'_>]) -> Result<Option<Query>, Memory>
+    ensures { IfOk result (λ query. query ≡ paths_of (map part_of words.now)) }
+{
+    if words.len() != 4 {
+        return Ok(None);
+    }
+    let Some(kind) = kind_of(text_at(words, 2)) else {
+        return Ok(None);
+    };
+    let Some(count) = number_in(text_at(words, 3), 1, PATH_LIMIT) else {
+        return Ok(None);
+    };
+    match Name::from_bytes(alloc, text_at(words, 1))? {
+        Some(pin) => Ok(Some(Query::Paths {
+            pin,
+            kind,
+            count: count as u32,
+        })),
+        None => Ok(None),
+    }
+}
+
+/// The question of a line about paths to an endpoint.
+fn path_query(alloc: Global, words: &[Span<'_>]) -> Result<Option<Query>, Memory>
+    ensures { IfOk result (λ query. query ≡ path_query (map part_of words.now)) }
+{
+    if says(words, 0, b"report_through") {
+        through_of(alloc, words)
+    } else if says(words, 0, b"report_paths") {
+        paths_of(alloc, words)
+    } else {
+        Ok(None)
+    }
+}
+
+/// A candidate of a resize; none where a word is no name.
+fn candidate_of(alloc: Global, inst: &[u8], cell: &[u8]) -> Result<Option<Candidate>, Memory>
+    ensures { IfOk result (λ found. MatchOption found (is_name inst.now && is_name cell.now ≡ false) (λ it. (is_name inst.now && is_name cell.now ≡ true) × (it ≡ record { inst = inst.now; cell = cell.now }))) }
+{
+    let Some(inst) = Name::from_bytes(alloc, inst)? else {
+        return Ok(None);
+    };
+    match Name::from_bytes(alloc, cell) {
+        Ok(Some(cell)) => Ok(Some(Candidate { inst, cell })),
+        Ok(None) => Ok(None),
+        Err(wanting) => Err(wanting),
+    }
+}
+
+/// The candidates that words name in pairs; none where a word is no name or stands alone.
+fn candidates_of(alloc: Global, words: &[Span<'_>]) -> Result<Option<Items<Candidate>>, Memory>
+    ensures { IfOk result (λ found. MatchOption found (are_pairs (map part_of words.now) ≡ false) (λ cs. (are_pairs (map part_of words.now) ≡ true) × (cs ≡ candidates_of (map part_of words.now)))) }
+{
+    let mut candidates = Items::new(alloc);
+    let mut left = words;
+    while let [inst, pair @ ..] = left {
+        let [cell, behind @ ..] = pair else {
+            return Ok(None);
+        };
+        let Some(candidate) = candidate_of(alloc, inst.text, cell.text)? else {
+            return Ok(None);
+        };
+        candidates.push(candidate)?;
+        left = behind;
+    }
+    Ok(Some(candidates))
+}
+
+/// KIND and 1 to 100 candidates behind a command.
+#[tactic(auto, using(eco_journal::proofs::EditLemmas::map_drop))]
+fn advise_of(alloc: Global, words: &[Span<'_>]) -> Result<Option<Query>, Memory>
+    ensures { IfOk result (λ query. query ≡ advise_of (map part_of words.now)) }
+{
+    if words.len() < 4 || 2 + 2 * CANDIDATE_LIMIT < words.len() {
+        return Ok(None);
+    }
+    let Some(kind) = kind_of(text_at(words, 1)) else {
+        return Ok(None);
+    };
+    match candidates_of(alloc, words.split_at(2).1)? {
+        Some(candidates) => Ok(Some(Query::Advise { kind, candidates })),
+        None => Ok(None),
+    }
+}
+
+/// The question of a line about resizes.
+fn advise_query(alloc: Global, words: &[Span<'_>]) -> Result<Option<Query>, Memory>
+    ensures { IfOk result (λ query. query ≡ advise_query (map part_of words.now)) }
+{
+    if says(words, 0, b"advise") {
+        advise_of(alloc, words)
+    } else {
+        Ok(None)
+    }
+}
+
 /// The question of a line.
 fn query_of(alloc: Global, words: &[Span<'_>]) -> Result<Option<Query>, Memory>
     ensures { IfOk result (λ query. query ≡ query_of (map part_of words.now)) }
@@ -211,7 +355,13 @@ fn query_of(alloc: Global, words: &[Span<'_>]) -> Result<Option<Query>, Memory>
     if let Some(query) = endpoint_query(alloc, words)? {
         return Ok(Some(query));
     }
-    Ok(total_query(words))
+    if let Some(query) = total_query(words) {
+        return Ok(Some(query));
+    }
+    if let Some(query) = path_query(alloc, words)? {
+        return Ok(Some(query));
+    }
+    advise_query(alloc, words)
 }
 
 /// `await N L`.

@@ -2,7 +2,9 @@
 #![tactic(auto)]
 
 mod commands;
+mod drafts;
 mod lines;
 mod scripts;
+mod states;
 
 pub use scripts::read_script;

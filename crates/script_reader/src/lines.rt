@@ -14,13 +14,16 @@ use sta_units::Memory;
 use std::alloc::Global;
 use timing_defs::{Command, Edit};
 
-/// What a line says: nothing, the begin or the end of a group, an edit, another command, or none of
-/// these.
+/// What a line says: nothing, the begin or the end of a group, the begin or the end of a draft, that
+/// the last edits of a draft are dropped, an edit, another command, or none of these.
 #[derive(Drop)]
 pub(crate) enum Said {
     Passed,
     Begin,
     End,
+    BeginDraft,
+    EndDraft,
+    Drops,
     Changes(Edit),
     Runs(Command),
     Unfit,
@@ -78,6 +81,15 @@ fn words_said(alloc: Global, words: &[Span<'_>]) -> Result<Said, Memory>
     }
     if is_alone(words, b"commit_eco") {
         return Ok(Said::End);
+    }
+    if is_alone(words, b"begin_what_if") {
+        return Ok(Said::BeginDraft);
+    }
+    if is_alone(words, b"end_what_if") {
+        return Ok(Said::EndDraft);
+    }
+    if is_alone(words, b"drop_last") {
+        return Ok(Said::Drops);
     }
     match command_of(alloc, words)? {
         Some(command) => Ok(Said::Runs(command)),

@@ -1,18 +1,20 @@
 //! The commands of a script, line by line.
 
-ghost use Rattle.std.specs.Prelude.{◌≡◌, ◌++◌, ◌∷◌, [], ℕ, List, true, length, Ok, Err, IfOk, MatchResult};
-ghost use Rattle.timing_defs.specs.declared.edits.Edit.{Edit};
-ghost use Rattle.timing_defs.specs.declared.scripts.Command.{Command};
-ghost use Rattle.sta_text.specs.declared.faults.Wrong.{Wrong};
-ghost use Rattle.sta_text.specs.Faults.{lesser, least_from};
+ghost use Rattle.std.specs.Prelude.{◌≡◌, ◌++◌, ◌∷◌, [], List, true, IfOk};
+ghost use Rattle.sta_text.specs.Faults.{lesser};
 ghost use Rattle.eco_journal.specs.Journal.{Tells};
-ghost use Rattle.script_reader.specs.Scripts.{Event, long, single, change, group_begin, group_end, Place, outside, inside, bad, behind, too_long, line_said, told, script_of};
+ghost use Rattle.script_reader.specs.Scripts.{Event, single, change, group_begin, group_end, draft_begin, Place, outside, bad, too_long, line_said, told, script_of};
 ghost use Rattle.script_reader.specs.Answerable.{are_answerable};
-ghost use Rattle.script_reader.specs.Progress.{said_events, behind_progress, whole};
+ghost use Rattle.script_reader.specs.Progress.{said_events, in_group, behind_progress, whole};
 
+use crate::drafts::{draft_group_line, draft_line};
 use crate::lines::{Said, read_line};
+use crate::states::{
+    Draft, EDIT_LIMIT, Group, Progress, State, eco_of, limited, noted, stopped, with_edit,
+    with_pushed,
+};
 use eco_journal::Lines;
-use sta_text::{Wrong, lesser};
+use sta_text::Wrong;
 use sta_units::Memory;
 use std::alloc::Global;
 use timing_defs::{Code, Command, Eco, Edit, Items, ReadFault, Script};
@@ -23,67 +25,13 @@ const LINE_LIMIT: usize = 65_536;
 /// The greatest number of commands.
 const COMMAND_LIMIT: usize = 10_000;
 
-/// The greatest number of edits of a group.
-const EDIT_LIMIT: usize = 1_000;
-
-/// The commands so far, and the least fault.
-#[derive(Drop)]
-struct Progress {
-    commands: Items<Command>,
-    fault: Option<Wrong>,
-}
-
-/// Where a line stands: outside a group, in the group that began at a line with its edits so far, or
-/// behind a line that is no command.
-#[derive(Drop)]
-enum State {
-    Outside(Progress),
-    Group(usize, Items<Edit>, Progress),
-    Stopped(Progress),
-}
-
-/// The progress with a fault at a line.
-fn noted(progress: Progress, code: Code, line: usize) -> Progress
-    ensures commands { result.commands ≡ progress.commands }
-    ensures fault { result.fault ≡ lesser progress.fault (record { code = code; at = line }) }
-{
-    let fault = lesser(progress.fault, Wrong { code, at: line });
-    Progress {
-        commands: progress.commands,
-        fault,
-    }
-}
-
-/// The state behind a line that may not stand there, with its fault at a line.
-#[tactic(auto, using(crate::proofs::ProgressLemmas::stopping))]
-fn stopped(progress: Progress, line: usize) -> State
-    ensures { (rest : List Event) (all : List Command) → whole result rest ≡ told (least_from progress.fault (bad line ∷ [])) all }
-{
-    State::Stopped(noted(progress, Code::ScriptBadCommand, line))
-}
-
-/// The progress where at least so many of its kind stand before a line, of which that many may.
-#[tactic(auto, using(crate::proofs::ProgressLemmas::excess_more))]
-fn limited(progress: Progress, limit: usize, before: usize, line: usize) -> Progress
-    ensures commands { result.commands ≡ progress.commands }
-    ensures fault { (rest : List Wrong) → least_from result.fault rest ≡ least_from progress.fault (behind limit before line ++ rest) }
-{
-    if limit <= before {
-        noted(progress, Code::ScriptTooLong, line)
-    } else {
-        progress
-    }
-}
-
 /// The state behind a command of one line.
-#[tactic(auto, using(crate::proofs::ProgressLemmas::pushed), unfolding(crate::specs::Scripts::faults, crate::specs::Scripts::commands))]
+#[tactic(auto, unfolding(crate::specs::Scripts::faults, crate::specs::Scripts::commands))]
 fn with_command(progress: Progress, line: usize, command: Command) -> Result<State, Memory>
     ensures { IfOk result (λ next. (rest : List Event) → whole next rest ≡ behind_progress progress outside (single line command ∷ rest)) }
 {
     let count = progress.commands.len();
-    let mut progress = limited(progress, COMMAND_LIMIT, count, line);
-    progress.commands.push(command)?;
-    Ok(State::Outside(progress))
+    with_pushed(limited(progress, COMMAND_LIMIT, count, line), command)
 }
 
 /// The state behind an edit by itself, which is a command.
@@ -91,19 +39,41 @@ fn with_command(progress: Progress, line: usize, command: Command) -> Result<Sta
 fn with_change(alloc: Global, progress: Progress, line: usize, edit: Edit) -> Result<State, Memory>
     ensures { IfOk result (λ next. (rest : List Event) → whole next rest ≡ behind_progress progress outside (change line edit ∷ rest)) }
 {
-    let mut edits = Items::new(alloc);
-    edits.push(edit)?;
-    with_command(progress, line, Command::Change(Eco { edits }))
+    match eco_of(alloc, edit) {
+        Ok(eco) => with_command(progress, line, Command::Change(eco)),
+        Err(wanting) => {
+            progress.discard();
+            Err(wanting)
+        }
+    }
 }
 
 /// The state behind the begin of a group.
-#[tactic(auto, using(crate::proofs::ProgressLemmas::pushed), unfolding(crate::specs::Scripts::faults, crate::specs::Scripts::commands))]
+#[tactic(auto, unfolding(crate::specs::Scripts::faults, crate::specs::Scripts::commands))]
 fn group_begun(alloc: Global, progress: Progress, line: usize) -> State
     ensures { (rest : List Event) → whole result rest ≡ behind_progress progress outside (group_begin line ∷ rest) }
 {
     let count = progress.commands.len();
     let progress = limited(progress, COMMAND_LIMIT, count, line);
-    State::Group(line, Items::new(alloc), progress)
+    let group = Group {
+        begin: line,
+        edits: Items::new(alloc),
+    };
+    State::InGroup(group, progress)
+}
+
+/// The state behind the begin of a draft.
+#[tactic(auto, unfolding(crate::specs::Scripts::faults, crate::specs::Scripts::commands))]
+fn draft_begun(alloc: Global, progress: Progress, line: usize) -> State
+    ensures { (rest : List Event) → whole result rest ≡ behind_progress progress outside (draft_begin line ∷ rest) }
+{
+    let count = progress.commands.len();
+    let progress = limited(progress, COMMAND_LIMIT, count, line);
+    let draft = Draft {
+        begin: line,
+        trials: Items::new(alloc),
+    };
+    State::InDraft(draft, progress)
 }
 
 /// The state behind what a line outside a group says.
@@ -114,61 +84,59 @@ fn outside_line(alloc: Global, progress: Progress, line: usize, said: Said) -> R
     match said {
         Said::Passed => Ok(State::Outside(progress)),
         Said::Begin => Ok(group_begun(alloc, progress, line)),
+        Said::BeginDraft => Ok(draft_begun(alloc, progress, line)),
         Said::Changes(edit) => with_change(alloc, progress, line, edit),
         Said::Runs(command) => with_command(progress, line, command),
-        Said::End | Said::Unfit => Ok(stopped(progress, line)),
+        Said::End | Said::EndDraft | Said::Drops | Said::Unfit => Ok(stopped(progress, line)),
     }
 }
 
 /// The state behind an edit of a group.
-#[tactic(auto, using(crate::proofs::ProgressLemmas::pushed), unfolding(crate::specs::Scripts::faults, crate::specs::Scripts::commands))]
-fn with_edit(
-    begin: usize,
-    mut edits: Items<Edit>,
-    progress: Progress,
-    line: usize,
-    edit: Edit,
-) -> Result<State, Memory>
-    ensures { IfOk result (λ next. (rest : List Event) → whole next rest ≡ behind_progress progress (inside begin edits) (change line edit ∷ rest)) }
+#[tactic(auto, unfolding(crate::specs::Scripts::faults, crate::specs::Scripts::commands))]
+fn group_edit(group: Group, progress: Progress, line: usize, edit: Edit) -> Result<State, Memory>
+    ensures { IfOk result (λ next. (rest : List Event) → whole next rest ≡ behind_progress progress (in_group group) (change line edit ∷ rest)) }
 {
-    let progress = limited(progress, EDIT_LIMIT, edits.len(), line);
-    edits.push(edit)?;
-    Ok(State::Group(begin, edits, progress))
+    let progress = limited(progress, EDIT_LIMIT, group.edits.len(), line);
+    match with_edit(group, edit) {
+        Ok(group) => Ok(State::InGroup(group, progress)),
+        Err(wanting) => {
+            progress.discard();
+            Err(wanting)
+        }
+    }
 }
 
 /// The state behind the end of a group.
-#[tactic(auto, using(crate::proofs::ProgressLemmas::pushed), unfolding(crate::specs::Scripts::faults, crate::specs::Scripts::commands))]
-fn group_ended(
-    begin: usize,
-    edits: Items<Edit>,
-    mut progress: Progress,
-    line: usize,
-) -> Result<State, Memory>
-    ensures { IfOk result (λ next. (rest : List Event) → whole next rest ≡ behind_progress progress (inside begin edits) (group_end line ∷ rest)) }
+#[tactic(auto, unfolding(crate::specs::Scripts::faults, crate::specs::Scripts::commands))]
+fn group_ended(group: Group, progress: Progress, line: usize) -> Result<State, Memory>
+    ensures { IfOk result (λ next. (rest : List Event) → whole next rest ≡ behind_progress progress (in_group group) (group_end line ∷ rest)) }
 {
+    let Group { begin, edits } = group;
     if edits.is_empty() {
-        return Ok(stopped(progress, begin));
+        Ok(stopped(progress, begin))
+    } else {
+        with_pushed(progress, Command::Change(Eco { edits }))
     }
-    progress.commands.push(Command::Change(Eco { edits }))?;
-    Ok(State::Outside(progress))
 }
 
 /// The state behind what a line in a group says.
 #[tactic(auto, unfolding(crate::specs::Scripts::faults, crate::specs::Scripts::commands))]
-fn group_line(
-    begin: usize,
-    edits: Items<Edit>,
-    progress: Progress,
-    line: usize,
-    said: Said,
-) -> Result<State, Memory>
-    ensures { IfOk result (λ next. (rest : List Event) → whole next rest ≡ behind_progress progress (inside begin edits) (said_events line said ++ rest)) }
+fn group_line(group: Group, progress: Progress, line: usize, said: Said) -> Result<State, Memory>
+    ensures { IfOk result (λ next. (rest : List Event) → whole next rest ≡ behind_progress progress (in_group group) (said_events line said ++ rest)) }
 {
     match said {
-        Said::Passed => Ok(State::Group(begin, edits, progress)),
-        Said::Changes(edit) => with_edit(begin, edits, progress, line, edit),
-        Said::End => group_ended(begin, edits, progress, line),
-        Said::Begin | Said::Runs(_) | Said::Unfit => Ok(stopped(progress, line)),
+        Said::Passed => Ok(State::InGroup(group, progress)),
+        Said::Changes(edit) => group_edit(group, progress, line, edit),
+        Said::End => group_ended(group, progress, line),
+        Said::Begin
+        | Said::BeginDraft
+        | Said::EndDraft
+        | Said::Drops
+        | Said::Runs(_)
+        | Said::Unfit => {
+            group.discard();
+            Ok(stopped(progress, line))
+        }
     }
 }
 
@@ -184,21 +152,43 @@ fn measured(progress: Progress, number: usize, line: &[u8]) -> Progress
     }
 }
 
+/// The state behind what a line says.
+fn behind(
+    alloc: Global,
+    state: State,
+    number: usize,
+    line: &[u8],
+    said: Said,
+) -> Result<State, Memory>
+    ensures { IfOk result (λ next. (rest : List Event) → whole next rest ≡ whole state (too_long number line.now ++ (said_events number said ++ rest))) }
+{
+    match state {
+        State::Outside(progress) => {
+            outside_line(alloc, measured(progress, number, line), number, said)
+        }
+        State::InGroup(group, progress) => {
+            group_line(group, measured(progress, number, line), number, said)
+        }
+        State::InDraft(draft, progress) => {
+            draft_line(alloc, draft, measured(progress, number, line), number, said)
+        }
+        State::InDraftGroup(draft, group, progress) => {
+            draft_group_line(draft, group, measured(progress, number, line), number, said)
+        }
+        State::Stopped(progress) => Ok(State::Stopped(progress)),
+    }
+}
+
 /// The state behind a line.
 fn step(alloc: Global, state: State, number: usize, line: &[u8]) -> Result<State, Memory>
     ensures { IfOk result (λ next. (rest : List Event) → whole next rest ≡ whole state (too_long number line.now ++ (line_said number line.now ++ rest))) }
 {
-    match state {
-        State::Outside(progress) => {
-            let said = read_line(alloc, line)?;
-            outside_line(alloc, measured(progress, number, line), number, said)
+    match read_line(alloc, line) {
+        Ok(said) => behind(alloc, state, number, line, said),
+        Err(wanting) => {
+            state.discard();
+            Err(wanting)
         }
-        State::Group(begin, edits, progress) => {
-            let said = read_line(alloc, line)?;
-            let progress = measured(progress, number, line);
-            group_line(begin, edits, progress, number, said)
-        }
-        State::Stopped(progress) => Ok(State::Stopped(progress)),
     }
 }
 
@@ -211,15 +201,25 @@ fn told(fault: Option<Wrong>, commands: Items<Command>) -> Result<Script, ReadFa
     }
 }
 
+/// What is told of a text that ends in a group or a draft.
+fn told_open(progress: Progress, begin: usize) -> Result<Script, ReadFault>
+    ensures { result ≡ told (lesser progress.fault (bad begin)) progress.commands }
+{
+    let open = noted(progress, Code::ScriptBadCommand, begin);
+    told(open.fault, open.commands)
+}
+
 #[tactic(auto, using(crate::proofs::ProgressLemmas::ending), unfolding(crate::specs::Scripts::faults, crate::specs::Scripts::commands))]
 fn at_end(state: State) -> Result<Script, ReadFault>
     ensures { result ≡ whole state [] }
 {
     match state {
         State::Outside(progress) => told(progress.fault, progress.commands),
-        State::Group(begin, _, progress) => {
-            let open = noted(progress, Code::ScriptBadCommand, begin);
-            told(open.fault, open.commands)
+        State::InGroup(group, progress) => told_open(progress, group.begin),
+        State::InDraft(draft, progress) => told_open(progress, draft.begin),
+        State::InDraftGroup(draft, group, progress) => {
+            let open = noted(progress, Code::ScriptBadCommand, draft.begin);
+            told_open(open, group.begin)
         }
         State::Stopped(progress) => told(progress.fault, progress.commands),
     }
@@ -243,16 +243,18 @@ fn whole_script(alloc: Global, bytes: &[u8]) -> Result<Script, ReadFault>
     at_end(state)
 }
 
-/// The script of a text: a command a line, or edits from `begin_eco` to `commit_eco`, which are one
-/// command. Words are separated by blanks and tabs; lines without a word and lines whose first word
-/// begins with `#` are passed over. The edits of a command that changes the design are such as
-/// `eco_journal::read_eco` gives.
+/// The script of a text: a command a line, edits from `begin_eco` to `commit_eco`, which are one
+/// command, or trials from `begin_what_if` to `end_what_if`, which are one, too: edits, groups of
+/// edits, `drop_last` and plain questions. Words are separated by blanks and tabs; lines without a
+/// word and lines whose first word begins with `#` are passed over. The edits of a command that
+/// changes the design, and those of a trial, are such as `eco_journal::read_eco` gives.
 ///
 /// # Errors
 ///
-/// The least of the faults; their places are line numbers, from 1. `C1`: a line that is no command,
-/// a question inside a group, an empty group, or a group without its end (at its `begin_eco`).
-/// `C2`: the 10,001st command, the 1,001st edit of a group, or a line above 65,536 bytes. Or want of
+/// The least of the faults; their places are line numbers, from 1. `C1`: a line that is no command or
+/// may not stand in its place (a question inside a group; in a draft a command that is no trial), a
+/// group or a draft that is empty or has no end (at the line of its begin). `C2`: the 10,001st command,
+/// the 1,001st edit of a group, the 101st trial of a draft, or a line above 65,536 bytes. Or want of
 /// memory.
 pub fn read_script(alloc: Global, bytes: &[u8]) -> Result<Script, ReadFault>
     ensures value { Tells result (script_of bytes.now) }

@@ -1,10 +1,8 @@
 pub mod JournalLaws
-pub mod SoundLaws
 pub mod VersionLaws
 pub mod Scripts
 pub mod Numbers
 pub mod Kept
 pub mod Sights
 pub mod Rows
-pub mod CountLaws
 pub mod ReplayLaws

@@ -1,43 +1,19 @@
--- What is accepted is not refused, and versions that an accepted ECO makes.
+-- Versions that an accepted ECO makes.
 
-use Rattle.std.proofs.Common.{◌≡◌, ℕ, ◌+◌, ◌^◌, ◌<◌, ◌≤◌, List, [], ◌∷◌, ◌++◌, length, true, refl, sym, ap, subst, arith, ◌∙◌}
+use Rattle.std.proofs.Common.{◌≡◌, ℕ, ◌+◌, ◌^◌, ◌<◌, ◌≤◌, List, [], ◌∷◌, ◌++◌, length, Bool, true, refl, sym, ap, subst, arith, ◌∙◌}
 use Rattle.timing_defs.specs.declared.design.Design.{Design}
 use Rattle.timing_defs.specs.declared.edits.Eco.{Eco}
 use Rattle.timing_defs.specs.declared.edits.Entry.{Entry}
 use Rattle.timing_defs.specs.Documents.{is_eco}
-use Rattle.timing_defs.specs.Checks.{Accepts, IsSound}
+use Rattle.timing_defs.specs.Checks.{Accepts}
 use Rattle.timing_defs.specs.Sessions.{DesignAfter}
-use Rattle.timing_defs.specs.Cones.{Touch}
-use Rattle.netlist_store.specs.Applying.{IsApplied, IsEditOf}
+use Rattle.timing_defs.specs.Cones.{IsCounted}
 use Rattle.netlist_store.specs.Numbering.{Stored}
-use Rattle.netlist_store.specs.Linked.{IsSized}
-use Rattle.design_link.specs.After.{IsMadeOf}
 use Rattle.affected_cone.specs.Analysed.{Analysed, IsAnalysis}
-use Rattle.session_engine.specs.Soundness.{IsFaultless, IsSoundEdit}
+use Rattle.eco_analysis.specs.Soundness.{IsFaultless}
 use Rattle.session_engine.specs.Versions.{Versioned, IsVersion, version_of, entry_of, IsNext}
-use Rattle.session_engine.proofs.SoundLaws.{sound_faultless, sound_sized}
+use Rattle.eco_analysis.proofs.SoundLaws.{sound_faultless}
 use Rattle.session_engine.proofs.JournalLaws.{length_end, all_end, after_entry}
-
--- the design of a version is sound, and nothing stands in it
-module _ (v : Versioned) (is : IsVersion v) where
-  pub version_sound : IsSound v.stored.design
-  version_sound = subst (λ (s : Stored). IsSound s.design) is.analysed is.analysis.sound
-
-  pub version_sized : IsSized v.stored.design
-  version_sized = sound_sized v.stored.design version_sound
-
-  pub version_edit : (eco : Eco) (nets : List (List ℕ)) (d : Design) → IsMadeOf v.stored.design eco nets d → IsSoundEdit nets d
-  version_edit eco nets d made = record { base = v.stored.design; eco = eco; made = made; sound = version_sound }
-
-  -- what an ECO makes of the version's store it makes of the analysis's
-  pub version_applied : (eco : Eco) (touch : Touch) (after : Stored) → IsApplied v.stored eco after touch → (base : Stored) → base ≡ v.analysed.stored → IsEditOf base touch after
-  version_applied eco touch after made base same = (eco, subst (λ (s : Stored). IsApplied s eco after touch) (sym (same ∙ is.analysed)) made)
-
--- an ECO whose design is analysed is accepted
-pub analysed_accepted : (base : Design) (eco : Eco) (nets : List (List ℕ)) (stored : Stored) (a : Analysed)
-    → IsMadeOf base eco nets stored.design → a.stored ≡ stored → IsAnalysis a → Accepts base eco stored.design
-analysed_accepted base eco nets stored a made same analysis =
-    (made.made, subst (λ (s : Stored). IsFaultless s.design) same (sound_faultless a.stored.design analysis.sound analysis.fine))
 
 -- the version without entries
 pub first_version : (first : ℕ) (stored : Stored) (analysed : Analysed) → first ≤ 2 ^ 62 → analysed.stored ≡ stored → IsAnalysis analysed
@@ -94,3 +70,8 @@ module _ (v : Versioned) (is : IsVersion v) (who : ℕ) (eco : Eco) (is_kept : i
         journal = grown;
         accepts = accepts;
       })
+
+-- what the trial of an ECO counts, whether the version after it is made or memory is wanting
+pub counted_next : (s base : Stored) (eco : Eco) (told : Bool) (rise : ℕ) → s ≡ base → IsCounted s.design eco true rise → IsCounted base.design eco told rise
+counted_next s base eco told rise same is =
+    subst (λ (t : Stored). IsCounted t.design eco told rise) same ((λ d2 accepts here. is.0 d2 accepts refl), is.1, is.2)

@@ -1,18 +1,16 @@
 -- Versions of a design: what a journal of accepted ECOs makes of an origin, and its analysis.
 
-use Rattle.std.specs.Prelude.{ℕ, ◌≡◌, ◌⊎◌, ◌+◌, ◌^◌, ◌≤◌, true, List, [], ◌∷◌, ◌++◌, length}
+use Rattle.std.specs.Prelude.{ℕ, ◌≡◌, ◌+◌, ◌^◌, ◌≤◌, true, List, [], ◌∷◌, ◌++◌, length}
 use Rattle.std.specs.List.{list_all}
 use Rattle.timing_defs.specs.declared.design.Design.{Design}
 use Rattle.timing_defs.specs.declared.edits.Eco.{Eco}
 use Rattle.timing_defs.specs.declared.edits.Entry.{Entry}
-use Rattle.timing_defs.specs.declared.faults.Fault.{Fault}
-use Rattle.timing_defs.specs.declared.faults.Fault.TheVariants.{Memory as no_room}
 use Rattle.timing_defs.specs.Documents.{is_eco}
-use Rattle.timing_defs.specs.Checks.{Accepts, Refuses}
+use Rattle.timing_defs.specs.Checks.{Accepts}
 use Rattle.timing_defs.specs.Sessions.{DesignAfter}
 use Rattle.netlist_store.specs.Numbering.{Stored}
 use Rattle.affected_cone.specs.Analysed.{Analysed, IsAnalysis}
-use Rattle.session_engine.specs.Soundness.{IsFaultless}
+use Rattle.eco_analysis.specs.Soundness.{IsFaultless}
 
 -- what contracts see of a version: the number of its origin and its own, the origin's design, the accepted ECOs
 -- with their sessions, the store after them and its analysis
@@ -58,7 +56,3 @@ pub record IsNext (base : Versioned) (who : ℕ) (eco : Eco) (next : Versioned) 
   pub origin : next.origin ≡ base.origin
   pub journal : next.journal ≡ base.journal ++ entry_of who eco ∷ []
   pub accepts : Accepts base.stored.design eco next.stored.design
-
--- an ECO is refused for a fault of its edits or of the design after them, or memory is wanting
-abbrev pub IsRefusal : Design → Eco → Fault → Type 0
-IsRefusal d eco x = (x ≡ no_room) ⊎ Refuses d eco x

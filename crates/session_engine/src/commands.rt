@@ -1,7 +1,7 @@
 //! How a session answers a command: at the newest version on the board, which it holds then, and a
 //! question at the version that it holds.
 
-ghost use Rattle.std.specs.Prelude.{◌≡◌, ◌≤◌, [], ◌∷◌, true, Ok, IfOk};
+ghost use Rattle.std.specs.Prelude.{◌≡◌, ◌≤◌, ◌||◌, [], ◌∷◌, true, Ok, IfOk};
 ghost use Rattle.std.specs.Arc.{arc_value};
 ghost use Rattle.std.specs.Option.{option_map};
 ghost use Rattle.timing_defs.specs.declared.edits.Eco.{Eco};
@@ -11,9 +11,10 @@ ghost use Rattle.timing_defs.specs.Sessions.{entry_by, query_of};
 ghost use Rattle.version_board.specs.Callers.{IsSeatOf, IsSame};
 ghost use Rattle.session_engine.specs.Versions.{IsNext};
 ghost use Rattle.session_engine.specs.Looking.{meant, Holds, Saw, Offers, Waits, Tells, Changes, Answers};
-ghost use Rattle.session_engine.specs.Running.{is_runnable};
+ghost use Rattle.session_engine.specs.Running.{is_further, is_runnable};
 ghost use Rattle.session_engine.specs.Trying.{Tried};
 
+use crate::further::Further;
 use crate::looking::{newer, newest, publish};
 use crate::preparing::prepare;
 use crate::snapshots::Snapshot;
@@ -99,25 +100,37 @@ fn wait<R: Wait, G: Gate>(
     Ok((newest, Answer::NotYet(seen)))
 }
 
-/// What a snapshot answers a plain question.
-fn told(alloc: Global, snapshot: &Snapshot, query: &Query) -> Result<Answer, Memory>
-    requires { is_plain query.now ≡ true }
+/// What a snapshot answers a question.
+fn told<H: Threads + Sync, X: Further>(
+    rt: &H,
+    alloc: Global,
+    snapshot: &Snapshot,
+    query: &Query,
+    further: &X,
+) -> Result<Answer, Memory>
+    requires { is_plain query.now || is_further query.now ≡ true }
     ensures { IfOk result (Tells snapshot.now.stored.design query.now) }
 {
-    match snapshot.query(alloc, query) {
+    match snapshot.answer(rt, alloc, query, further) {
         Ok(report) => Ok(Answer::Told(report)),
         Err(QueryFault::Memory) => Err(Memory),
         Err(fault) => Ok(Answer::No(fault)),
     }
 }
 
-/// The answer of a version to a plain question.
-fn ask(alloc: Global, held: &Arc<Version>, query: &Query) -> Result<Answer, Memory>
-    requires { is_plain query.now ≡ true }
+/// The answer of a version to a question.
+fn ask<H: Threads + Sync, X: Further>(
+    rt: &H,
+    alloc: Global,
+    held: &Arc<Version>,
+    query: &Query,
+    further: &X,
+) -> Result<Answer, Memory>
+    requires { is_plain query.now || is_further query.now ≡ true }
     ensures { IfOk result (Tells (arc_value held.now).stored.design query.now) }
 {
     let snapshot = Snapshot::of(held.clone()?);
-    let answer = told(alloc, &snapshot, query);
+    let answer = told(rt, alloc, &snapshot, query, further);
     snapshot.discard();
     answer
 }
@@ -294,7 +307,7 @@ fn held_with(
 
 /// The answer to a command, and the version that the session holds then.
 #[tactic(auto, using(crate::proofs::Sights::saw_one))]
-pub(crate) fn answer<H: Threads + Wait + Sync, G: Gate>(
+pub(crate) fn answer<H: Threads + Wait + Sync, G: Gate, X: Further>(
     rt: &H,
     alloc: Global,
     who: u32,
@@ -304,6 +317,7 @@ pub(crate) fn answer<H: Threads + Wait + Sync, G: Gate>(
     command: &Command,
     workers: u32,
     gate: &G,
+    further: &X,
 ) -> Result<(Arc<Version>, Answer), Memory>
     requires seat { IsSeatOf meant board.now seat.old }
     requires number { seat.old.view.number ≡ who }
@@ -325,7 +339,7 @@ pub(crate) fn answer<H: Threads + Wait + Sync, G: Gate>(
             wait(rt, alloc, who, board, seat, held, *number, *looks, gate)
         }
         Command::Ask(query) => {
-            let answer = ask(alloc, &held, query);
+            let answer = ask(rt, alloc, &held, query, further);
             held_with(held, answer)
         }
         Command::Change(eco) => change(rt, alloc, who, board, seat, held, eco, workers, gate),

@@ -10,6 +10,7 @@ ghost use Rattle.session_engine.specs.Looking.{Sight, meant, Holds};
 ghost use Rattle.session_engine.specs.Running.{is_runnable, IsRunnable, IsRun, Ran};
 
 use crate::commands::{answer, query_of, taken};
+use crate::further::Further;
 use crate::versions::Version;
 use sta_outside::{Gate, Point};
 use sta_units::Memory;
@@ -24,7 +25,7 @@ fn discard_query(_query: Option<Query>) {}
 fn discard_rows(_rows: Vec<Row>) {}
 
 /// Answers the command at a place: its row stands behind the others, and the session holds the version.
-fn step<H: Threads + Wait + Sync, G: Gate>(
+fn step<H: Threads + Wait + Sync, G: Gate, X: Further>(
     rt: &H,
     alloc: Global,
     who: u32,
@@ -36,6 +37,7 @@ fn step<H: Threads + Wait + Sync, G: Gate>(
     command: &Command,
     workers: u32,
     gate: &G,
+    further: &X,
 ) -> Result<Arc<Version>, Memory>
     requires seat { IsSeatOf meant board.now seat.old }
     requires number { seat.old.view.number ≡ who }
@@ -52,7 +54,9 @@ fn step<H: Threads + Wait + Sync, G: Gate>(
 {
     held.laws();
     match query_of(alloc, command) {
-        Ok(query) => match answer(rt, alloc, who, board, seat, held, command, workers, gate) {
+        Ok(query) => match answer(
+            rt, alloc, who, board, seat, held, command, workers, gate, further,
+        ) {
             Ok((held, answer)) => {
                 held.laws();
                 let number = held.number();
@@ -81,7 +85,7 @@ fn step<H: Threads + Wait + Sync, G: Gate>(
 }
 
 /// Answers the commands of a script in order, over a first taking.
-fn steps<H: Threads + Wait + Sync, G: Gate>(
+fn steps<H: Threads + Wait + Sync, G: Gate, X: Further>(
     rt: &H,
     alloc: Global,
     who: u32,
@@ -91,6 +95,7 @@ fn steps<H: Threads + Wait + Sync, G: Gate>(
     commands: &[Command],
     workers: u32,
     gate: &G,
+    further: &X,
 ) -> Result<Arc<Version>, Memory>
     requires seat { IsSeatOf meant board.now seat.old }
     requires number { seat.old.view.number ≡ who }
@@ -108,7 +113,7 @@ fn steps<H: Threads + Wait + Sync, G: Gate>(
     let mut place = 1u32;
     for command in commands {
         held = step(
-            rt, alloc, who, board, seat, held, rows, place, command, workers, gate,
+            rt, alloc, who, board, seat, held, rows, place, command, workers, gate, further,
         )?;
         place += 1;
     }
@@ -117,15 +122,17 @@ fn steps<H: Threads + Wait + Sync, G: Gate>(
 
 /// Runs the script of one session at its seat: takes the newest version, and answers each command with a
 /// row. `take` and an ECO look at the newest version on the board, `await` with at most its looks; a
-/// question is answered at the version that the session holds. An accepted ECO is published over the
-/// newest version: where another session published since it was prepared, it is prepared over that
-/// one's again. Room for the rows is there before the first look. The gate is called where no turn is
-/// held: after each look, before and after a publication, after each row.
+/// question is answered at the version that the session holds, one that is not plain by `further`: the
+/// worst path through 1 to 16 pins, 1 to 100 worst paths, 1 to 100 trials on a draft, 1 to 100 candidates
+/// of a resize. An accepted ECO is published over the newest version: where another session published
+/// since it was prepared, it is prepared over that one's again. Room for the rows is there before the
+/// first look. The gate is called where no turn is held: after each look, before and after a publication,
+/// after each row.
 ///
 /// # Errors
 ///
 /// Want of memory alone; what the session published until then stays.
-pub fn run_script<H: Threads + Wait + Sync, G: Gate>(
+pub fn run_script<H: Threads + Wait + Sync, G: Gate, X: Further>(
     rt: &H,
     alloc: Global,
     who: u32,
@@ -134,6 +141,7 @@ pub fn run_script<H: Threads + Wait + Sync, G: Gate>(
     script: &Script,
     workers: u32,
     gate: &G,
+    further: &X,
 ) -> Result<Transcript, Memory>
     requires seat { IsSeatOf meant board.now seat.old × (seat.old.view.number ≡ who) }
     requires script { IsRunnable script.now }
@@ -145,7 +153,7 @@ pub fn run_script<H: Threads + Wait + Sync, G: Gate>(
     let commands = script.commands.as_slice();
     match Vec::with_capacity(alloc, commands.len()) {
         Ok(mut rows) => match steps(
-            rt, alloc, who, board, seat, &mut rows, commands, workers, gate,
+            rt, alloc, who, board, seat, &mut rows, commands, workers, gate, further,
         ) {
             Ok(held) => {
                 Version::discard(held);

@@ -1,16 +1,19 @@
 //! Questions of a version.
 
-ghost use Rattle.std.specs.Prelude.{◌≡◌, ◌⊎◌, true, Some, IfOk, IfErr};
+ghost use Rattle.std.specs.Prelude.{◌≡◌, ◌⊎◌, ◌||◌, true, Some, IfOk, IfErr};
 ghost use Rattle.std.specs.Arc.{arc_value};
 ghost use Rattle.timing_defs.specs.declared.faults.QueryFault.TheVariants.{Memory as no_answer};
 ghost use Rattle.timing_defs.specs.Reports.{is_plain};
 ghost use Rattle.timing_defs.specs.Questions.{Told, query_fault};
+ghost use Rattle.session_engine.specs.Running.{is_further};
 
+use crate::further::{Further, is_plain};
 use crate::versions::Version;
 use affected_cone::ask;
 use std::alloc::Global;
 use std::marker::Model;
 use std::sync::Arc;
+use std::thread::Threads;
 use timing_defs::{Query, QueryFault, Report};
 
 /// A version that is asked. Contracts see the version.
@@ -66,5 +69,43 @@ impl Snapshot {
         let version = self.version();
         version.laws();
         ask(alloc, version.store(), version.analysis(), question)
+    }
+
+    /// The answer to a further question of the version's design, by what answers such.
+    fn further<H: Threads + Sync, X: Further>(
+        &self,
+        rt: &H,
+        alloc: Global,
+        question: &Query,
+        further: &X,
+    ) -> Result<Report, QueryFault>
+        requires { is_further question.now ≡ true }
+        ensures told { IfOk result (Told self.now.stored.design question.now) }
+        ensures refused { IfErr result (λ x. (x ≡ no_answer) ⊎ (query_fault self.now.stored.design question.now ≡ Some x)) }
+    {
+        let version = self.version();
+        version.laws();
+        further.answer(rt, alloc, version.store(), version.analysis(), question)
+    }
+
+    /// The answer to a question of the version's design, plain or further: the worst path through 1 to 16
+    /// pins, 1 to 100 worst paths, 1 to 100 trials on a draft, or 1 to 100 candidates of a resize. Refused
+    /// as `query` has it, and a path through pins also where one of them is not there (`Q1`).
+    pub fn answer<H: Threads + Sync, X: Further>(
+        &self,
+        rt: &H,
+        alloc: Global,
+        question: &Query,
+        further: &X,
+    ) -> Result<Report, QueryFault>
+        requires { is_plain question.now || is_further question.now ≡ true }
+        ensures told { IfOk result (Told self.now.stored.design question.now) }
+        ensures refused { IfErr result (λ x. (x ≡ no_answer) ⊎ (query_fault self.now.stored.design question.now ≡ Some x)) }
+    {
+        if is_plain(question) {
+            self.query(alloc, question)
+        } else {
+            self.further(rt, alloc, question, further)
+        }
     }
 }

@@ -5,13 +5,12 @@ ghost use Rattle.std.specs.Arc.{arc_value};
 ghost use Rattle.timing_defs.specs.Documents.{is_eco};
 ghost use Rattle.timing_defs.specs.Checks.{Accepts};
 ghost use Rattle.timing_defs.specs.Reports.{AreTotals};
-ghost use Rattle.session_engine.specs.Soundness.{IsUnsound};
+ghost use Rattle.eco_analysis.specs.Soundness.{IsUnsound};
 ghost use Rattle.session_engine.specs.Versions.{IsVersion, IsNext, entry_of, version_of};
 
-use crate::analysing::analysed;
 use crate::histories::{History, listed};
-use crate::owners::{shared, tell_laws};
 use affected_cone::Analysis;
+use eco_analysis::{analysed, shared, tell_laws};
 use netlist_store::Store;
 use sta_outside::Gate;
 use sta_units::Memory;

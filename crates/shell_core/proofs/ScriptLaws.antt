@@ -12,8 +12,10 @@ use Rattle.timing_defs.specs.declared.codes.ReadFault.TheVariants.{At, Memory}
 use Rattle.timing_defs.specs.declared.edits.Edit.{Edit}
 use Rattle.timing_defs.specs.declared.reports.Query.{Query}
 use Rattle.timing_defs.specs.declared.scripts.Command.{Command}
-use Rattle.timing_defs.specs.declared.scripts.Command.TheVariants.{Take}
+use Rattle.timing_defs.specs.declared.scripts.Command.TheVariants.{Take, Ask}
+use Rattle.timing_defs.specs.declared.reports.Trial.TheVariants.{Drop, Ask as ask_draft}
 use Rattle.timing_defs.specs.declared.scripts.Script.{Script}
+use Rattle.timing_defs.specs.Reports.{is_plain}
 use Rattle.sta_text.specs.declared.faults.Wrong.{Wrong}
 use Rattle.sta_text.specs.Faults.{least_from, Fails}
 use Rattle.sta_text.proofs.FaultsLemmas.{least_none}
@@ -25,7 +27,7 @@ use Rattle.eco_journal.specs.Written.{IsEdit, AreEdits}
 use Rattle.eco_journal.proofs.Lawful.{edit_there}
 use Rattle.script_reader.specs.Commands.{words_in, awaited, asked, query_of, command_of}
 use Rattle.eco_journal.specs.Journal.{Tells}
-use Rattle.script_reader.specs.Scripts.{Event, long, single, change, group_begin, group_end, unknown, is_ascii, is_passed, is_alone, edit_said, command_said, words_said, line_said, too_long, events, Place, outside, inside, commands, behind, if_empty, excess, faults, told, script_of}
+use Rattle.script_reader.specs.Scripts.{Event, long, single, change, group_begin, group_end, draft_begin, draft_end, dropped, unknown, is_ascii, is_passed, is_alone, edit_said, command_said, words_said, line_said, too_long, events, Place, outside, inside, drafted, tried, trial, commands, bad, behind, if_empty, excess, faults, told, script_of}
 use Rattle.script_reader.specs.Answerable.{are_answerable}
 use Rattle.shell_core.specs.Scripts.{has_looks, CanStand, IsScript}
 
@@ -41,6 +43,9 @@ CanBeWritten (change n e) = IsEdit e
 CanBeWritten (long n) = Unit {0}
 CanBeWritten (group_begin n) = Unit {0}
 CanBeWritten (group_end n) = Unit {0}
+CanBeWritten (draft_begin n) = Unit {0}
+CanBeWritten (draft_end n) = Unit {0}
+CanBeWritten (dropped n) = Unit {0}
 CanBeWritten (unknown n) = Unit {0}
 
 record AreFine (es : List Event) : Type 0 where
@@ -111,7 +116,10 @@ words_fine : (n : ℕ) (words : List Part) → AreFine (words_said n words)
 words_fine n words =
     pick (is_passed words) _ _ none_said
     (pick (is_alone words (codes "begin_eco")) _ _ (one_said (group_begin n) refl tt)
-    (pick (is_alone words (codes "commit_eco")) _ _ (one_said (group_end n) refl tt) (said_fine n words (command_of words) (command_fine words))))
+    (pick (is_alone words (codes "commit_eco")) _ _ (one_said (group_end n) refl tt)
+    (pick (is_alone words (codes "begin_what_if")) _ _ (one_said (draft_begin n) refl tt)
+    (pick (is_alone words (codes "end_what_if")) _ _ (one_said (draft_end n) refl tt)
+    (pick (is_alone words (codes "drop_last")) _ _ (one_said (dropped n) refl tt) (said_fine n words (command_of words) (command_fine words)))))))
 
 line_fine : (n : ℕ) (line : List ℕ) → AreFine (line_said n line)
 line_fine n line = pick (list_all is_ascii line) _ _ (words_fine n (words_in line)) (one_said (unknown n) refl tt)
@@ -134,9 +142,9 @@ behind_none limit before n rest h = by_cases (nat_le limit before) refl h
     by_cases true e g = absurd (cc)
     by_cases false e g = (grind (arith, nat_tests, e), g)
 
-ended : (begin : ℕ) (edits : List Edit) (rest : List Wrong) → if_empty begin edits rest ≡ [] → (1 ≤ length edits) × (rest ≡ [])
+ended : {X : Type 0} (begin : ℕ) (xs : List X) (rest : List Wrong) → if_empty begin xs rest ≡ [] → (1 ≤ length xs) × (rest ≡ [])
 ended begin [] rest g = absurd (cc)
-ended begin (e ∷ es) rest g = (omega arith, g)
+ended begin (x ∷ xs) rest g = (omega arith, g)
 
 edits_more : (es : List Edit) (e : Edit) → AreEdits es → IsEdit e → AreEdits (es ++ e ∷ [])
 edits_more [] e h k = (k, tt)
@@ -152,10 +160,12 @@ behind_fine e es h = done es (and_parts (is_fine e) (list_all is_fine es) h.all)
 said_first : (e : Event) (es : List Event) → AreFine (e ∷ es) → CanBeWritten e
 said_first e es h = All-head CanBeWritten e es h.written
 
--- before an open group stand fewer commands than there may be, and the group has no more edits than it may
+-- before an open group or draft stand fewer commands than there may be, and a group has no more edits than it may
 abbrev HasRoom : ℕ → Place → Type 0
 HasRoom count outside = count ≤ 10000
 HasRoom count (inside begin edits) = (count < 10000) × (length edits ≤ 1000) × AreEdits edits
+HasRoom count (drafted begin trials) = count < 10000
+HasRoom count (tried begin trials group edits) = count < 10000
 
 -- what is kept of the commands behind so many
 record AreKept (count : ℕ) (cs : List Command) : Type 0 where
@@ -170,6 +180,12 @@ one_more count c cs here stands rest =
       written = All-cons CanStand c cs stands rest.written;
       few = let h = rest.few in omega (arith, h);
     }
+
+-- a question that is no plain one has a fault in a draft
+plain_kept : (plain : Bool) (count n : ℕ) (xs : List Wrong) (cs : List Command) → (xs ≡ [] → AreKept count cs)
+    → cond plain xs (bad n ∷ []) ≡ [] → AreKept count (cond plain cs [])
+plain_kept true count n xs cs kept h = kept h
+plain_kept false count n xs cs kept h = absurd (cc)
 
 commands_kept : (count : ℕ) (place : Place) (es : List Event) → HasRoom count place → AreFine es → faults count place es ≡ [] → AreKept count (commands place es)
 unfolding commands faults
@@ -186,6 +202,9 @@ commands_kept count outside (change n e ∷ es) room fine h =
 commands_kept count outside (group_begin n ∷ es) room fine h =
     let free = behind_none 10000 count n (faults count (inside n []) es) h in
     commands_kept count (inside n []) es (free.0, omega arith, tt) (behind_fine (group_begin n) es fine) free.1
+commands_kept count outside (draft_begin n ∷ es) room fine h =
+    let free = behind_none 10000 count n (faults count (drafted n []) es) h in
+    commands_kept count (drafted n []) es free.0 (behind_fine (draft_begin n) es fine) free.1
 commands_kept count (inside begin edits) (change n e ∷ es) room fine h =
     let free = behind_none 1000 (length edits) n (faults count (inside begin (edits ++ e ∷ [])) es) h in
     commands_kept count (inside begin (edits ++ e ∷ [])) es
@@ -195,13 +214,35 @@ commands_kept count (inside begin edits) (group_end n ∷ es) room fine h =
     let whole = ended begin edits (faults (count + 1) outside es) h in
     one_more count _ (commands outside es) refl (whole.0, room.1, room.2)
     (commands_kept (count + 1) outside es (let r = room.0 in omega (arith, r)) (behind_fine (group_end n) es fine) whole.1)
+commands_kept count (drafted begin trials) (single n (Ask q) ∷ es) room fine h =
+    plain_kept (is_plain q) count n (behind 100 (length trials) n ++ faults count (drafted begin (trials ++ ask_draft q ∷ [])) es)
+    (commands (drafted begin (trials ++ ask_draft q ∷ [])) es)
+    (λ none.
+    commands_kept count (drafted begin (trials ++ ask_draft q ∷ [])) es room (behind_fine (single n (Ask q)) es fine)
+    (behind_none 100 (length trials) n (faults count (drafted begin (trials ++ ask_draft q ∷ [])) es) none).1)
+    h
+commands_kept count (drafted begin trials) (change n e ∷ es) room fine h =
+    commands_kept count (drafted begin (trials ++ trial (e ∷ []) ∷ [])) es room (behind_fine (change n e) es fine)
+    (behind_none 100 (length trials) n (faults count (drafted begin (trials ++ trial (e ∷ []) ∷ [])) es) h).1
+commands_kept count (drafted begin trials) (dropped n ∷ es) room fine h =
+    commands_kept count (drafted begin (trials ++ Drop ∷ [])) es room (behind_fine (dropped n) es fine)
+    (behind_none 100 (length trials) n (faults count (drafted begin (trials ++ Drop ∷ [])) es) h).1
+commands_kept count (drafted begin trials) (group_begin n ∷ es) room fine h =
+    commands_kept count (tried begin trials n []) es room (behind_fine (group_begin n) es fine)
+    (behind_none 100 (length trials) n (faults count (tried begin trials n []) es) h).1
+commands_kept count (drafted begin trials) (draft_end n ∷ es) room fine h =
+    let whole = ended begin trials (faults (count + 1) outside es) h in
+    one_more count _ (commands outside es) refl tt
+    (commands_kept (count + 1) outside es (omega (arith, room)) (behind_fine (draft_end n) es fine) whole.1)
+commands_kept count (tried begin trials group edits) (change n e ∷ es) room fine h =
+    commands_kept count (tried begin trials group (edits ++ e ∷ [])) es room (behind_fine (change n e) es fine)
+    (behind_none 1000 (length edits) n (faults count (tried begin trials group (edits ++ e ∷ [])) es) h).1
+commands_kept count (tried begin trials group edits) (group_end n ∷ es) room fine h =
+    let whole = ended group edits (faults count (drafted begin (trials ++ trial edits ∷ [])) es) h in
+    commands_kept count (drafted begin (trials ++ trial edits ∷ [])) es room (behind_fine (group_end n) es fine) whole.1
 commands_kept count outside [] room fine h = record { looks = refl; written = All-nil CanStand; few = omega (arith, room) }
-commands_kept count (inside begin edits) [] room fine h = absurd (cc)
-commands_kept count outside (group_end n ∷ es) room fine h = absurd (cc)
 commands_kept count outside (unknown n ∷ es) room fine h = absurd (cc)
-commands_kept count (inside begin edits) (single n command ∷ es) room fine h = absurd (cc)
-commands_kept count (inside begin edits) (group_begin n ∷ es) room fine h = absurd (cc)
-commands_kept count (inside begin edits) (unknown n ∷ es) room fine h = absurd (cc)
+commands_kept count place es room fine h = absurd (cc)
 
 -- a script where there is one
 abbrev IfScript : Result Script ReadFault → Type 0

@@ -6,7 +6,7 @@ use Rattle.timing_defs.specs.declared.scripts.Script.{Script}
 use Rattle.timing_defs.specs.declared.scripts.Transcript.{Transcript}
 use Rattle.timing_defs.specs.Sessions.{DesignAfter, IsWhole, IsOutput}
 use Rattle.timing_defs.specs.Reports.{AreTotals}
-use Rattle.session_engine.specs.Soundness.{IsFaultless}
+use Rattle.eco_analysis.specs.Soundness.{IsFaultless}
 use Rattle.session_engine.specs.Versions.{Versioned, IsVersion}
 use Rattle.shell_core.specs.Scripts.{IsScript}
 use Rattle.shell_session.specs.Serving.{IsOutputOf, AreEnded, IsAnswer, DesignEnds}

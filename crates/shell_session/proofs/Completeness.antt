@@ -14,7 +14,7 @@ use Rattle.timing_defs.specs.Sessions.{IsInitial}
 use Rattle.sta_text.specs.declared.faults.Wrong.{Wrong}
 use Rattle.sta_text.specs.Faults.{least_from}
 use Rattle.liberty_cells.specs.Faults.{units_of_text}
-use Rattle.session_engine.specs.Soundness.{IsFaultless}
+use Rattle.eco_analysis.specs.Soundness.{IsFaultless}
 use Rattle.command_words.specs.Asked.{RunWords, Words}
 use Rattle.command_words.specs.Asked.{run as run_asked, generate as generate_asked}
 use Rattle.shell_core.specs.declared.documents.Role.{Role}

@@ -1,19 +1,22 @@
 -- Sessions at the seats of a board, one seat after the other.
-use Rattle.std.proofs.Common.{◌≡◌, ◌<◌, ◌+◌, ◌++◌, ◌∷◌, [], ℕ, suc, true, List, length, take, map, Result, Ok, Err, Some, refl, sym, ap, ◌∙◌, subst, arith, length-append}
+use Rattle.std.proofs.Common.{◌≡◌, ◌<◌, ◌+◌, ◌++◌, ◌∷◌, [], ℕ, suc, true, ◌||◌, List, length, take, map, Result, Ok, Err, Some, refl, sym, ap, ◌∙◌, subst, arith, length-append}
 use Rattle.std.specs.Prelude.{IfOk, IfSome, slice_get, get_or, unwrap_or}
 use Rattle.std.specs.List.{All}
 use Rattle.std.proofs.lemmas.List.{take_more, map-append}
 use Rattle.std.proofs.lemmas.List.Elements.{All-head, All-tail}
 use Rattle.timing_defs.specs.declared.design.Design.{Design}
 use Rattle.timing_defs.specs.declared.edits.Entry.{Entry}
+use Rattle.timing_defs.specs.declared.reports.Query.{Query}
+use Rattle.timing_defs.specs.declared.reports.Query.TheVariants.{Slew, At, Rat, Slack, Endpoint, WorstPath, Wns, Tns, Worst, Through, Paths, WhatIf', Advise}
 use Rattle.timing_defs.specs.declared.scripts.Command.{Command}
 use Rattle.timing_defs.specs.declared.scripts.Command.TheVariants.{Take, Await, Ask, Change}
 use Rattle.timing_defs.specs.declared.scripts.Script.{Script}
 use Rattle.timing_defs.specs.declared.scripts.Transcript.{Transcript}
+use Rattle.timing_defs.specs.Reports.{is_plain}
 use Rattle.version_board.specs.Callers.{Standing, Sitting, IsSeatOf, IsSame, IsNew}
 use Rattle.session_engine.specs.Versions.{Versioned}
 use Rattle.session_engine.specs.Looking.{meant}
-use Rattle.session_engine.specs.Running.{Ran, IsRunnable, is_runnable}
+use Rattle.session_engine.specs.Running.{Ran, IsRunnable, is_further, is_runnable}
 use Rattle.session_engine.proofs.Scripts.{runnable_all}
 use Rattle.script_reader.specs.Answerable.{is_answerable}
 use Rattle.shell_core.specs.Scripts.{has_looks, IsScript}
@@ -30,10 +33,26 @@ then_ok (Err y) P Q more h = tt
 some_is : {X : Type 0} (a b : X) → Some a ≡ Some b → a ≡ b
 some_is a b same = ap (λ o. unwrap_or o a) same
 
+-- a question that is answered in a script is plain or further
+asks : (q : Query) → is_answerable (Ask q) ≡ true → (is_plain q || is_further q) ≡ true
+asks (Slew pin split tran) k = refl
+asks (At pin split tran) k = refl
+asks (Rat pin split tran) k = refl
+asks (Slack pin split tran) k = refl
+asks (Endpoint pin kind) k = refl
+asks (WorstPath pin kind) k = refl
+asks (Wns kind) k = refl
+asks (Tns kind) k = refl
+asks (Worst kind count) k = refl
+asks (Through pin kind pins) k = k
+asks (Paths pin kind count) k = k
+asks (WhatIf' shape trials) k = k
+asks (Advise kind candidates) k = k
+
 runs : (c : Command) → has_looks c ≡ true → is_answerable c ≡ true → is_runnable c ≡ true
 runs Take h k = refl
 runs (Await number looks) h k = h
-runs (Ask q) h k = k
+runs (Ask q) h k = asks q k
 runs (Change eco) h k = k
 
 -- a script that was read can be run

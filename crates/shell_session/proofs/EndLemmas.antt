@@ -21,7 +21,7 @@ use Rattle.sta_units.specs.declared.units.Memory.{Memory}
 use Rattle.shell_core.specs.Documents.{Docs, sources, name_of, Stops, AreDocuments, words_line, design_line, refusal_line, shelf_line}
 use Rattle.shell_core.specs.Kept.{AreKept}
 use Rattle.design_link.specs.Documents.{AreDocuments as AreLinkable}
-use Rattle.session_engine.specs.Soundness.{IsUnsound}
+use Rattle.eco_analysis.specs.Soundness.{IsUnsound}
 use Rattle.shell_core.specs.Answers.{is_wanting}
 use Rattle.shell_session.specs.Linking.{linked_of}
 use Rattle.shell_session.specs.Generating.{IsSummary}

@@ -5,7 +5,7 @@ use Rattle.timing_defs.specs.declared.design.Design.{Design}
 use Rattle.timing_defs.specs.declared.scripts.Script.{Script}
 use Rattle.timing_defs.specs.declared.scripts.Transcript.{Transcript}
 use Rattle.timing_defs.specs.Sessions.{DesignAfter, IsWhole}
-use Rattle.session_engine.specs.Soundness.{IsFaultless}
+use Rattle.eco_analysis.specs.Soundness.{IsFaultless}
 use Rattle.session_engine.specs.Versions.{Versioned, IsVersion}
 use Rattle.shell_core.specs.declared.documents.Documents.{Documents}
 use Rattle.design_maker.specs.Draws.{drawn_on}

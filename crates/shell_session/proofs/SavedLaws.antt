@@ -21,7 +21,7 @@ use Rattle.timing_defs.proofs.LongerJournals.{design_once, not_both}
 use Rattle.netlist_store.proofs.Untouched.{framed_by_eco}
 use Rattle.eco_journal.specs.Blocks.{Block, AreFactors}
 use Rattle.eco_journal.proofs.BlockBack.{block_back}
-use Rattle.session_engine.specs.Soundness.{IsFaultless}
+use Rattle.eco_analysis.specs.Soundness.{IsFaultless}
 use Rattle.session_engine.specs.Versions.{Versioned, IsVersion}
 use Rattle.session_engine.specs.declared.replaying.ReplayFault.{ReplayFault}
 use Rattle.session_engine.specs.declared.replaying.ReplayFault.TheVariants.{First, Refused, Memory as no_memory}

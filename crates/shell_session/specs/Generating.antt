@@ -9,7 +9,7 @@ use Rattle.timing_defs.specs.declared.scripts.Totals.{Totals}
 use Rattle.timing_defs.specs.Output.{generated_text}
 use Rattle.timing_defs.specs.Reports.{AreTotals}
 use Rattle.timing_defs.specs.Sessions.{DesignAfter, IsWhole}
-use Rattle.session_engine.specs.Soundness.{IsFaultless}
+use Rattle.eco_analysis.specs.Soundness.{IsFaultless}
 use Rattle.session_engine.specs.Versions.{Versioned}
 use Rattle.shell_core.specs.declared.documents.Documents.{Documents}
 use Rattle.design_maker.specs.Sessions.{scripts_of}

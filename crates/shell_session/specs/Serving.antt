@@ -18,7 +18,7 @@ use Rattle.timing_defs.specs.Sessions.{IsWhole, IsOutput, IsSavedOutput, IsIniti
 use Rattle.sta_text.specs.declared.faults.Wrong.{Wrong}
 use Rattle.eco_journal.specs.Blocks.{block_of}
 use Rattle.eco_journal.specs.Journal.{entries_of}
-use Rattle.session_engine.specs.Soundness.{IsFaultless}
+use Rattle.eco_analysis.specs.Soundness.{IsFaultless}
 use Rattle.session_engine.specs.Versions.{Versioned}
 use Rattle.session_engine.specs.declared.replaying.ReplayFault.{ReplayFault}
 use Rattle.session_engine.specs.declared.replaying.ReplayFault.TheVariants.{First, Refused, Memory as no_memory}

@@ -5,7 +5,7 @@ ghost use Rattle.std.specs.Arc.{arc_value};
 ghost use Rattle.std.specs.List.{All};
 ghost use Rattle.shell_core.specs.Kept.{AreKept};
 ghost use Rattle.shell_core.specs.Scripts.{IsScript};
-ghost use Rattle.session_engine.specs.Soundness.{IsFaultless};
+ghost use Rattle.eco_analysis.specs.Soundness.{IsFaultless};
 ghost use Rattle.shell_session.specs.Generating.{IsLineLeft, IsWholeLine, IsDocumentsLine, IsSummary};
 
 use crate::answers::FIRST;

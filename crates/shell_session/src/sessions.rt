@@ -15,6 +15,7 @@ ghost use Rattle.shell_session.specs.Each.{HandsBack, EachHandsBack, AreNew, Are
 use crate::discards::{
     discard_board, discard_ended, discard_seat, discard_seats, discard_told, discard_transcript,
 };
+use further_answers::FurtherQueries;
 use session_engine::{Version, run_script};
 use sta_outside::Gate;
 use sta_units::Memory;
@@ -64,7 +65,10 @@ fn run_owned<H: Threads + Wait + Sync, G: Gate>(
     requires most { workers ≤ 32 }
     ensures { HandsBack seat script.now result }
 {
-    let outcome = run_script(rt, alloc, who, board, &mut seat, script, workers, gate);
+    let further = FurtherQueries::new(workers);
+    let outcome = run_script(
+        rt, alloc, who, board, &mut seat, script, workers, gate, &further,
+    );
     Ended { seat, outcome }
 }
 

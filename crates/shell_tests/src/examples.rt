@@ -2,6 +2,7 @@
 //! writes.
 
 mod documents;
+mod drafts;
 mod edits;
 mod faults;
 mod limits;
@@ -9,6 +10,7 @@ mod networks;
 mod paths;
 mod reports;
 mod saved;
+mod through;
 mod timing;
 
 use crate::running::{Texts, run};

@@ -23,7 +23,7 @@ use Rattle.spef_reader.specs.declared.context.Context.{Context}
 use Rattle.spef_reader.specs.declared.context.Measure.TheVariants.{Capacitance, Resistance, Other}
 use Rattle.spef_reader.specs.declared.events.Event.{Event}
 use Rattle.spef_reader.specs.declared.events.Event.TheVariants.{Net, Total, Connection, Ground, Coupling, Resistor, End}
-use Rattle.spef_reader.specs.Words.{is_index, index_of, is_spelled, is_reference, is_node, written, size_of, size_in, value_of, is_no_value, power_of, mark_of, delimiter_of, is_text_word, is_other_unit, is_passed, is_left_out, is_section, is_net_word, is_direction, is_pin_row}
+use Rattle.spef_reader.specs.Words.{is_index, index_of, is_spelled, is_reference, is_node, written, size_of, size_in, value_of, is_no_value, power_of, mark_of, delimiter_of, is_text_word, is_other_unit, is_passed, is_port_word, is_left_out, is_section, is_net_word, is_direction, is_pin_row}
 use Rattle.spef_reader.specs.Nodes.{name_of, node_of, is_unknown}
 use Rattle.spef_reader.specs.Grammar.{Place, start, title, header, first_text, next_text, divider, delimiter, bus_open, bus_close, factor, unit, name_map, mapped, passed, section, net_name, total, behind_total, width, parts, conn_row, conn_node, direction, cap_row, cap_node, cap_next, cap_value, res_row, res_first, res_second, res_value, is_text, is_word, is_string, is_unit, noted, unknown_name, bad_number, with_delimiter, with_open, with_close, with_unit, with_name, power_in, at_section, at_header, at_part, may_end, is_complete, events, fresh, events_of}
 use Rattle.spef_reader.specs.Faults.{double_nets, wrong, is_of_net, rows_of, is_resistance, lump_of, pins_on, token_faults, nets_faults, faults_of}
@@ -123,7 +123,7 @@ sized c name_map (t ∷ ts) =
 sized c (mapped index) (t ∷ ts) = pick (is_word t && is_spelled t.text) _ _ (sized (with_name c index t.text) name_map ts) (done _ refl)
 sized c passed (t ∷ ts) =
     pick (is_section t.text) _ _ (sized_section c t _ _ _ (sized c name_map ts) (sized c passed ts) (sized c (net_name t.start) ts))
-    (pick (is_bad t.sort) _ _ (done _ refl) (sized c passed ts))
+    (pick (is_bad t.sort || not (is_port_word c.header.delimiter t.text)) _ _ (done _ refl) (sized c passed ts))
 sized c section (t ∷ ts) = sized_section c t _ _ _ (sized c name_map ts) (sized c passed ts) (sized c (net_name t.start) ts)
 sized c (net_name at) (t ∷ ts) =
     pick (is_word t && is_reference t.text) _ _

@@ -20,7 +20,7 @@ use Rattle.spef_reader.specs.declared.context.Context.{Context}
 use Rattle.spef_reader.specs.declared.events.Event.{Event}
 use Rattle.spef_reader.specs.declared.events.Event.TheVariants.{Net, Total, Connection, Ground, Coupling, Resistor, End, Fault}
 use Rattle.spef_reader.specs.Names.{with_row}
-use Rattle.spef_reader.specs.Words.{is_index, index_of, is_spelled, is_reference, is_node, written, value_of, is_no_value, power_of, mark_of, delimiter_of, is_text_word, is_other_unit, is_passed, is_left_out, is_section, is_net_word, is_direction, is_pin_row}
+use Rattle.spef_reader.specs.Words.{is_index, index_of, is_spelled, is_reference, is_node, written, value_of, is_no_value, power_of, mark_of, delimiter_of, is_text_word, is_other_unit, is_passed, is_port_word, is_left_out, is_section, is_net_word, is_direction, is_pin_row}
 use Rattle.spef_reader.specs.Nodes.{name_of, node_of, is_unknown}
 
 abbrev pub is_text : Tok → List ℕ → Bool
@@ -222,7 +222,9 @@ events c (mapped index) (t ∷ ts) =
     (if is_word t && is_spelled t.text then events (with_name c index t.text) name_map ts else unexpected c false t)
 events c passed (t ∷ ts) =
     (if is_section t.text then at_section c t (events c name_map ts) (events c passed ts) (events c (net_name t.start) ts)
-    else (if is_bad t.sort then unexpected c true t else events c passed ts))
+    else
+    (if is_bad t.sort || not (is_port_word c.header.delimiter t.text) then unexpected c true t
+    else events c passed ts))
 events c section (t ∷ ts) =
     at_section c t (events c name_map ts) (events c passed ts) (events c (net_name t.start) ts)
 events c (net_name at) (t ∷ ts) =

@@ -235,6 +235,17 @@ is_passed word =
     bytes_eq word (codes "*PORTS") || bytes_eq word (codes "*PHYSICAL_PORTS")
     || bytes_eq word (codes "*POWER_NETS") || bytes_eq word (codes "*GROUND_NETS")
 
+-- the attributes of a port: its place, load and slews, and the cell that drives it
+abbrev pub is_attribute : List ℕ → Bool
+is_attribute word =
+    bytes_eq word (codes "*C") || bytes_eq word (codes "*L")
+    || bytes_eq word (codes "*S") || bytes_eq word (codes "*D")
+
+-- what stands in a section that is passed over. Of the words that begin with a star (42) these are
+-- the ports and nets by their index, and attributes
+unfoldable pub is_port_word : Option ℕ → List ℕ → Bool
+is_port_word delimiter word = not (begins 42 word) || is_attribute word || is_node delimiter word
+
 -- sections that are left out
 abbrev pub is_left_out : List ℕ → Bool
 is_left_out word =

@@ -16,14 +16,15 @@ use timing_defs::{Parasitics, ReadFault};
 /// The parasitics of nets that a SPEF text writes (a subset of IEEE 1481).
 ///
 /// A text is `*SPEF "version"`, a header, and sections: a name map, passed-over lists of ports and
-/// supplies, and nets `*D_NET NAME TOTAL .. *END` with `*CONN`, `*CAP` and `*RES`, each optional and
-/// in this order. Names may be given by an index `*n`; a backslash before a mark stands for the mark,
-/// and the marks of buses read as `[` and `]`. A node is a port, an instance and its pin, which is
-/// named `instance:pin` whatever the text's delimiter is, or the net and a number below 2^32. Values
-/// are rounded once, to aF and mΩ; of a triplet the second counts. A capacitance between two nodes
-/// counts to ground at the first of them that is a node of the net. A net without resistances is
-/// lumped: `lump` is the sum of its capacitances, or its total where it has none. Each net is given
-/// once, and all values lie from 0 to 10^12.
+/// supplies, and nets `*D_NET NAME TOTAL .. *END` with `*CONN`, `*CAP` and `*RES`, each optional
+/// and in this order. In a passed-over list a word that begins with `*` is a name by its index or
+/// one of `*C`, `*L`, `*S` and `*D`. Names may be given by an index `*n`; a backslash before a mark
+/// stands for the mark, and the marks of buses read as `[` and `]`. A node is a port, an instance
+/// and its pin, which is named `instance:pin` whatever the text's delimiter is, or the net and a
+/// number below 2^32. Values are rounded once, to aF and mΩ; of a triplet the second counts. A
+/// capacitance between two nodes counts to ground at the first of them that is a node of the net. A
+/// net without resistances is lumped: `lump` is the sum of its capacitances, or its total where it
+/// has none. Each net is given once, and all values lie from 0 to 10^12.
 ///
 /// # Errors
 ///

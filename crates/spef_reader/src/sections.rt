@@ -11,7 +11,7 @@ use crate::header::{header_lines, title};
 use crate::name_map::NameMap;
 use crate::nets::net;
 use crate::tokens::{Stop, Tokens, any, is, is_bad, is_word, leave_out, missing, unexpected};
-use crate::words::{index_of, is_left_out, is_passed, is_section, is_spelled};
+use crate::words::{index_of, is_left_out, is_passed, is_port_word, is_section, is_spelled};
 use sta_text::Token;
 use sta_units::Memory;
 use std::alloc::Global;
@@ -63,7 +63,7 @@ fn pass<'a>(
     if is_section(token.text) {
         return Ok(false);
     }
-    if is_bad(&token) {
+    if is_bad(&token) || !is_port_word(context.header.delimiter, token.text) {
         return Err(unexpected(context, out, true, &token));
     }
     let _ = tokens.next();

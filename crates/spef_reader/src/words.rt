@@ -5,7 +5,7 @@ ghost use Rattle.std.specs.Char.{is_ascii_digit};
 ghost use Rattle.std.specs.List.{list_all, prefix_len};
 ghost use Rattle.sta_units.specs.Decimal.{is_whole};
 ghost use Rattle.timing_defs.specs.Names.{is_graphic};
-ghost use Rattle.spef_reader.specs.Words.{is_mark, begins_mark, escapes, is_this, unescaped, spelled, behind, is_zero, is_index, index_of, is_spelled, is_reference, last_at, parts_of, sides_of, are_references, begins_digit, is_node, mark_of, is_pin_delimiter, delimiter_of, is_text_word, is_header_word, is_other_unit, is_passed, is_left_out, is_section, is_net_word, is_direction, is_pin_row};
+ghost use Rattle.spef_reader.specs.Words.{is_mark, begins_mark, escapes, is_this, unescaped, spelled, behind, is_zero, is_index, index_of, is_spelled, is_reference, last_at, parts_of, sides_of, are_references, begins_digit, is_node, mark_of, is_pin_delimiter, delimiter_of, is_text_word, is_header_word, is_other_unit, is_passed, is_attribute, is_port_word, is_left_out, is_section, is_net_word, is_direction, is_pin_row};
 
 use crate::context::Bus;
 use sta_text::begins;
@@ -285,6 +285,24 @@ pub(crate) fn is_passed(word: &[u8]) -> bool
         || word == b"*PHYSICAL_PORTS".as_slice()
         || word == b"*POWER_NETS".as_slice()
         || word == b"*GROUND_NETS".as_slice()
+}
+
+/// Whether the word begins an attribute of a port.
+fn is_attribute(word: &[u8]) -> bool
+    ensures { result ≡ is_attribute word.now }
+{
+    word == b"*C".as_slice()
+        || word == b"*L".as_slice()
+        || word == b"*S".as_slice()
+        || word == b"*D".as_slice()
+}
+
+/// Whether the word may stand in a section that is passed over.
+#[tactic(auto, unfolding(crate::specs::Words::is_port_word))]
+pub(crate) fn is_port_word(delimiter: Option<u8>, word: &[u8]) -> bool
+    ensures { result ≡ is_port_word delimiter word.now }
+{
+    !begins(b'*', word) || is_attribute(word) || is_node(delimiter, word)
 }
 
 /// Whether the word begins a section that is left out.

@@ -1,14 +1,20 @@
-use Rattle.std.proofs.Common.{sym, subst}
-use Rattle.std.specs.Arc.{arc_value}
-use Rattle.netlist_store.specs.declared.touched.Touched.{Touched}
-use Rattle.netlist_store.specs.Applying.{IsApplied}
+use Rattle.std.proofs.Common.{◌-◌, true, subst}
 use Rattle.netlist_store.specs.Numbering.{Stored}
-use Rattle.session_engine.proofs.CountLaws.{counted}
+use Rattle.eco_analysis.specs.Soundness.{IsRefusal}
+use Rattle.eco_analysis.specs.Counting.{is_told}
+use Rattle.session_engine.proofs.VersionLaws.{counted_next}
 use Rattle.session_engine.proofs.preparing.prepare.Goals as goal
 
-pub returns-in_ok-store-in-Ok-clause-counted : goal.returns-in_ok-store-in-Ok-clause-counted
-returns-in_ok-store-in-Ok-clause-counted g c =
-    counted c.args.base.now.stored (arc_value c.in_ok-store-in-Ok.store) c.args.eco.now (record { insts = c.in_ok-store-in-Ok.touched.insts; nets = c.in_ok-store-in-Ok.touched.nets })
-    (subst (λ (s : Stored). IsApplied c.args.base.now.stored c.args.eco.now s (record { insts = c.in_ok-store-in-Ok.touched.insts; nets = c.in_ok-store-in-Ok.touched.nets })) (sym c.in_ok-store-in-Ok.ensures.0)
-    (subst (λ (t : Touched). IsApplied c.args.base.now.stored c.args.eco.now c.in-Ok.store (record { insts = t.insts; nets = t.nets })) (sym c.in_ok-store-in-Ok.ensures.1) c.in-Ok.ensures.applied))
-    c.prepared.result c.args.steps.now c.prepared.new.steps c.prepared.ensures.least c.prepared.ensures.most c.prepared.ensures.unsound c.prepared.ensures.refused
+pub returns-in_err-next-in-Ok-clause-counted : goal.returns-in_err-next-in-Ok-clause-counted
+returns-in_err-next-in-Ok-clause-counted g c =
+    counted_next c.store.result.now c.args.base.now.stored c.args.eco.now (is_told c.from_residual.result) (c.after_eco.new.steps - c.args.steps.now)
+    c.store.ensures c.in-Ok.ensures.counted
+
+pub returns-in_ok-next-in-Ok-clause-counted : goal.returns-in_ok-next-in-Ok-clause-counted
+returns-in_ok-next-in-Ok-clause-counted g c =
+    counted_next c.store.result.now c.args.base.now.stored c.args.eco.now true (c.after_eco.new.steps - c.args.steps.now)
+    c.store.ensures c.in-Ok.ensures.counted
+
+pub returns-in-Err-clause-refused : goal.returns-in-Err-clause-refused
+returns-in-Err-clause-refused g c =
+    subst (λ (s : Stored). IsRefusal s.design c.args.eco.now c.in-Err.fault) c.store.ensures c.in-Err.ensures.refused

@@ -1,6 +1,6 @@
 use Rattle.std.proofs.Common.{subst}
 use Rattle.std.specs.Prelude.{IfOk}
-use Rattle.session_engine.specs.Soundness.{IsFaultless}
+use Rattle.eco_analysis.specs.Soundness.{IsFaultless}
 use Rattle.shell_session.specs.Generating.{IsWholeLine}
 use Rattle.shell_session.proofs.generating.store_line.Goals as goal
 

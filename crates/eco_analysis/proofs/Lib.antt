@@ -1,0 +1,3 @@
+pub mod SoundLaws
+pub mod EditLaws
+pub mod CountLaws

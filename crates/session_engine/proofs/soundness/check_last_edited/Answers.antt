@@ -1,7 +1,0 @@
-use Rattle.session_engine.proofs.SoundLaws.{data_edited_refused}
-use Rattle.session_engine.proofs.soundness.check_last_edited.Goals as goal
-
-pub returns-clause-refused : goal.returns-clause-refused
-returns-clause-refused c =
-    data_edited_refused c.args.touched.now.nets c.args.store.now.design c.requires.edit c.requires.nets c.requires.no_loop c.requires.tree
-    c.check_data_after.result c.check_data_after.ensures

@@ -1,0 +1,13 @@
+use Rattle.std.proofs.Common.{subst}
+use Rattle.timing_defs.specs.declared.reports.Candidate.{Candidate}
+use Rattle.affected_cone.proofs.SearchLaws.{ok_more}
+use Rattle.sizing_advisor.specs.Trying.{IsTrial}
+use Rattle.sizing_advisor.proofs.SharedLaws.{trials_told}
+use Rattle.sizing_advisor.proofs.sharing.shared_trials.Goals as goal
+
+pub returns : goal.returns
+returns g c =
+    ok_more c.in_ok-collected.field-0
+    (λ trials told. trials_told c.args.store.now.design c.args.kind _ c.args.candidates.now trials.items
+    (λ x t k. subst (λ (y : Candidate). IsTrial c.args.store.now.design c.args.kind y t) k.shows k.says.met) told)
+    c.in_ok-collected.ensures

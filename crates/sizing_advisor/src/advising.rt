@@ -1,0 +1,140 @@
+//! The advised resize.
+
+ghost use Rattle.std.specs.Prelude.{◌≡◌, ◌-◌, ◌≤◌, map, IfOk, OnOk};
+ghost use Rattle.timing_defs.specs.Advice.{candidate_eco, IsAdvice};
+ghost use Rattle.timing_defs.specs.Cones.{AreCounted};
+ghost use Rattle.sizing_advisor.specs.Trying.{IsBest};
+
+use crate::choices::{Best, as_advice, better};
+use crate::sharing::shared_trials;
+use crate::trials::{Tried, value_of};
+use affected_cone::Analysis;
+use netlist_store::Store;
+use sta_outside::Gate;
+use sta_units::{Memory, Steps};
+use std::alloc::Global;
+use std::thread::Threads;
+use timing_defs::{Advice, Candidate, Items, Kind};
+
+/// The best of some candidates, tried one after another.
+fn best_in_turn<'a, H: Threads + Sync, G: Gate, L>(
+    rt: &H,
+    alloc: Global,
+    store: &Store,
+    analysis: &Analysis,
+    kind: Kind,
+    candidates: &'a [Candidate],
+    workers: u32,
+    gate: &G,
+    steps: &mut Steps<L>,
+) -> Result<Option<Best<'a>>, Memory>
+    requires analysis { store.now ≡ analysis.now.stored }
+    requires some { 1 ≤ workers }
+    requires most { workers ≤ 32 }
+    ensures best { IfOk result (λ best. IsBest store.now.design kind candidates.now best steps.old steps.new) }
+    ensures rises { steps.old ≤ steps.new }
+{
+    let mut best = None;
+    for candidate in candidates {
+        let value = value_of(
+            rt, alloc, store, analysis, kind, candidate, workers, gate, steps,
+        )?;
+        best = better(best, candidate, value);
+    }
+    Ok(best)
+}
+
+/// The best of some candidates, whose trials are shared between threads.
+fn best_shared<'a, H: Threads + Sync, G: Gate, L>(
+    rt: &H,
+    alloc: Global,
+    store: &Store,
+    analysis: &Analysis,
+    kind: Kind,
+    candidates: &'a [Candidate],
+    gate: &G,
+    steps: &mut Steps<L>,
+) -> Result<Option<Best<'a>>, Memory>
+    requires { store.now ≡ analysis.now.stored }
+    ensures best { IfOk result (λ best. IsBest store.now.design kind candidates.now best steps.old steps.new) }
+    ensures rises { steps.old ≤ steps.new }
+{
+    let trials = shared_trials(rt, alloc, store, analysis, kind, candidates, gate)?;
+    let mut best = None;
+    for (candidate, trial) in candidates.iter().zip(trials) {
+        let Tried {
+            value,
+            steps: counted,
+        } = trial;
+        steps.add(counted);
+        best = better(best, candidate, value);
+    }
+    Ok(best)
+}
+
+/// The best of some candidates: where there are several, and several workers, their trials are shared between
+/// threads, and else each is tried with all workers.
+fn best_of<'a, H: Threads + Sync, G: Gate, L>(
+    rt: &H,
+    alloc: Global,
+    store: &Store,
+    analysis: &Analysis,
+    kind: Kind,
+    candidates: &'a [Candidate],
+    workers: u32,
+    gate: &G,
+    steps: &mut Steps<L>,
+) -> Result<Option<Best<'a>>, Memory>
+    requires analysis { store.now ≡ analysis.now.stored }
+    requires some { 1 ≤ workers }
+    requires most { workers ≤ 32 }
+    ensures best { IfOk result (λ best. IsBest store.now.design kind candidates.now best steps.old steps.new) }
+    ensures rises { steps.old ≤ steps.new }
+{
+    if workers < 2 || candidates.len() < 2 {
+        best_in_turn(
+            rt, alloc, store, analysis, kind, candidates, workers, gate, steps,
+        )
+    } else {
+        best_shared(rt, alloc, store, analysis, kind, candidates, gate, steps)
+    }
+}
+
+/// The advised resize: of the candidates, each tried alone on the store, the first with which the worst
+/// slack of the kind is greatest, and that slack in fs; none where each is refused or no endpoint has a slack.
+/// A refused candidate has no value. The store and its analysis stay as they are. With more than one worker
+/// several candidates are shared between as many threads as there are processors; the answer is the same.
+/// `steps` counts the evaluations of nodes, summed over the candidates: of each whose resize is accepted at
+/// least the nodes that it affects forward, of each whose design is sound at most these and those that it
+/// affects backward, and else none.
+pub fn advise<H: Threads + Sync, G: Gate, L>(
+    rt: &H,
+    alloc: Global,
+    store: &Store,
+    analysis: &Analysis,
+    kind: Kind,
+    candidates: &Items<Candidate>,
+    workers: u32,
+    gate: &G,
+    steps: &mut Steps<L>,
+) -> Result<Option<Advice>, Memory>
+    requires analysis { store.now ≡ analysis.now.stored }
+    requires some { 1 ≤ workers }
+    requires most { workers ≤ 32 }
+    ensures advice { IfOk result (IsAdvice store.now.design kind candidates.now) }
+    ensures rises { steps.old ≤ steps.new }
+    ensures counted { OnOk result (AreCounted store.now.design (map candidate_eco candidates.now) (steps.new - steps.old)) }
+{
+    let best = best_of(
+        rt,
+        alloc,
+        store,
+        analysis,
+        kind,
+        candidates.as_slice(),
+        workers,
+        gate,
+        steps,
+    )?;
+    as_advice(alloc, best)
+}

@@ -1,0 +1,11 @@
+//! Drafts of a design: ECOs are tried one over the other, the last one can be dropped, and the last design is asked.
+//!
+//! `Draft` keeps a store and an analysis for each accepted ECO, over those of a snapshot, which stay as they are
+//! (`drafts`). `trial_rows` answers a whole list of trials (`trials`).
+#![tactic(auto)]
+
+mod drafts;
+mod trials;
+
+pub use drafts::Draft;
+pub use trials::trial_rows;
