@@ -1,6 +1,6 @@
 -- How far the count of steps rises where an ECO is tried.
 
-use Rattle.std.proofs.Common.{◌≡◌, ℕ, ◌+◌, ◌-◌, ◌≤◌, List, Result, Ok, Err, IfErr, OnOk, Bool, true, false, refl, sym, subst, ◌∙◌, inl, inr, arith}
+use Rattle.std.proofs.Common.{◌≡◌, ℕ, ◌+◌, ◌-◌, ◌≤◌, Result, Ok, Err, IfErr, OnOk, true, false, subst, inl, inr, arith}
 use Rattle.std.specs.Prelude.{IsTrue}
 use Rattle.std.proofs.lemmas.Bool.{false≢true}
 use Rattle.timing_defs.specs.declared.design.Design.{Design}
@@ -9,8 +9,8 @@ use Rattle.timing_defs.specs.declared.faults.Fault.{Fault}
 use Rattle.timing_defs.specs.declared.faults.Fault.TheVariants.{Memory as no_room}
 use Rattle.timing_defs.specs.Edits.{edited}
 use Rattle.timing_defs.specs.Cones.{Touch, touched_list, forward_count, backward_count, MakesSound, IsCounted}
-use Rattle.timing_defs.specs.Checks.{Accepts, Refuses, IsSound}
-use Rattle.timing_defs.proofs.LongerJournals.{accepted_once, not_both}
+use Rattle.timing_defs.specs.Checks.{Accepts, IsSound}
+use Rattle.timing_defs.proofs.LongerJournals.{not_both}
 use Rattle.netlist_store.specs.Applying.{IsApplied, IsRefused}
 use Rattle.netlist_store.specs.Numbering.{Stored}
 use Rattle.eco_analysis.specs.Counting.{tells, is_told}
@@ -75,7 +75,3 @@ uncounted base eco x old new e refused = (by refused, (λ d2 sound. omega (arith
 -- memory was wanting behind the edits
 pub unheard : (base : Design) (eco : Eco) (old new : ℕ) → new ≡ old → IsCounted base eco false (new - old)
 unheard base eco old new e = ((λ d2 accepts told. absurd (false≢true told)), (λ d2 sound. omega (arith, e)), (λ none. omega (arith, e)))
-
--- memory was wanting behind the analysis
-pub counted_untold : (base : Design) (eco : Eco) (told : Bool) (rise : ℕ) → IsCounted base eco told rise → IsCounted base eco false rise
-counted_untold base eco told rise is = ((λ d2 accepts told. absurd (false≢true told)), is.1, is.2)

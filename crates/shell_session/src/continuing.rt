@@ -3,7 +3,6 @@
 ghost use Rattle.std.specs.Prelude.{◌≡◌, ◌≤◌, [], length, Some, IfOk};
 ghost use Rattle.std.specs.Arc.{arc_value};
 ghost use Rattle.std.specs.List.{All};
-ghost use Rattle.session_engine.specs.Replaying.{IsReplayFault};
 ghost use Rattle.shell_core.specs.Kept.{AreReplayable};
 ghost use Rattle.shell_core.specs.Scripts.{IsScript};
 ghost use Rattle.shell_session.specs.Serving.{IsSavedOutputOf, AreSavedEnded, IsContinued, IsReplayLine, SavedEnds};

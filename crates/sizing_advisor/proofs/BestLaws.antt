@@ -1,13 +1,12 @@
 -- The best of some candidates, and the steps of their trials, with one candidate more.
 
-use Rattle.std.proofs.Common.{◌≡◌, ℕ, ℤ, ◌+◌, ◌-◌, ◌≤◌, true, List, [], ◌∷◌, ◌++◌, map, length, take, Option, None, refl, sym, ap, subst, ◌∙◌, arith}
-use Rattle.std.specs.Prelude.{◌<◌}
+use Rattle.std.proofs.Common.{◌≡◌, ℕ, ℤ, ◌+◌, ◌-◌, ◌≤◌, true, List, [], ◌∷◌, ◌++◌, map, Option, None, refl, sym, ap, subst, ◌∙◌, arith}
 use Rattle.sta_units.specs.declared.units.Fs.{Fs}
 use Rattle.timing_defs.specs.declared.kinds.Kind.{Kind}
 use Rattle.timing_defs.specs.declared.design.Design.{Design}
 use Rattle.timing_defs.specs.declared.reports.Candidate.{Candidate}
 use Rattle.timing_defs.specs.declared.reports.Advice.{Advice}
-use Rattle.timing_defs.specs.Advice.{candidate_eco, IsValue, AreValues, better, best_from, IsAdvice}
+use Rattle.timing_defs.specs.Advice.{candidate_eco, IsValue, AreValues, better, best_from}
 use Rattle.timing_defs.specs.Cones.{IsCounted, AreCounted}
 use Rattle.sizing_advisor.specs.declared.choices.Best.{Best}
 use Rattle.sizing_advisor.specs.Trying.{as_number, as_advice, IsTried, IsBest}
