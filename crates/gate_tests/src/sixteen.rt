@@ -1,5 +1,5 @@
-//! Sixteen sessions that resize one gate, each between two questions, with one worker and with as many as
-//! can be.
+//! Sixteen sessions that resize one gate, each between two questions, with one worker, with some and with
+//! as many as can be.
 
 use crate::running::run;
 use sta_outside::NoGate;
@@ -162,6 +162,13 @@ fn transcripts<'a>(rt: &impl Abort, alloc: Global, sessions: &[u64], mut text: &
     text
 }
 
+/// The runs, with one worker, with some and with as many as can be.
+const RUNS: [&str; 3] = [
+    "run early.lib late.lib b.v b.sdc none 1 s1 s2 s3 s4 s5 s6 s7 s8 s9 s10 s11 s12 s13 s14 s15 s16",
+    "run early.lib late.lib b.v b.sdc none 4 s1 s2 s3 s4 s5 s6 s7 s8 s9 s10 s11 s12 s13 s14 s15 s16",
+    "run early.lib late.lib b.v b.sdc none 32 s1 s2 s3 s4 s5 s6 s7 s8 s9 s10 s11 s12 s13 s14 s15 s16",
+];
+
 /// Runs the sixteen scripts, and checks what they write.
 fn check<H: Abort + Threads + Wait + Sync>(rt: &H, alloc: Global, line: &str) {
     let (status, text) = run(rt, alloc, line, &SCRIPTS, &NoGate);
@@ -172,19 +179,8 @@ fn check<H: Abort + Threads + Wait + Sync>(rt: &H, alloc: Global, line: &str) {
 }
 
 #[test]
-fn sixteen_sessions_with_one_worker(rt: HostRuntime) {
-    check(
-        &rt,
-        rt.alloc(),
-        "run early.lib late.lib b.v b.sdc none 1 s1 s2 s3 s4 s5 s6 s7 s8 s9 s10 s11 s12 s13 s14 s15 s16",
-    );
-}
-
-#[test]
-fn sixteen_sessions_with_thirty_two_workers(rt: HostRuntime) {
-    check(
-        &rt,
-        rt.alloc(),
-        "run early.lib late.lib b.v b.sdc none 32 s1 s2 s3 s4 s5 s6 s7 s8 s9 s10 s11 s12 s13 s14 s15 s16",
-    );
+fn sixteen_sessions_share_a_gate(rt: HostRuntime) {
+    for line in RUNS {
+        check(&rt, rt.alloc(), line);
+    }
 }

@@ -4,6 +4,7 @@
 mod documents;
 mod drafts;
 mod edits;
+mod failing;
 mod faults;
 mod limits;
 mod networks;
@@ -37,6 +38,15 @@ type Documents = &'static [(&'static str, &'static str)];
 /// writes.
 type Example = (&'static str, Documents, &'static str, Status, &'static str);
 
+/// The shared documents, some others and the script `s1`.
+fn texts_of(rt: &impl Abort, alloc: Global, others: &[(&str, &str)], script: &str) -> Texts {
+    let mut texts = Texts::new(alloc);
+    texts.add(rt, alloc, &DOCUMENTS);
+    texts.add(rt, alloc, others);
+    texts.add(rt, alloc, &[("s1", script)]);
+    texts
+}
+
 /// The status of a run over the shared documents, some others and the script `s1`, and what it writes.
 fn answer<H: Abort + Threads + Wait + Sync>(
     rt: &H,
@@ -45,11 +55,8 @@ fn answer<H: Abort + Threads + Wait + Sync>(
     others: &[(&str, &str)],
     script: &str,
 ) -> (Status, Vec<u8>) {
-    let mut texts = Texts::new(alloc);
-    texts.add(rt, alloc, &DOCUMENTS);
-    texts.add(rt, alloc, others);
-    texts.add(rt, alloc, &[("s1", script)]);
-    run(rt, alloc, line, texts, &[], 1_000_000)
+    let texts = texts_of(rt, alloc, others, script);
+    run(rt, alloc, line, texts, &[], 1_000_000, &[])
 }
 
 /// Compares an example with what its run ends with.

@@ -31,6 +31,14 @@ impl Texts {
             self.texts.push(text).expect(rt, "memory");
         }
     }
+
+    /// Adds a document of so many spaces.
+    pub(crate) fn add_spaces(&mut self, rt: &impl Abort, alloc: Global, name: &str, len: usize) {
+        let name = String::from_str(alloc, name).expect(rt, "memory");
+        self.names.push(name).expect(rt, "memory");
+        let text = vec![in alloc; 32; len].expect(rt, "memory");
+        self.texts.push(text).expect(rt, "memory");
+    }
 }
 
 fn words_of(rt: &impl Abort, alloc: Global, line: &str) -> Vec<String> {
@@ -42,20 +50,22 @@ fn words_of(rt: &impl Abort, alloc: Global, line: &str) -> Vec<String> {
     words
 }
 
-/// The status of a run by the words of a line, and what it writes into a sink of so much room. The shelf fails at fetches as `fails`
-/// plans it.
+/// The status of a run by the words of a line, and what it writes into a sink of so much room. The shelf fails at fetches as `fetches`
+/// plans it, the sink at puts as `puts` does.
 pub(crate) fn run<H: Abort + Threads + Wait + Sync>(
     rt: &H,
     alloc: Global,
     line: &str,
     texts: Texts,
-    fails: &[u64],
+    fetches: &[u64],
     room: usize,
+    puts: &[u64],
 ) -> (Status, Vec<u8>) {
     let words = words_of(rt, alloc, line);
-    let fails = fails.to_vec(alloc).expect(rt, "memory");
-    let mut shelf = MemShelf::new(texts.names, texts.texts, fails);
-    let mut sink = MemSink::new(alloc, room, Vec::new(alloc)).expect(rt, "memory");
+    let fetches = fetches.to_vec(alloc).expect(rt, "memory");
+    let puts = puts.to_vec(alloc).expect(rt, "memory");
+    let mut shelf = MemShelf::new(texts.names, texts.texts, fetches);
+    let mut sink = MemSink::new(alloc, room, puts).expect(rt, "memory");
     let status = serve(rt, alloc, words.as_slice(), &mut shelf, &mut sink, &NoGate);
     (status, sink.bytes().to_vec(alloc).expect(rt, "memory"))
 }

@@ -119,7 +119,7 @@ fn compare<H: Abort + Threads + Wait + Sync>(rt: &H, alloc: Global, row: &Row) {
         ("s1", script),
     ];
     texts.add(rt, alloc, &documents);
-    let (ended, written) = run(rt, alloc, line, texts, &[fails], room);
+    let (ended, written) = run(rt, alloc, line, texts, &[fails], room, &[]);
     assert_eq!(rt; ended, status, "at {line} with {script}");
     assert_eq!(rt;
         written.as_slice(),
