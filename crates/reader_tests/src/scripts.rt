@@ -441,3 +441,32 @@ fn limits_drafts_and_candidates(rt: HostRuntime) {
         check_place(&rt, rt.alloc(), pieces, want);
     }
 }
+
+#[test]
+fn limits_groups_and_lines_of_drafts(rt: HostRuntime) {
+    use Code::{ScriptBadCommand, ScriptTooLong};
+    let draft = "begin_what_if\n";
+    let group = "begin_what_if\nbegin_eco\n";
+    let edit_lines = repeated(&rt, rt.alloc(), "insert_net a\n", 1_000);
+    let edits = edit_lines.as_str();
+    let spaces = repeated(&rt, rt.alloc(), " ", 65_527);
+    let blanks = spaces.as_str();
+    for (pieces, want) in [
+        ([group, edits, "commit_eco\nend_what_if"], None),
+        (
+            [group, edits, "insert_net a\ncommit_eco\nend_what_if"],
+            Some((ScriptTooLong, 1_003)),
+        ),
+        ([draft, blanks, "drop_last\nend_what_if"], None),
+        (
+            [draft, blanks, " drop_last\nend_what_if"],
+            Some((ScriptTooLong, 2)),
+        ),
+        (
+            [draft, blanks, "      take\nend_what_if"],
+            Some((ScriptBadCommand, 2)),
+        ),
+    ] {
+        check_place(&rt, rt.alloc(), pieces, want);
+    }
+}

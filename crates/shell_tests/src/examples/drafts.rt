@@ -2,11 +2,12 @@
 
 use super::{BASE, Example, compare_all};
 
-/// Edits are tried one over the other, dropped and asked about; the journal stays as it is.
-const DRAFTS: [Example; 1] = [(
-    BASE,
-    &[],
-    "begin_what_if
+/// Edits are tried one over the other, dropped and asked about; the journal stays as it is. Questions without an answer leave the status 0.
+const DRAFTS: [Example; 2] = [
+    (
+        BASE,
+        &[],
+        "begin_what_if
 repower_gate g2 BUF_X4
 report_endpoint r2:D setup
 drop_last
@@ -16,8 +17,8 @@ drop_last
 end_what_if
 take
 ",
-    0,
-    "journal 1 0
+        0,
+        "journal 1 0
 session 1 rows 2
 1 0 what_if 6
 tried
@@ -29,7 +30,25 @@ no_draft
 2 0 taken
 final 0 setup 895.000 0.000 hold 28.000 0.000
 ",
-)];
+    ),
+    (
+        BASE,
+        &[],
+        "begin_what_if
+report_endpoint nopin setup
+report_endpoint g1:A setup
+end_what_if
+",
+        0,
+        "journal 1 0
+session 1 rows 1
+1 0 what_if 2
+no Q1 nopin
+no Q2 g1:A
+final 0 setup 895.000 0.000 hold 28.000 0.000
+",
+    ),
+];
 
 /// The candidate with which the worst slack is greatest: a refused one has no value, and of equal values the first is told.
 const ADVICE: [Example; 1] = [(
