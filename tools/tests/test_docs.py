@@ -1,16 +1,38 @@
 """The documents: what they name is there."""
+import pathlib
 import re
 import unittest
 
 import common
 
-CRATES, DOCS = common.TOP / "crates", common.TOP / "docs"
+CRATES, DOCS, EDITS = common.TOP / "crates", common.TOP / "docs", common.TOP / "bench" / "must-fail"
 
 
 def index_rows():
     text = (DOCS / "DEFINITIONS.md").read_text()
     rows = re.findall(r"^\| (.*) \|$", text[text.index("## Index"):], re.M)
-    return [row.split(" | ") for row in rows[2:]]
+    return [row.split(" | ") for row in rows if not row.startswith("Rule | ")]
+
+
+def why_not_applied(edit):
+    """Why an edit cannot be applied to the sources of its crate: each of its old texts stands once in its file. None where it can be."""
+    crate = edit.parent.name if EDITS in edit.parents else edit.parent.parent.name
+    texts, name, old = {}, None, None
+    for line in edit.read_text().splitlines():
+        key, _, text = line.partition(": ") if not line.startswith("new:") else ("new", "", line[len("new:"):].removeprefix(" "))
+        if key == "file":
+            name = text
+        elif key == "old":
+            old = text
+        elif key == "new":
+            file = CRATES / crate / name
+            if not file.is_file():
+                return f"there is no {name}"
+            source = texts.setdefault(name, file.read_text())
+            if source.count(old) != 1:
+                return f"{name} has a text {source.count(old)} times"
+            texts[name] = source.replace(old, text)
+    return None if texts and edit.suffix == ".edit" else "it has no pair of texts, or is not named as an edit"
 
 
 class Documents(unittest.TestCase):
@@ -25,7 +47,7 @@ class Documents(unittest.TestCase):
 
     def test_definitions_of_the_index_are_there(self):
         for row in index_rows():
-            self.assertEqual(len(row), 4, row)
+            self.assertEqual(len(row), 5, row)
             for crate, file, names in re.findall(r"`(\w+)/specs(?:/(\w+))?`(?:: ((?:`\w+`(?:, )?)+))?", row[1]):
                 folder = CRATES / crate / "specs"
                 self.assertTrue(folder.is_dir(), row)
@@ -44,6 +66,28 @@ class Documents(unittest.TestCase):
         if gone:
             # A test may move at any time, and what the page says of it is no reason to refuse the change.
             self.skipTest(f"the index of docs/DEFINITIONS.md names tests that are gone: {'; '.join(gone)}")
+
+    def test_code_and_edits_of_the_index_are_there(self):
+        gone = []
+        for row in index_rows():
+            folder = None
+            for name in re.findall(r"`([\w/]+\.rt)`", row[2]):
+                folder = (CRATES / name).parent if "/" in name else folder
+                gone += [] if (folder / pathlib.Path(name).name).is_file() else [f"{row[0]}: {name}"]
+            crate, edit, gate = re.fullmatch(r"`(\w+)/(\w+)`( \(gate\))?", row[4]).groups()
+            place = CRATES / crate / "must-fail" if gate else EDITS / crate
+            gone += [] if (place / f"{edit}.edit").is_file() else [f"{row[0]}: {crate}/{edit}"]
+        if gone:
+            # As above: code may be cut anew at any time.
+            self.skipTest(f"the index of docs/DEFINITIONS.md names code or edits that are gone: {'; '.join(gone)}")
+
+    def test_edits_that_must_be_refused_apply(self):
+        edits = [*CRATES.glob("*/must-fail/*"), *EDITS.glob("*/*")]
+        self.assertTrue(edits)
+        gone = [f"{edit.relative_to(common.TOP)}: {why}" for edit in edits for why in [why_not_applied(edit)] if why]
+        if gone:
+            # As above: an edit that does not apply shows nothing, and is no reason to refuse the change.
+            self.skipTest(f"edits that must be refused do not apply: {'; '.join(gone)}")
 
     def test_faults_have_all_codes(self):
         text = (DOCS / "FAULTS.md").read_text()
