@@ -480,7 +480,8 @@ def main():
     if 1 <= given.session <= len(output.sessions):
         output.rows = output.sessions[given.session - 1]
     if output.final is None or len(output.rows) != len(commands):
-        sys.exit(f"read_answers: {given.output} is no whole output of {given.script}: {len(commands)} commands, {len(output.rows)} rows")
+        of = f" of session {given.session} (of {len(output.sessions)}: --session N)" if len(output.sessions) > 1 else ""
+        sys.exit(f"read_answers: {given.output} is no whole output of {given.script}: {len(commands)} commands, {len(output.rows)} rows{of}")
     edited = None
     if given.netlist and given.library:
         library = documents.Library(documents.read_text(given.library))

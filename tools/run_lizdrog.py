@@ -258,6 +258,8 @@ def serve(given, words):
     if not is_proved and not given["program"]:
         say(f"this program was built without proof, of the sources as they stand; `rt ci` in {TOP} proves them and builds it")
     status, first = run(program, words)
+    if status == 1:
+        say("status 1: some row is refused, no or not_yet; tools/read_answers.py SCRIPT OUTPUT shows the command of each, and what its code means")
     if status == 2:
         usage(doubts(words))
     for line in explain_fault.explain(status, first.decode("latin-1"), words):

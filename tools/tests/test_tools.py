@@ -251,6 +251,11 @@ class SetUp(unittest.TestCase):
         status, out, _ = self.check()
         self.assertEqual((status, out), (1, "4 nets without parasitics\n  clk\n  d\n  n1\n  q\ncheck_setup: 4 findings\n"))
 
+    def test_options_that_stand_twice(self):
+        said = "1 options that stand twice in a command, of which the last counts\n  top.sdc:4: set_false_path -from\n"
+        self.assertIn(said, self.check(sdc=CONSTRAINTS + "set_false_path -from d -from [get_clocks clk] -to q\n")[1])
+        self.assertNotIn("twice", self.check(sdc=CONSTRAINTS + "set_false_path -from {d clk} -to q\n")[1])
+
     def test_a_tied_input_is_not_open(self):
         self.assertNotIn("left open", self.check(netlist=NETLIST.replace(".D(n2)", ".D(1'b0)"))[1])
 
