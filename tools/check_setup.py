@@ -3,7 +3,7 @@
 
 It lists, each with a count and some names: commands of the SDC that are not read, all in one run; clocks without registers; registers
 without a clock; inputs without a delay; endpoints without a test; undriven nets and open inputs; nets without parasitics, and parasitics
-that do not fit their net; arcs whose early delay exceeds the late one; derates that are crossed; exceptions that match nothing; timing
+that do not fit their net; arcs whose early delay exceeds the late one; derates that are crossed; exceptions that match nothing; options that stand twice; timing
 types that are passed over; sections of the SPEF that are. Exit status 1 where it finds something, 0 where it does not, 2 where a file cannot
 be read; lines that begin with `note` are no findings.
 
@@ -446,6 +446,18 @@ def unmatched(joined, constraints, network, command, option):
             yield f"{command.name} {option} {name}: {why}"
 
 
+VALUED = ("-name", "-period", "-waveform", "-clock", "-from", "-to")
+
+
+def check_repeated(findings, commands, text, file):
+    found = []
+    for command in commands:
+        words = [it.text for it in command.words]
+        found += [f"{file}:{documents.line_and_column(text, command.offset)[0]}: {command.name} {it}"
+                  for it in VALUED if command.name in READ and words.count(it) > 1]
+    findings.add("options that stand twice in a command, of which the last counts", found)
+
+
 def check_exceptions(findings, joined, constraints, network, text, file):
     empty, gone = [], []
     for command in constraints.commands:
@@ -519,6 +531,7 @@ def main():
         check_parasitics(findings, joined, given.spef)
     check_libraries(findings, early, late, netlist, constraints.derates, same)
     check_exceptions(findings, joined, constraints, network, text, given.sdc)
+    check_repeated(findings, commands, text, given.sdc)
     if given.program:
         program = given.program if os.sep not in given.program else str(pathlib.Path(given.program).resolve())
         check_endpoints(findings, program, [given.early, given.late, given.netlist, given.sdc, given.spef], joined)

@@ -17,7 +17,7 @@ FAULTS = pathlib.Path(__file__).resolve().parent.parent / "docs" / "FAULTS.md"
 ROLES = {"early": 1, "late": 2, "netlist": 3, "sdc": 4, "spef": 5}
 WIDTH = 150
 ORDER = "EARLY LATE NETLIST SDC SPEF WORKERS SCRIPT.."
-COMMENTS = re.compile(r"^\s*#[^\n]*|//[^\n]*|/\*.*?\*/", re.S | re.M)
+COMMENTS = re.compile(r"^\s*[#`][^\n]*|//[^\n]*|/\*.*?\*/|\(\*.*?\*\)", re.S | re.M)
 KINDS = [(r"\s*library\b", "a library (Liberty)", ("early", "late")), (r"\s*module\b", "a netlist (Verilog)", ("netlist",)),
          (r"\s*\*SPEF", "parasitics (SPEF)", ("spef",)), (r"\s*(create_clock|set_units|set_input|set_output|set sdc_version)", "constraints (SDC)", ("sdc",)),
          (r"\s*(report_|repower_|insert_|begin_eco|take\b|await\b)", "a script", ("script",)),
@@ -121,14 +121,14 @@ def hints(role, code, place, text, line):
         return [f"  {it}" for it in sdc_hints(code, text, place)]
     if role == "journal":
         return [f"  {it}" for it in journal_hints(code, line, text[place:].split("\n", 2)[1] if "\n" in text[place:] else "")]
-    if code == "L6":
-        return [f"  {it}" for it in table_hints(text, place)]
+    if code in ("L6", "L8"):
+        return [f"  {it}" for it in (table_hints if code == "L6" else axis_hints)(text, place)]
     if code == "L1" and place >= len(text):
         return [f"  {it}" for it in bracket_hints(text)]
     if code == "L2" and has_ended(text[:place]):
         return ["  the library's own group ends before this place: a closing bracket too many stands before it"]
-    if code == "V1":
-        return ["  what is wrong may stand before it: a ; or a ) that is missing"]
+    if role == "netlist":
+        return [f"  {it}" for it in netlist_hints(code, text, place)]
     if code in ("P1", "P4"):
         return [f"  {it}" for it in row_hints(text, place)]
     return []
@@ -147,8 +147,29 @@ def journal_hints(code, line, behind):
     return []
 
 
+FLAT = "flatten the design into one module first (yosys: synth -flatten)"
+UNREAD = {"assign": "take assign out, such as by opt_clean -purge and insbuf of yosys (examples/README.md, \"A design of your own\")", "module": FLAT,
+          "{": "a concatenation: name each bit at a pin of its own", "#": FLAT, "inout": "a port is an input or an output",
+          "supply0": "a pin is tied by 1'b0", "supply1": "a pin is tied by 1'b1", "(": "connections are by name: .PIN(net)"}
+
+
+def netlist_hints(code, text, place):
+    """What is seen of the cause of V1 and V2."""
+    if code == "V1" and place >= len(text):
+        return ["the module is not ended: an endmodule, or a ; or ) before it, is missing"]
+    if code == "V1":
+        return ["what is wrong may stand before it: a ; or a ) that is missing, or the blank that ends an escaped name"]
+    word = (re.match(r"\w+|.", text[place:], re.S) or [""])[0]
+    return [UNREAD[word]] if code == "V2" and word in UNREAD else []
+
+
 def row_hints(text, place):
-    """Whether the row of a SPEF before the fault ends with a word that is no number."""
+    """What is wrong with the units, whether an *END is missing, or whether the row of a SPEF before the fault ends with a word that is no number."""
+    line = text[text.rfind("\n", 0, place) + 1:].split("\n")[0]
+    if line.lstrip().startswith(("*C_UNIT", "*R_UNIT")):
+        return ["*C_UNIT is in PF or FF and *R_UNIT in OHM or KOHM, in capitals, behind a power of ten"]
+    if line.lstrip().startswith("*D_NET") or place >= len(text):
+        return ["the *END of the net before it may be missing"] if "*D_NET" in text[:place] else []
     lines = text[:place].split("\n")
     before = lines[-2].split() if len(lines) > 1 else []
     if before and before[0].isdigit() and not documents.SPEF_VALUE.fullmatch(before[-1]):
@@ -260,7 +281,16 @@ def script_hints(code, line, before):
     return [f"there is no command {name[:60]}: docs/SCRIPTS.md has all"] if name else []
 
 
+INSTEAD = {"set_clock_groups": "there are no clock groups: write set_false_path -from [get_clocks A] -to [get_clocks B], and the reverse",
+           "set_driving_cell": "give the port a slew by set_input_transition, and what the cell delays by set_input_delay",
+           "set_clock_latency": "clocks are propagated always, so that there is no latency of an ideal network",
+           "set_clock_transition": "clocks are propagated always: set_input_transition gives the clock's port its slew",
+           "create_generated_clock": "there are no generated clocks: registers behind a divider are not tested (docs/DIFFERENCES.md)",
+           "all_inputs": "name the ports: [get_ports {a b}]", "all_outputs": "name the ports: [get_ports {a b}]",
+           "all_clocks": "name the clocks: [get_clocks {a b}]", "all_registers": "name the instances: [get_cells {a b}]",
+           "-through": "a path is told by -from and -to alone", "-add_delay": "a port has one clock for each split and transition"}
 DELAY = "a delay needs -clock"
+SDC_PAGES = "docs/INPUT.md has what is read of SDC; tools/check_setup.py lists all lines that are not, in one run"
 FORMS = {"set_input_delay": DELAY, "set_output_delay": DELAY,
          "create_clock": "a clock has one port or none, and no other clock has its name or its port"}
 
@@ -272,6 +302,9 @@ def sdc_hints(code, text, place):
         return ["Tcl is not run: no variables, [expr ..] or control. Write the values, or have the tool that wrote the file write them (write_sdc)"]
     if code == "S2" and re.match(r"(puts|if|foreach|for|while|proc|source|expr|lappend|global)$", word):
         return ["Tcl is not run: this is a command of Tcl"]
+    plain = word.strip("[]{}")
+    if code in ("S2", "S3") and plain in INSTEAD:
+        return [INSTEAD[plain], SDC_PAGES]
     if code == "S3" and ("*" in word or "?" in word):
         return ["there are no patterns: name each object"]
     if code == "S3" and word in FORMS:
@@ -281,8 +314,7 @@ def sdc_hints(code, text, place):
         names = [name for word in before for name in word.names[:1]]
         return [f"the clocks before this place: {', '.join(names[:8]) or 'none'}"
                 + (' (a " is a part of a name, not around it)' if any('"' in it for it in names) else "")]
-    return [] if code not in ("S1", "S2", "S3") else [
-        "docs/INPUT.md has what is read of SDC; tools/check_setup.py lists all lines that are not, in one run"]
+    return [SDC_PAGES] if code in ("S1", "S2", "S3") else []
 
 
 VARIABLES = {"input_net_transition", "total_output_net_capacitance", "related_pin_transition", "constrained_pin_transition"}
@@ -335,6 +367,21 @@ def table_hints(text, place):
     if len(values) != asked and not told:
         told.append(f"the table has {len(values)} values, and its template {name} with the indexes asks for {asked}")
     return told or [f"the variables of its template {name} are not those of such a table, or a number is out of range in its unit"]
+
+
+def axis_hints(text, place):
+    """Which index of a table does not rise, and whether it is the template's."""
+    root = documents.read_groups(text)
+    group = next((it for it in groups_of(root) if it.offset == place), None)
+    name = group.args[0] if group and group.args else ""
+    template = next((it for it in root.named("lu_table_template") if name in it.args), group)
+    for index in ("index_1", "index_2") if group else ():
+        owner = group if index in group.complex else template
+        entries = [float(it) for it in split_numbers(owner.complex.get(index, [])) if not number_hints(index, [it])]
+        if any(one >= other for one, other in zip(entries, entries[1:])):
+            whose = "" if owner is group and group is not template else f" of the template {name}, line {documents.line_and_column(text, template.offset)[0]},"
+            return [f"{index}{whose} is {', '.join(f'{it:g}' for it in entries[:8])}{' ..' if len(entries) > 8 else ''}"]
+    return []
 
 
 def groups_of(group):
@@ -414,21 +461,41 @@ def explain_range(words):
     return told
 
 
-def word_of_constraints(name, file):
-    """The text of the constraints, and the place of the first object of that name."""
+PORT_WAYS = {"create_clock": "input", "set_input_delay": "input", "set_input_transition": "input", "set_output_delay": "output"}
+
+
+def word_of_constraints(name, file, ways):
+    """The text of the constraints, and the place of the first object of that name whose way, where it is a port, is not the one asked."""
     text = documents.read_text(file)
     for command in documents.read_commands(text):
+        option = before = ""
         for word in command.words:
-            for said in word.names:
-                if name in (said, documents.pin_word(said)):
+            is_clock, before = before in ("-clock", "-name"), word.text
+            for said in [] if is_clock else word.names:
+                option = said if said in ("-from", "-to") else option
+                asked = {"-from": "input", "-to": "output"}.get(option, PORT_WAYS.get(command.name))
+                if name in (said, documents.pin_word(said)) and (name not in ways or asked not in (None, ways[name])):
                     return text, text.index(said, word.offset)
     return text, None
+
+
+def explain_name(name, words):
+    """E13: that a port is there, and of which way."""
+    way = documents.Netlist(documents.read_text(words[3])).ports.get(name)
+    return [f"{name} is an {way} port of the netlist, and this command asks for another direction"] if way else []
+
+
+def explain_pin(pin, words):
+    """E4: the pins that the cell of an instance has."""
+    made = documents.Netlist(documents.read_text(words[3])).instances.get(pin.rpartition(":")[0])
+    cell = library_of(words, 2).cells.get(made.cell) if made else None
+    return [f"{cell.name} has the pins {', '.join(cell.pins)}"] if cell else []
 
 
 def place_of(code, what, words):
     """The file, its text, and the place where a fault of the design is seen best; none where there is none."""
     if code == "E13":
-        return (words[4], *word_of_constraints(what, words[4]))
+        return (words[4], *word_of_constraints(what, words[4], documents.Netlist(documents.read_text(words[3])).ports))
     if code in ("E2", "E14", "E15") and words[5] != "none" and can_be_read_again(words[5]):
         text = documents.read_text(words[5])
         net = documents.Spef(text).nets.get(what)
@@ -461,7 +528,7 @@ def explain_design(names, words):
     else:
         line, column = documents.line_and_column(text, offset)
         told = [f"{file}:{line}:{column}: {said}", *caret(text.split("\n")[line - 1], column)]
-    more = {"E3": explain_cell, "E10": explain_driver}.get(code)
+    more = {"E3": explain_cell, "E4": explain_pin, "E10": explain_driver, "E13": explain_name}.get(code)
     if more:
         lines = more(what, words)
     elif code in ("E14", "E15"):
@@ -500,6 +567,8 @@ def explain_shelf(name, how, journal=None):
         return [f"{name}: No such file or directory", f"  an empty file begins a new journal (: >{name})"]
     if how == "too_long":
         return [f"{name}: the file is longer than 64 MiB, which is the most that is read"]
+    if name.lower() == "none":
+        return [f"{name}: No such file or directory", "  the word none, in small letters, stands for no parasitics"]
     if os.path.isdir(name):
         return [f"{name}: is a directory, not a file"]
     try:

@@ -11,7 +11,7 @@ It prints a line for each row with its question, as `report_endpoint r2:D setup 
   --histogram                           how many endpoints have which slack, as text
   --svg FILE                            the same as a picture
   --design N                            for the three above: the design whose rows count (default: the last one with endpoints)
-  --session N                           the session whose script it is (default: 1)
+  --session N                           the session whose script it is; an output of several sessions asks for it
 
 Endpoints are those of the script's report_endpoint and report_worst; tools/endpoint_questions.py writes a script that asks all. The paths
 of a report_paths stand one below the other, worst first; below a draft stands each of its trials with its answer.
@@ -78,6 +78,18 @@ def commands_of(numbered, *begins):
 def read_script(text):
     """The commands of a script, groups of edits and drafts as one."""
     return commands_of(enumerate(text.split("\n"), 1), *ENDS)
+
+
+ANSWERS = {"take": ("taken",), "await": ("reached", "not_yet"), "advise": ("advice",), "begin_what_if": ("what_if",), "report_through": ("path", "no")}
+
+
+def may_answer(words, row):
+    """Whether a row may answer a command: its first word fits, and where it is a path it is one of that kind to that pin."""
+    name = words[0]
+    sorts = ANSWERS.get(name) or ((name[len("report_"):], "no") if name.startswith("report_") else ("accepted", "refused"))
+    if row.sort == "path" and row.words[:1] != ["none"]:
+        return row.sort in sorts and row.words[:2] == [words[2], words[1]]
+    return row.sort in sorts
 
 
 class Row:
@@ -470,17 +482,25 @@ def main():
     for name in ("--json", "--csv", "--failing", "--histogram"):
         parser.add_argument(name, action="store_true")
     parser.add_argument("--design", type=int)
-    parser.add_argument("--session", type=int, default=1)
+    parser.add_argument("--session", type=int)
     given = parser.parse_args()
     commands = read_script(documents.read_text(given.script))
     try:
         output = Output(documents.read_text(given.output))
     except ValueError as why:
         sys.exit(f"read_answers: {given.output}: {why}")
-    if 1 <= given.session <= len(output.sessions):
-        output.rows = output.sessions[given.session - 1]
+    if given.session is None and len(output.sessions) > 1:
+        sys.exit(f"read_answers: {given.output} has {len(output.sessions)} sessions: --session N says whose script {given.script} is, from 1")
+    session = given.session or 1
+    if 1 <= session <= len(output.sessions):
+        output.rows = output.sessions[session - 1]
     if output.final is None or len(output.rows) != len(commands):
-        sys.exit(f"read_answers: {given.output} is no whole output of {given.script}: {len(commands)} commands, {len(output.rows)} rows")
+        of = f" of session {session} of {len(output.sessions)}" if len(output.sessions) > 1 else ""
+        sys.exit(f"read_answers: {given.output} is no whole output of {given.script}: {len(commands)} commands, {len(output.rows)} rows{of}")
+    for command, row in zip(commands, output.rows):
+        if not may_answer(command.lines[0].split(), row):
+            sys.exit(f"read_answers: {given.output} is of another script: `{' '.join([row.sort, *row.words])[:80]}` is no answer to "
+                     f"`{command.lines[0][:80]}`, command {row.command} of {given.script}")
     edited = None
     if given.netlist and given.library:
         library = documents.Library(documents.read_text(given.library))

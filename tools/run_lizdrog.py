@@ -9,7 +9,7 @@
   lizdrog generate NUMBER GATES EDITS
       a design of GATES gates and four sessions with EDITS resizes in all, drawn from NUMBER; both are multiples of 4
   lizdrog --build    build the program without proof now, in minutes (`rt ci` proves it and builds it, in hours)
-  lizdrog --version  the commit, the toolchain, and whether the program that would run is proved
+  lizdrog --version  the commit, the toolchain, and whether the program that would run is proved    --help  this text
   --proved           refuse to run a program that is not proved    --program FILE   run this one, of which nothing is known here
 Status: 0 all rows are answers, 1 some row is refused, no or not yet, 2 wrong words, 3 a document or the design has a fault or a saved
 edit is refused, 4 a document cannot be fetched, 5 the output cannot be written, 6 no memory. What the codes mean: docs/FAULTS.md.
@@ -201,9 +201,10 @@ def run(program, words):
 
 
 def usage(why):
+    """The words of the command and then, where the eye is, what is wrong with those that were given."""
+    print(__doc__.strip(), file=sys.stderr)
     if why:
         say(why)
-    print(__doc__.strip(), file=sys.stderr)
 
 
 def arguments(words):
@@ -228,7 +229,8 @@ def misfit(words):
     words, journal = explain_fault.without_journal(words) if words[0] == "run" else (words, None)
     behind = f" behind --journal {journal}" if journal else ""
     if len(words) <= least:
-        return f"{words[0]} takes {least} words{behind}, and here are {len(words) - 1}"
+        more = " or more" if words[0] == "run" else ""
+        return f"{words[0]} takes {least} words{more}{behind}, and here are {len(words) - 1}"
     is_plain = words[0] == "run" and not any(it.startswith("-") for it in words)
     if is_plain and not (re.fullmatch(r"[0-9]{1,20}", words[6]) and 1 <= int(words[6]) <= 32):
         return f"WORKERS, the sixth word{behind}, is a number from 1 to 32, and here it is {words[6]}"
@@ -256,6 +258,8 @@ def serve(given, words):
     if not is_proved and not given["program"]:
         say(f"this program was built without proof, of the sources as they stand; `rt ci` in {TOP} proves them and builds it")
     status, first = run(program, words)
+    if status == 1:
+        say("status 1: some row is refused, no or not_yet; tools/read_answers.py SCRIPT OUTPUT shows the command of each, and what its code means")
     if status == 2:
         usage(doubts(words))
     for line in explain_fault.explain(status, first.decode("latin-1"), words):
@@ -268,6 +272,8 @@ def main():
         os.fstat(1)
     except OSError:
         os.dup2(os.open("/dev/full", os.O_WRONLY), 1)
+    if sys.argv[1:] in (["--help"], ["-h"], ["help"]):
+        return 0 if write_all(__doc__.strip().encode() + b"\n") else 5
     given, words = arguments(sys.argv[1:])
     if words is not None and not words and given["version"]:
         version()

@@ -42,14 +42,21 @@ DAMAGES = [
     ("a long line", {"netlist": PADDED.replace("endmodule", "x " * 9000 + "assign")}, "fault netlist V", " .. "),
     ("cell that a library lacks", {"early": LIBRARY.replace("(BUF)", "(BUF1)")}, "fault design E3 BUF", "the early library, has no cell BUF", "1 instance is of this cell, first g1", "top.v:4:2: E3 BUF: the cell is not"),
     ("cells that differ", {"late": LIBRARY.replace("hold_rising", "hold_falling")}, "fault design E3 DFF", "library alone has the tests D fall CK"),
-    ("unknown pin", {"netlist": NETLIST.replace(".A(n1)", ".B(n1)")}, "fault design E4 g1:B", "top.v:4:2: E4 g1:B: "),
+    ("unknown pin", {"netlist": NETLIST.replace(".A(n1)", ".B(n1)")}, "fault design E4 g1:B", "top.v:4:2: E4 g1:B: ", "BUF has the pins A, Z"),
+    ("netlist with a directive first", {"early": "`timescale 1ns/1ps\n" + NETLIST}, "fault early L2 0", "looks like a netlist"),
+    ("module without its end", {"netlist": NETLIST.replace("endmodule", "")}, "fault netlist V1", "an endmodule, or a ; or ) before it, is missing"),
+    ("concatenation", {"netlist": NETLIST.replace(".A(n1)", ".A({n1})")}, "fault netlist V2", "a concatenation: name each bit"),
+    ("index that falls", {"late": LIBRARY.replace('"0, 10"', '"10, 0"')}, "fault late L8", "index_1 of the template ld, line 2, is 10, 0"),
+    ("small letters of a unit", {"spef": SPEF.replace("1 FF", "1 ff")}, "fault spef P1", "in capitals"),
+    ("net without its end", {"spef": SPEF.replace("*END\n", "")}, "fault spef P1", "the *END of the net before it may be missing"),
+    ("port of the wrong direction", {"sdc": CONSTRAINTS + "set_output_delay 1 -clock clk [get_ports d]\n"}, "fault design E13 d", "top.sdc:4:42: E13 d: ", "d is an input port"),
     ("two drivers", {"netlist": NETLIST.replace(".Q(n1)", ".Q(n2)")}, "fault design E10 n2", "driven by r1:Q, g1:Z"),
     ("loop", {"netlist": NETLIST.replace(".A(n1)", ".A(n2)"), "spef": SPEF.replace("*I *3:D I *L 1", "*I *3:D I *L 1\n*I *2:A I")}, "fault design E11 g1:A g1:Z", "a loop of gates"),
     ("variable of Tcl", {"sdc": "set p 100\n" + CONSTRAINTS}, "fault sdc S1 4", "Tcl is not run"),
     ("expression of Tcl", {"sdc": CONSTRAINTS.replace("100", "[expr 100]")}, "fault sdc S1", "Tcl is not run"),
-    ("all_inputs", {"sdc": CONSTRAINTS.replace("[get_ports d]", "[all_inputs]")}, "fault sdc S3", "docs/INPUT.md"),
+    ("all_inputs", {"sdc": CONSTRAINTS.replace("[get_ports d]", "[all_inputs]")}, "fault sdc S3", "name the ports", "docs/INPUT.md"),
     ("pattern", {"sdc": CONSTRAINTS + "set_false_path -to [get_ports q*]\n"}, "fault sdc S3", "top.sdc:4:31", "no patterns"),
-    ("clock groups", {"sdc": CONSTRAINTS + "set_clock_groups -asynchronous\n"}, "fault sdc S2", "check_setup.py lists all"),
+    ("clock groups", {"sdc": CONSTRAINTS + "set_clock_groups -asynchronous\n"}, "fault sdc S2", "there are no clock groups", "check_setup.py lists all"),
     ("delay without a clock", {"sdc": CONSTRAINTS + "set_input_delay 1 [get_ports d]\n"}, "fault sdc S3", "a delay needs -clock"),
     ("second clock on a port", {"sdc": CONSTRAINTS + "create_clock -name c2 -period 9 [get_ports clk]\n"}, "fault sdc S3", "no other clock has its name or its port"),
     ("no period", {"sdc": "create_clock -period 0 [get_ports clk]\n"}, "fault sdc S4 21", "top.sdc:1:22: S4"),
@@ -92,7 +99,7 @@ LINES = {
          "current_design top", "set sdc_version 2.1", "set_operating_conditions x", "set_wire_load_mode top", "set_wire_load_model -name x",
          "set_timing_derate 0.9 -early -net_delay", "set_units -time 10ps -capacitance 1.0fF -resistance kOhm", "set_load 1 -pin_load -min -fall q",
          "set_multicycle_path 2 -setup -end -from clk -to [get_pins r2/D]", "set_false_path -hold -from [get_cells r1] -to {q r2/D}",
-         "set_input_transition 1 -clock clk -max -rise d", "create_clock -name v -period 7 -waveform {1 3}"],
+         "set_input_transition 1 -clock clk -max -rise d", "set_false_path -from d -from clk -to q", "create_clock -name v -period 7 -waveform {1 3}"],
 }
 
 
@@ -211,7 +218,7 @@ class Damages(unittest.TestCase):
                 ("P1", "*SPEF", "*SPEFX"), ("P1", "*DELIMITER :\n", ""), ("P1", "1 FF", "1 UF"), ("P1", "1 OHM", "2 OHM"), ("", "1 OHM", "0.001 KOHM"),
                 ("P3", "*D_NET", "*R_NET"), ("P3", "*D_NET", "*DEFINE x\n*D_NET"), ("P3", "*RES", "*INDUC\n*RES"), ("P4", "1 *1:1 2.5", "1 *1:1 -2.5"),
                 ("P4", "*3:D 50", "*3:D 1e30"), ("P2", "*2:Z O", "*9:Z O"), ("P5", "*END\n", "*END\n*D_NET *1 1\n*END\n"), ("", "3.5", "3.5 *V 1"),
-                ("", "1 *1:1 2.5", "1 *1:1 2:2.5:3"), ("", "2 *3:D 1", "2 *3:D r1:Q 1"), ("", "*D_NET", "*PORTS\nclk I\n*1 O *D *2\n*D_NET"), ("P1", "*D_NET", "*PORTS\nclk I\n*d_net"), ("", "*D BUF", "*C 1 2 *S 1 2 *D BUF")]:
+                ("", "1 *1:1 2.5", "1 *1:1 2:2.5:3"), ("", "2 *3:D 1", "2 *3:D r1:Q 1"), ("", "*I *2:Z O *D BUF", "*I r9:Z O *D BUF"), ("", "*1 3.5", "*1 999"), ("", "*D_NET", "*PORTS\nclk I\n*1 O *D *2\n*D_NET"), ("P1", "*D_NET", "*PORTS\nclk I\n*d_net"), ("", "*D BUF", "*C 1 2 *S 1 2 *D BUF")]:
             with self.subTest(f"{old} -> {new}"):
                 self.assertIn(old, SPEF)
                 self.check("spef", code, SPEF.replace(old, new, 1))

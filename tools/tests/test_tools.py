@@ -137,6 +137,23 @@ class Answers(unittest.TestCase):
         (self.folder / "s.eco").write_text("take\n")
         self.assertEqual(common.tool("read_answers", "s.eco", "out", cwd=self.folder)[0], 1)
 
+    def test_script_of_other_questions(self):
+        """As many commands as rows, and rows that cannot be their answers."""
+        for old, new in (("report_endpoint r2:D setup", "report_wns setup"), ("report_path r2:D setup", "report_path r2:D hold"),
+                         ("report_path r2:D setup", "report_path r1:D setup"), ("repower_gate g1 BUF", "report_tns setup")):
+            (self.folder / "s.eco").write_text(common.SCRIPT.replace(old, new, 1))
+            status, out, err = common.tool("read_answers", "s.eco", "out", cwd=self.folder)
+            self.assertEqual((status, out), (1, ""), new)
+            self.assertIn(f"is no answer to `{new}`", err)
+
+    def test_several_sessions_ask_for_one(self):
+        (self.folder / "s.eco").write_text("report_wns setup\n")
+        (self.folder / "out").write_text("journal 1 0\nsession 1 rows 1\n1 0 wns 5.000\nsession 2 rows 1\n1 0 wns 7.000\nfinal 0 setup 5.000 0.000 hold none 0.000\n")
+        status, out, err = common.tool("read_answers", "s.eco", "out", cwd=self.folder)
+        self.assertEqual((status, out), (1, ""))
+        self.assertIn("out has 2 sessions: --session N", err)
+        self.assertIn("report_wns setup -> 7.000 ps", self.read("--session", "2"))
+
     def test_journal(self):
         script = common.tool("convert_journal", "out", cwd=self.folder)[1]
         self.assertEqual([it.lines for it in read_answers.read_script(script)],
@@ -250,6 +267,11 @@ class SetUp(unittest.TestCase):
     def test_nothing_but_nets_without_wires(self):
         status, out, _ = self.check()
         self.assertEqual((status, out), (1, "4 nets without parasitics\n  clk\n  d\n  n1\n  q\ncheck_setup: 4 findings\n"))
+
+    def test_options_that_stand_twice(self):
+        said = "1 options that stand twice in a command, of which the last counts\n  top.sdc:4: set_false_path -from\n"
+        self.assertIn(said, self.check(sdc=CONSTRAINTS + "set_false_path -from d -from [get_clocks clk] -to q\n")[1])
+        self.assertNotIn("twice", self.check(sdc=CONSTRAINTS + "set_false_path -from {d clk} -to q\n")[1])
 
     def test_a_tied_input_is_not_open(self):
         self.assertNotIn("left open", self.check(netlist=NETLIST.replace(".D(n2)", ".D(1'b0)"))[1])
