@@ -12,6 +12,7 @@ ghost use Rattle.shell_session.specs.Serving.{IsOutputOf, AreEnded, DesignEnds, 
 use crate::continuing::saved_end;
 use crate::discards::{
     discard_entries, discard_fault, discard_saved, discard_scripts, discard_transcripts,
+    leave_version,
 };
 use crate::sessions::{Closed, run_sessions};
 use design_link::link;
@@ -53,7 +54,7 @@ fn sessions_end(alloc: Global, closed: Closed) -> Result<End, Memory>
     let Closed { last, transcripts } = closed;
     let status = status(transcripts.as_slice());
     let text = output(alloc, &last, &transcripts);
-    Version::discard(last);
+    leave_version(last);
     discard_transcripts(transcripts);
     match text {
         Ok(text) => Ok(End { status, text }),

@@ -3,8 +3,15 @@
 use crate::sessions::Ended;
 use command_words::Run;
 use session_engine::Version;
+use std::mem::forget;
+use std::sync::Arc;
 use timing_defs::{Entry, Fault, Items, Script, Transcript};
 use version_board::{Board, Seat};
+
+/// Leaves a version to the end of the process, which gives all memory back at once.
+pub(crate) fn leave_version(version: Arc<Version>) {
+    forget(version);
+}
 
 pub(crate) fn discard_board(_board: Board<Version>) {}
 
