@@ -11,18 +11,20 @@ is one to three changes of
            brackets and quotes; a word of thousands of bytes; brackets of up to 200,000 levels
   texts    it is empty, stands twice, or is that of another role
 Each answer has to have a documented status, and to be of the form that README.md, docs/SCRIPTS.md and docs/FAULTS.md give, with a place
-inside the text, and to come within T seconds (default: 60). Where bench/reference_timer.py reads the documents, and each row is an answer,
-it has to give the same output. It prints how many were tried and what came; at the first answer that deviates it keeps the documents
-and the output in DIR (default: damaged-S-NUMBER of the caller's folder), says which, and ends with 1. --only NUMBER repeats that one; --first F begins
-with the number F (default: 0). A run that is ended by SIGINT or SIGTERM tells what it tried, with status 130.
+inside the text, and to come within T seconds (default: 60). Where bench/reference_timer.py reads the documents, and these are a design, it has
+to give the same output, or the same fault of the script (of a refusal for one of several loops or overflows the code alone). It prints how
+many were tried and what came; at the first answer that deviates it keeps the documents and the output in DIR (default: damaged-S-NUMBER of
+the caller's folder), says which, and ends with 1. --only NUMBER repeats that one; --first F begins with the number F (default: 0). A run
+that is ended by SIGINT or SIGTERM tells what it tried, with status 130.
 """
 import argparse
 import collections
+import contextlib
+import os
 import pathlib
 import random
 import re
 import signal
-import subprocess
 import sys
 import tempfile
 
@@ -167,14 +169,34 @@ class Trial:
         trials.Design(self.design.name, self.files, self.design.words).write(folder)
 
 
+PLAIN = compile((trials.HERE / "reference_timer.py").read_text(), "reference_timer.py", "exec")
+FREE = re.compile(compare.FREE.pattern.encode())
+
+
+def plain_timer(folder, words, seconds):
+    """Has the plain timer write `plain`, in a copy of this program, which spares its start; does not return."""
+    with contextlib.suppress(BaseException):
+        signal.alarm(int(seconds))
+        os.chdir(folder)
+        sys.argv, sys.stdout = ["reference_timer.py", *words], open("plain", "w", encoding="utf-8")
+        sys.stderr = open(os.devnull, "w", encoding="utf-8")
+        status = 0
+        try:
+            exec(PLAIN, {"__name__": "__main__"})
+        except SystemExit as why:
+            status = why.code
+        sys.stdout.close()
+        os._exit(status)
+    os._exit(1)
+
+
 def plain_output(folder, words, seconds):
     """What the plain timer gives, or none where it does not read the documents."""
-    try:
-        ran = subprocess.run([sys.executable, str(trials.HERE / "reference_timer.py"), *words], cwd=folder, stdin=subprocess.DEVNULL,
-                             capture_output=True, check=False, timeout=seconds)
-    except subprocess.TimeoutExpired:
-        return None
-    return None if ran.returncode else ran.stdout
+    copy = os.fork()
+    if copy == 0:
+        plain_timer(folder, words, seconds)
+    _, status = os.waitpid(copy, 0)
+    return (folder / "plain").read_bytes() if os.waitstatus_to_exitcode(status) in (0, 3) else None
 
 
 def judge(program, trial, folder, seconds):
@@ -185,8 +207,9 @@ def judge(program, trial, folder, seconds):
         trials.check_answer(ran, trial.documents(), trial.sessions, "--journal" in words)
     except trials.Deviates as why:
         return ran, False, str(why)
-    want = plain_output(folder, words, seconds) if trial.design.plain and ran.status == 0 else None
-    if want is not None and want != ran.out:
+    is_asked = trial.design.plain and (ran.status in (0, 1) or ran.out.startswith(b"fault script1 "))
+    want = plain_output(folder, words, seconds) if is_asked else None
+    if want is not None and FREE.sub(rb"\1", want) != FREE.sub(rb"\1", ran.out):
         return ran, True, "the plain timer gives another output"
     return ran, want is not None, None
 
@@ -234,7 +257,7 @@ def try_all(given, numbers, tried):
         trial = Trial(designs, given.seed, number)
         with tempfile.TemporaryDirectory() as folder:
             trial.write(folder)
-            ran, asked, why = judge(program, trial, folder, given.seconds)
+            ran, asked, why = judge(program, trial, pathlib.Path(folder), given.seconds)
         if why:
             place = given.keep or pathlib.Path(f"damaged-{given.seed}-{number}")
             keep(place, trial, ran, why)

@@ -312,8 +312,8 @@ def gate_designs():
     return [
         Design("inverters", inverters, ["run", "a.lib", "a.lib", "a.v", "empty", "none", "1", "s1"], plain=True),
         Design("registers", {**base, "s1": ROW_9}, words, plain=True),
-        Design("refusals", {**base, "s1": ROW_15}, words),
-        Design("commands", {**base, "s1": ALL_COMMANDS}, words),
+        Design("refusals", {**base, "s1": ROW_15}, words, plain=True),
+        Design("commands", {**base, "s1": ALL_COMMANDS}, words, plain=True),
         Design("contest", contest, ["run", "e.lib", "e.lib", "e.v", "e.sdc", "e.spef", "1", "s1"], plain=True),
         Design("journal", {**base, "s1": ROW_9, "j1": JOURNAL}, ["run", "--journal", "j1", *words[1:]]),
         Design("sessions", folder_of("two-engineers"), ann + ben),

@@ -1,4 +1,4 @@
-"""The trials on damaged documents and failing devices: what they take for an answer, and short runs of both."""
+"""The trials of hostile use: what they take for an answer, whether they find wrong programs, and short runs."""
 import pathlib
 import shutil
 import sys
@@ -13,6 +13,24 @@ import damaged_documents  # noqa: E402
 import trials  # noqa: E402
 
 TEXT = b"0123456789"
+COMPILER = next((it for it in ("cc", "gcc", "clang") if shutil.which(it)), None)
+ASKS_FOR_MEMORY = """#include <pthread.h>
+#include <stdlib.h>
+#include <unistd.h>
+static volatile char *got[20];
+static void take(int at) { got[at] = malloc(8); if (!got[at] && at != CARELESS) _exit(6); *got[at] = 1; }
+static void *work(void *given) { for (int at = 5; at < 15; at++) take(at); return given; }
+int main(void)
+{
+    pthread_t other;
+    for (int at = 0; at < 5; at++)
+        take(at);
+    if (pthread_create(&other, 0, work, 0)) work(0); else pthread_join(other, 0);
+    for (int at = 15; at < 20; at++)
+        take(at);
+    return write(1, "done\\n", 5) != 5;
+}
+"""
 DOCUMENTS = {"early": TEXT, "sdc": TEXT, "spef": TEXT, "journal": b"entry 1\nentry 2\n", "script1": b"take\ntake"}
 HEAD, LAST = b"journal 1 1\nentry 1 session 2 edits 1\nremove_net n\n", b"final 1 setup none 0.000 hold -1.500 -3.000\n"
 ROWS = b"session 1 rows 3\n1 0 slew 4.000\n2 0 path setup q slack 1.000 credit none from clk rise to c fall nodes 1\nq rise 3.000\n3 1 at 2 c rise 1.000 c fall 2.000\n"
@@ -126,6 +144,29 @@ class Trials(unittest.TestCase):
             self.assertIn("again: bench/damaged_documents.py --seed 1 --only 0", out)
             self.assertTrue((self.folder / "kept" / "why").exists())
         self.assertEqual(self.trial("real_devices", "--program", self.fake("exit 6"), "--short")[0], 1)
+
+    def asking(self, careless):
+        """A program that asks for memory twenty times, behind a thread as well, and takes no notice of one refusal."""
+        source, program = self.folder / "asking.c", self.folder / f"asking{careless}"
+        source.write_text(ASKS_FOR_MEMORY)
+        self.assertEqual(common.run(COMPILER, f"-DCARELESS={careless}", "-fno-builtin", "-pthread", "-o", program, source)[::2], (0, ""))
+        return program
+
+    @unittest.skipUnless(COMPILER, "no C compiler stands here, which refusals of memory need")
+    def test_refusals(self):
+        status, out, err = self.trial("refused_memory", "--program", self.asking(-1), "--only", "row-1", "--fresh", "2")
+        self.assertEqual((status, err), (0, ""), out)
+        row = next(it.split() for it in out.split("\n") if it.split()[:1] == ["row-1"])
+        calls, threads, fresh, missed, refused, passed, *_ = map(int, row[1:])
+        self.assertGreaterEqual(calls, 20)
+        self.assertEqual((threads, fresh, missed, refused + passed), (1, 4, 2, calls + 2), out)
+
+    @unittest.skipUnless(COMPILER, "no C compiler stands here, which refusals of memory need")
+    def test_a_careless_program_is_found(self):
+        for careless in (0, 9, 19):
+            status, out, _ = self.trial("refused_memory", "--program", self.asking(careless), "--only", "row-1")
+            self.assertEqual(status, 1, out)
+            self.assertRegex(out, "row-1, memory [0-9]+: signal SIGSEGV")
 
     @common.needs_program
     def test_damaged_documents(self):
