@@ -1,6 +1,7 @@
 -- How a run ends, and what stands at the sink then.
-use Rattle.std.proofs.Common.{◌≡◌, ◌⊎◌, ℕ, ◌≤◌, false, List, [], Option, Some, None, Result, Ok, Err, refl, sym, subst, inl, inr, append-nil}
+use Rattle.std.proofs.Common.{◌≡◌, ◌⊎◌, ℕ, ◌≤◌, true, false, List, [], Option, Some, None, Result, Ok, Err, refl, sym, ap, ◌∙◌, subst, inl, inr, append-nil}
 use Rattle.std.specs.Prelude.{IfOk}
+use Rattle.std.proofs.lemmas.Bool.{false≢true}
 use Rattle.sta_outside.specs.Shelf.{Rose}
 use Rattle.sta_outside.specs.Sink.{Appends, AppendsPrefix}
 use Rattle.timing_defs.specs.declared.design.Design.{Design}
