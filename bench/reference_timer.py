@@ -365,6 +365,9 @@ def read_sdc(text, units):
 PASSED = ('*PORTS', '*PHYSICAL_PORTS', '*POWER_NETS', '*GROUND_NETS')
 ATTRIBUTES = ('*C', '*L', '*S', '*D')
 
+# A row of a net's section, and how many words it has
+WHOLE_ROWS = (('*CAP', 3), ('*CAP', 4), ('*RES', 4))
+
 def read_spef(text):
     text = re.sub(r'//[^\n]*|/\*.*?\*/', ' ', text, flags=re.S)
     lines = [l.split() for l in text.split('\n') if l.strip()]
@@ -420,6 +423,8 @@ def read_spef(text):
             net = None
         elif sec == 'map':
             nm[w[0]] = unesc(w[1])
+        elif sec == 'net' and (part, len(w)) not in WHOLE_ROWS and part != '*CONN':
+            raise SystemExit('spef: rows are read by lines here, and this line is no row: ' + ' '.join(w))
         elif sec == 'net' and part == '*CAP':
             rcs[net]['any'] = True
             if len(w) == 3:
