@@ -1,18 +1,18 @@
 //! The names and nodes of a text of parasitics.
 
-ghost use Rattle.std.specs.Prelude.{◌≡◌, ◌<◌, ◌≤◌, ◌^◌, ◌++◌, ◌∷◌, ◌&&◌, List, true, false, not, is_some, Some, None, IfOk, MatchOption, MatchResult};
+ghost use Rattle.std.specs.Prelude.{◌≡◌, ◌<◌, ◌≤◌, ◌^◌, ◌++◌, ◌∷◌, ◌&&◌, List, true, false, not, is_some, length, take, drop, slice_get, Some, None, IfOk, MatchOption, MatchResult};
 ghost use Rattle.sta_units.specs.Decimal.{number_on};
 ghost use Rattle.sta_text.specs.Tokens.{tok_of};
 ghost use Rattle.timing_defs.specs.Names.{is_name};
 ghost use Rattle.spef_reader.specs.declared.events.Event.{Event};
-ghost use Rattle.spef_reader.specs.Words.{sides_of, is_inner, is_node, is_reference};
+ghost use Rattle.spef_reader.specs.Words.{sides_of, spelled, is_inner, is_node, is_reference};
 ghost use Rattle.spef_reader.specs.Nodes.{name_word, name_of, named, is_net, joined_node, node_from, node_of, is_unknown};
 ghost use Rattle.spef_reader.specs.Grammar.{is_word, unexpected, unknown_name, noted};
 
-use crate::context::Context;
+use crate::context::{Bus, Context};
 use crate::events::Event;
 use crate::tokens::{Stop, is_word, note, unexpected};
-use crate::words::{Sides, cut, index_of, is_node, is_reference, is_whole, spelled};
+use crate::words::{Sides, add_spelled, cut, index_of, is_node, is_reference, is_whole, spelled};
 use sta_text::{Token, begins};
 use sta_units::Memory;
 use std::alloc::Global;
@@ -43,12 +43,12 @@ pub(crate) fn name_of<'a>(
     }
 }
 
-fn is_net(net: &Option<Name>, name: &Name) -> bool
+fn is_net(net: &Option<Name>, name: &[u8]) -> bool
     ensures { result ≡ is_net net.now name.now }
 {
     match net {
         None => false,
-        Some(net) => net.as_bytes() == name.as_bytes(),
+        Some(net) => net.as_bytes() == name,
     }
 }
 
@@ -78,48 +78,59 @@ fn inner_number(word: &[u8]) -> Option<u32>
     }
 }
 
-/// The name of an instance's pin.
-#[tactic(auto, using(crate::proofs::NodeLemmas::joined_is_name, crate::proofs::NodeLemmas::pin_bytes))]
-fn pin_name(alloc: Global, instance: &Name, pin: &Name) -> Result<Name, Memory>
-    ensures { IfOk result (λ name. name ≡ instance.now ++ 58 ∷ pin.now) }
+/// The bytes of two names that words spell, with a colon between, and how many stand before it.
+fn joined_bytes(
+    alloc: Global,
+    bus: Bus,
+    left: &[u8],
+    right: &[u8],
+) -> Result<(Vec<u8>, usize), Memory>
+    ensures bytes { IfOk result (λ made. made.0.items ≡ spelled bus false left.now ++ 58 ∷ spelled bus false right.now) }
+    ensures place { IfOk result (λ made. made.1 ≡ length (spelled bus false left.now)) }
 {
-    let mut bytes = Vec::from_slice(alloc, instance.as_bytes())?;
+    let room = left.len().saturating_add(right.len()).saturating_add(1);
+    let mut bytes = Vec::with_capacity(alloc, room)?;
+    add_spelled(&mut bytes, bus, left)?;
+    let place = bytes.len();
     bytes.extend_from_slice(b":")?;
-    bytes.extend_from_slice(pin.as_bytes())?;
-    match Name::from_vec(bytes) {
-        Some(name) => Ok(name),
-        None => unreachable!(),
-    }
+    add_spelled(&mut bytes, bus, right)?;
+    Ok((bytes, place))
 }
 
-fn joined_names(
-    alloc: Global,
-    net: &Option<Name>,
-    word: &[u8],
-    left: &Name,
-    right: &Name,
-) -> Result<RcNode, Memory>
-    ensures { IfOk result (λ node. joined_node net.now word.now (Some left.now) (Some right.now) ≡ Some node) }
+/// The node of a joined name, of which so many bytes stand before the colon.
+#[tactic(auto, using(crate::proofs::NodeLemmas::joined_is_name, crate::proofs::NodeLemmas::pin_bytes))]
+fn node_at(net: &Option<Name>, word: &[u8], bytes: Vec<u8>, place: usize) -> Option<RcNode>
+    requires { slice_get bytes.items place ≡ Some 58 }
+    ensures { result ≡ joined_node net.now word.now (named (take place bytes.items)) (named (drop (place + 1) bytes.items)) }
 {
-    if is_net(net, left) {
+    if place == 0 || place + 1 == bytes.len() {
+        return None;
+    }
+    let is_own = is_net(net, bytes.as_slice().split_at(place).0);
+    let name = Name::from_vec(bytes)?;
+    if is_own {
         if let Some(number) = inner_number(word) {
-            return Ok(RcNode::Inner(number));
+            return Some(RcNode::Inner(number));
         }
     }
-    Ok(RcNode::Pin(pin_name(alloc, left, right)?))
+    Some(RcNode::Pin(name))
 }
 
-fn joined_node(
+/// The node of an instance or a net and what stands behind it; none where an index is not in the name map.
+fn joined_node<'a>(
     alloc: Global,
+    context: &Context<'a>,
     net: &Option<Name>,
-    word: &[u8],
-    left: &Option<Name>,
-    right: &Option<Name>,
+    left: &'a [u8],
+    right: &'a [u8],
 ) -> Result<Option<RcNode>, Memory>
-    ensures { IfOk result (λ node. node ≡ joined_node net.now word.now left.now right.now) }
+    ensures { IfOk result (λ node. node ≡ joined_node net.now right.entry.now (name_of context.now left.entry.now) (name_of context.now right.entry.now)) }
 {
-    match (left, right) {
-        (Some(left), Some(right)) => Ok(Some(joined_names(alloc, net, word, left, right)?)),
+    match (name_word(context, left), name_word(context, right)) {
+        (Some(first), Some(second)) => {
+            let (bytes, place) = joined_bytes(alloc, context.header.bus, first, second)?;
+            Ok(node_at(net, right, bytes, place))
+        }
         _ => Ok(None),
     }
 }
@@ -137,11 +148,7 @@ fn node_from<'a>(
             None => Ok(None),
             Some(name) => Ok(Some(RcNode::Pin(name))),
         },
-        Sides::Joined(left, right) => {
-            let instance = name_of(alloc, context, left)?;
-            let pin = name_of(alloc, context, right)?;
-            joined_node(alloc, net, right, &instance, &pin)
-        }
+        Sides::Joined(left, right) => joined_node(alloc, context, net, left, right),
     }
 }
 

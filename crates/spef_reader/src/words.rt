@@ -91,18 +91,26 @@ fn push_spelled(
     }
 }
 
-/// The bytes of the name that a word spells.
+/// Adds the bytes of the name that a word spells.
 #[tactic(auto, unfolding(crate::specs::Words::spelled), using(std::proofs::lemmas::List::drop_more))]
+pub(crate) fn add_spelled(name: &mut Vec<u8>, bus: Bus, word: &[u8]) -> Result<(), Memory>
+    ensures { IfOk result (λ _. name.new.items ≡ name.old.items ++ spelled bus false word.now) }
+{
+    let mut escaped = false;
+    for (i, byte) in word.iter().enumerate() {
+        let rest = word.split_at(i + 1).1;
+        push_spelled(name, bus, escaped, *byte, rest)?;
+        escaped = escapes(escaped, *byte, rest);
+    }
+    Ok(())
+}
+
+/// The bytes of the name that a word spells.
 pub(crate) fn spelled(alloc: Global, bus: Bus, word: &[u8]) -> Result<Vec<u8>, Memory>
     ensures { IfOk result (λ name. name.items ≡ spelled bus false word.now) }
 {
     let mut name = Vec::with_capacity(alloc, word.len())?;
-    let mut escaped = false;
-    for (i, byte) in word.iter().enumerate() {
-        let rest = word.split_at(i + 1).1;
-        push_spelled(&mut name, bus, escaped, *byte, rest)?;
-        escaped = escapes(escaped, *byte, rest);
-    }
+    add_spelled(&mut name, bus, word)?;
     Ok(name)
 }
 
