@@ -15,10 +15,11 @@ use sta_text::Token;
 use sta_units::{DecFault, Memory, Unit, decimal};
 use timing_defs::Code;
 
+/// Whether the word is a decimal, which is the same in all units; in this one no value is divided.
 fn is_decimal(word: &[u8]) -> bool
     ensures { result ≡ is_decimal word.now }
 {
-    match decimal(word, Unit { ten: 0 }) {
+    match decimal(word, Unit { ten: 40 }) {
         Err(DecFault::NotDecimal) => false,
         _ => true,
     }
@@ -130,9 +131,10 @@ pub(crate) fn value(
 ) -> Result<Option<Size>, Memory>
     ensures { IfOk result (λ size. (size ≡ value_of unit (tok_of token.now).text) × ((rest : List Event) → out.new.items ++ rest ≡ out.old.items ++ noted (is_no_value unit (tok_of token.now).text) (bad_number token.now.start) rest)) }
 {
-    let flawed = is_no_value(unit, token.text);
+    let size = value_of(unit, token.text);
+    let flawed = size.is_none() && is_no_value(unit, token.text);
     note(out, flawed, Code::SpefBadNumber, token.start)?;
-    Ok(value_of(unit, token.text))
+    Ok(size)
 }
 
 fn is_of_mantissa(byte: u8) -> bool
