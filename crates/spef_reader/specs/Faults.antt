@@ -54,6 +54,10 @@ is_capacitance (Ground a size) = true
 is_capacitance (Coupling at a b size) = true
 is_capacitance e = false
 
+abbrev pub is_coupling : Event → Bool
+is_coupling (Coupling at a b size) = true
+is_coupling e = false
+
 abbrev pub is_resistance : Event → Bool
 is_resistance (Resistor a b size) = true
 is_resistance e = false

@@ -7,10 +7,11 @@ ghost use Rattle.sta_text.specs.Faults.{least_from};
 ghost use Rattle.sta_text.specs.Names.{stands};
 ghost use Rattle.sta_text.specs.declared.faults.Wrong.{Wrong};
 ghost use Rattle.spef_reader.specs.declared.events.Event.{Event};
+ghost use Rattle.spef_reader.specs.Parasitics.{caps_of};
 ghost use Rattle.spef_reader.specs.Faults.{wrong, token_faults, double_nets, is_clear, with_one, with_node, pins_on, is_own, strange_couplings, coupling_faults, is_above, only_if, lump_of, net_faults, nets_faults, faults_of, is_of_net, rows_of, begins_end, is_whole_net};
 
 use crate::events::Event;
-use crate::lumps::lump_of;
+use crate::lumps::{has_coupling, lump_of};
 use crate::rows::{is_whole_net, rows_of};
 use sta_text::{Names, Wrong, lesser};
 use sta_units::{LIM, Memory};
@@ -138,7 +139,7 @@ fn add_pins<'a>(pins: &mut Names<'a>, event: &'a Event) -> Result<(), Memory>
 
 /// The pins that stand in connections or at resistances.
 #[tactic(auto, unfolding(crate::specs::Faults::pins_on), using(std::proofs::lemmas::List::drop_more))]
-pub(crate) fn pins_of<'a>(alloc: Global, rows: &'a [Event]) -> Result<Names<'a>, Memory>
+fn pins_of<'a>(alloc: Global, rows: &'a [Event]) -> Result<Names<'a>, Memory>
     ensures { IfOk result (λ pins. pins ≡ pins_on [] rows.entry.now) }
 {
     let mut pins = Names::new(alloc);
@@ -146,6 +147,18 @@ pub(crate) fn pins_of<'a>(alloc: Global, rows: &'a [Event]) -> Result<Names<'a>,
         add_pins(&mut pins, event)?;
     }
     Ok(pins)
+}
+
+/// The pins of a net as capacitances between two nodes ask for them; none where there are none of these.
+pub(crate) fn asked_pins<'a>(alloc: Global, rows: &'a [Event]) -> Result<Names<'a>, Memory>
+    ensures strange { IfOk result (λ pins. strange_couplings pins rows.entry.now ≡ strange_couplings (pins_on [] rows.entry.now) rows.entry.now) }
+    ensures caps { IfOk result (λ pins. caps_of pins rows.entry.now ≡ caps_of (pins_on [] rows.entry.now) rows.entry.now) }
+{
+    if has_coupling(rows) {
+        pins_of(alloc, rows)
+    } else {
+        Ok(Names::new(alloc))
+    }
 }
 
 /// Whether the node is one of the net with these pins.
@@ -196,7 +209,7 @@ fn coupling_faults(
     if !are_clear(rows) {
         return Ok(best);
     }
-    let pins = pins_of(alloc, rows)?;
+    let pins = asked_pins(alloc, rows)?;
     Ok(strange_couplings(&pins, rows, best))
 }
 

@@ -4,7 +4,7 @@ ghost use Rattle.std.specs.Prelude.{◌≡◌, ◌≤◌, ◌*◌, ◌+◌, ◌<
 ghost use Rattle.std.specs.List.{list_any};
 ghost use Rattle.sta_units.specs.Numbers.{limit};
 ghost use Rattle.spef_reader.specs.declared.events.Event.{Event};
-ghost use Rattle.spef_reader.specs.Faults.{is_capacitance, is_resistance, plus, sum_on, sum_from, total_of, lump_of};
+ghost use Rattle.spef_reader.specs.Faults.{is_capacitance, is_coupling, is_resistance, plus, sum_on, sum_from, total_of, lump_of};
 
 use crate::events::Event;
 use crate::sizes::Size;
@@ -14,6 +14,15 @@ pub(crate) fn is_capacitance(event: &Event) -> bool
 {
     match event {
         Event::Ground(_, _) | Event::Coupling(_, _, _, _) => true,
+        _ => false,
+    }
+}
+
+pub(crate) fn is_coupling(event: &Event) -> bool
+    ensures { result ≡ is_coupling event.now }
+{
+    match event {
+        Event::Coupling(_, _, _, _) => true,
         _ => false,
     }
 }
@@ -32,6 +41,13 @@ pub(crate) fn has_resistance(rows: &[Event]) -> bool
     ensures { result ≡ list_any is_resistance rows.now }
 {
     rows.iter().any(|event| is_resistance(event))
+}
+
+/// Whether a capacitance between two nodes stands in the rows.
+pub(crate) fn has_coupling(rows: &[Event]) -> bool
+    ensures { result ≡ list_any is_coupling rows.now }
+{
+    rows.iter().any(|event| is_coupling(event))
 }
 
 fn has_capacitance(rows: &[Event]) -> bool

@@ -7,7 +7,7 @@ ghost use Rattle.spef_reader.specs.declared.events.Event.{Event};
 ghost use Rattle.spef_reader.specs.Faults.{rows_of, is_resistance, lump_of, pins_on};
 ghost use Rattle.spef_reader.specs.Parasitics.{farads, ohms, cap_at, counted_at, caps_of, ress_of, small, net_rc, net_of, nets_of, parasitics_of};
 
-use crate::checks::{is_own, pins_of};
+use crate::checks::{asked_pins, is_own};
 use crate::events::Event;
 use crate::lumps::{has_resistance, lump_of};
 use crate::rows::rows_of;
@@ -140,7 +140,7 @@ fn node_caps(alloc: Global, rows: &[Event]) -> Result<Items<RcCap>, Memory>
     if !has_resistance(rows) {
         return Ok(Items::new(alloc));
     }
-    let pins = pins_of(alloc, rows)?;
+    let pins = asked_pins(alloc, rows)?;
     caps_of(alloc, &pins, rows)
 }
 
