@@ -18,7 +18,7 @@ use crate::nets::NetSet;
 use sta_text::{Names, Wrong};
 use sta_units::Memory;
 use std::alloc::Global;
-use timing_defs::{Code, Name};
+use timing_defs::{Code, Items, Name};
 
 /// The greatest number of nets, and of instances.
 pub(crate) const LIMIT: usize = 200_000;
@@ -44,15 +44,15 @@ fn alike(known: &Known, role: Role) -> &NetSet
 }
 
 /// Adds the nets of a declared name.
-fn declare(alloc: Global, known: &mut Known, role: Role, names: &[Name]) -> Result<(), Memory>
-    ensures { IfOk result (λ _. known.new ≡ declaring role known.old names.now) }
+fn declare(alloc: Global, known: &mut Known, role: Role, names: Items<Name>) -> Result<(), Memory>
+    ensures { IfOk result (λ _. known.new ≡ declaring role known.old names) }
 {
     if role.is_port() {
-        known.ports.add_all(alloc, names)?;
+        known.ports.add_all(alloc, names.as_slice())?;
     } else {
-        known.wires.add_all(alloc, names)?;
+        known.wires.add_all(alloc, names.as_slice())?;
     }
-    known.nets.add_all(alloc, names)
+    known.nets.take_all(names)
 }
 
 /// Adds a declared name whose range does not pass the limit; its fault where it has one.
@@ -75,7 +75,7 @@ fn declare_narrow(
             at,
         }));
     }
-    declare(alloc, known, kind.role, nets.as_slice())?;
+    declare(alloc, known, kind.role, nets)?;
     if LIMIT < known.nets.len() {
         return Ok(Some(Wrong {
             code: Code::VerilogTooMany,
@@ -259,7 +259,7 @@ fn add_declared(
         }));
     }
     let names = nets_of(alloc, kind.span, name)?;
-    nets.add_all(alloc, names.as_slice())?;
+    nets.take_all(names)?;
     Ok(excess(nets, at))
 }
 

@@ -162,7 +162,7 @@ pub(crate) fn nets_of(alloc: Global, span: Option<Span>, name: &Name) -> Result<
 {
     match span {
         None => {
-            let mut names = Items::new(alloc);
+            let mut names = Items::with_room(alloc, 1)?;
             names.push(name.copied(alloc)?)?;
             Ok(names)
         }

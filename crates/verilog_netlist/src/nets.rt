@@ -125,6 +125,17 @@ impl NetSet {
         Ok(())
     }
 
+    /// Adds the nets.
+    #[tactic(auto, unfolding(crate::specs::Faults::with_names), using(std::proofs::lemmas::List::drop_more))]
+    pub(crate) fn take_all(&mut self, names: Items<Name>) -> Result<(), Memory>
+        ensures { IfOk result (λ _. self.new ≡ with_names self.old names) }
+    {
+        for name in names.into_vec() {
+            self.add(name)?;
+        }
+        Ok(())
+    }
+
     /// The nets, in the order in which they were added.
     pub(crate) fn to_items(&self, alloc: Global) -> Result<Items<Name>, Memory>
         ensures { IfOk result (λ nets. nets ≡ self.now) }
