@@ -1,4 +1,7 @@
 pub mod NameMapLemmas
 pub mod NodeLemmas
+pub mod JoinLemmas
+pub mod ValueLemmas
+pub mod CouplingLemmas
 pub mod RowLemmas
 pub mod KeptLaws

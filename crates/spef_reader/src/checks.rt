@@ -150,6 +150,7 @@ fn pins_of<'a>(alloc: Global, rows: &'a [Event]) -> Result<Names<'a>, Memory>
 }
 
 /// The pins of a net as capacitances between two nodes ask for them; none where there are none of these.
+#[tactic(auto, using(crate::proofs::CouplingLemmas::strange_unasked, crate::proofs::CouplingLemmas::caps_unasked))]
 pub(crate) fn asked_pins<'a>(alloc: Global, rows: &'a [Event]) -> Result<Names<'a>, Memory>
     ensures strange { IfOk result (λ pins. strange_couplings pins rows.entry.now ≡ strange_couplings (pins_on [] rows.entry.now) rows.entry.now) }
     ensures caps { IfOk result (λ pins. caps_of pins rows.entry.now ≡ caps_of (pins_on [] rows.entry.now) rows.entry.now) }

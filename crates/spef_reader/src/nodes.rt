@@ -1,6 +1,6 @@
 //! The names and nodes of a text of parasitics.
 
-ghost use Rattle.std.specs.Prelude.{◌≡◌, ◌<◌, ◌≤◌, ◌^◌, ◌++◌, ◌∷◌, ◌&&◌, List, true, false, not, is_some, length, take, drop, slice_get, Some, None, IfOk, MatchOption, MatchResult};
+ghost use Rattle.std.specs.Prelude.{◌≡◌, ◌<◌, ◌≤◌, ◌+◌, ◌^◌, ◌++◌, ◌∷◌, ◌&&◌, List, true, false, not, is_some, length, take, drop, slice_get, Some, None, IfOk, MatchOption, MatchResult};
 ghost use Rattle.sta_units.specs.Decimal.{number_on};
 ghost use Rattle.sta_text.specs.Tokens.{tok_of};
 ghost use Rattle.timing_defs.specs.Names.{is_name};
@@ -97,8 +97,15 @@ fn joined_bytes(
     Ok((bytes, place))
 }
 
+/// The number of an inner node of the net; none where the name is not the net's or the word is no such number.
+fn own_number(is_own: bool, word: &[u8]) -> Option<u32>
+    ensures { MatchOption result ((is_own && is_inner word.now) ≡ false) (λ number. ((is_own && is_inner word.now) ≡ true) × (number ≡ number_on 0 word.now)) }
+{
+    if is_own { inner_number(word) } else { None }
+}
+
 /// The node of a joined name, of which so many bytes stand before the colon.
-#[tactic(auto, using(crate::proofs::NodeLemmas::joined_is_name, crate::proofs::NodeLemmas::pin_bytes))]
+#[tactic(auto, using(crate::proofs::JoinLemmas::no_left, crate::proofs::JoinLemmas::no_right, crate::proofs::JoinLemmas::no_name, crate::proofs::JoinLemmas::joined_inner, crate::proofs::JoinLemmas::joined_pin))]
 fn node_at(net: &Option<Name>, word: &[u8], bytes: Vec<u8>, place: usize) -> Option<RcNode>
     requires { slice_get bytes.items place ≡ Some 58 }
     ensures { result ≡ joined_node net.now word.now (named (take place bytes.items)) (named (drop (place + 1) bytes.items)) }
@@ -108,15 +115,14 @@ fn node_at(net: &Option<Name>, word: &[u8], bytes: Vec<u8>, place: usize) -> Opt
     }
     let is_own = is_net(net, bytes.as_slice().split_at(place).0);
     let name = Name::from_vec(bytes)?;
-    if is_own {
-        if let Some(number) = inner_number(word) {
-            return Some(RcNode::Inner(number));
-        }
+    match own_number(is_own, word) {
+        Some(number) => Some(RcNode::Inner(number)),
+        None => Some(RcNode::Pin(name)),
     }
-    Some(RcNode::Pin(name))
 }
 
 /// The node of an instance or a net and what stands behind it; none where an index is not in the name map.
+#[tactic(auto, using(crate::proofs::JoinLemmas::colon_here, crate::proofs::JoinLemmas::left_here, crate::proofs::JoinLemmas::right_here))]
 fn joined_node<'a>(
     alloc: Global,
     context: &Context<'a>,

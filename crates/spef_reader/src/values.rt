@@ -16,6 +16,7 @@ use sta_units::{DecFault, Memory, Unit, decimal};
 use timing_defs::Code;
 
 /// Whether the word is a decimal, which is the same in all units; in this one no value is divided.
+#[tactic(auto, using(crate::proofs::ValueLemmas::decimal_in_any))]
 fn is_decimal(word: &[u8]) -> bool
     ensures { result ≡ is_decimal word.now }
 {
@@ -124,6 +125,7 @@ fn is_no_value(unit: Option<Unit>, word: &[u8]) -> bool
 }
 
 /// Reads a value, and notes its fault.
+#[tactic(auto, using(crate::proofs::ValueLemmas::flawed_unsized))]
 pub(crate) fn value(
     out: &mut Vec<Event>,
     unit: Option<Unit>,

@@ -2,6 +2,7 @@ pub mod LexiconLemmas
 pub mod NamesLemmas
 pub mod BitLemmas
 pub mod FaultLemmas
+pub mod SetLemmas
 mod BracketLemmas
 mod CoverLemmas
 pub mod LateLemmas

@@ -126,7 +126,7 @@ impl NetSet {
     }
 
     /// Adds the nets.
-    #[tactic(auto, unfolding(crate::specs::Faults::with_names), using(std::proofs::lemmas::List::drop_more))]
+    #[tactic(auto, unfolding(crate::specs::Faults::with_names), using(crate::proofs::SetLemmas::with_none))]
     pub(crate) fn take_all(&mut self, names: Items<Name>) -> Result<(), Memory>
         ensures { IfOk result (λ _. self.new ≡ with_names self.old names) }
     {
