@@ -1,5 +1,5 @@
 -- Where no capacitance stands between two nodes, the pins of a net are not asked for.
-use Rattle.std.proofs.Common.{◌≡◌, ℕ, Bool, true, false, List, [], ◌∷◌, refl, ap}
+use Rattle.std.proofs.Common.{◌≡◌, ℕ, false, List, [], ◌∷◌, refl, ap}
 use Rattle.std.specs.Prelude.{Some, None}
 use Rattle.std.specs.List.{list_any}
 use Rattle.timing_defs.specs.declared.parasitics.RcCap.{RcCap}

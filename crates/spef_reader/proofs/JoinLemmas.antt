@@ -1,5 +1,5 @@
 -- The node of a name that is joined of two words' names with a colon (58) between.
-use Rattle.std.proofs.Common.{◌≡◌, ◌≢◌, ◌≤◌, ◌<◌, ℕ, ◌+◌, List, [], ◌∷◌, ◌++◌, Bool, true, false, ◌&&◌, not, ◌==◌, length, take, drop, cond, arith, refl, ap, sym, ◌∙◌, length-take, length-drop, length-append}
+use Rattle.std.proofs.Common.{◌≡◌, ◌≢◌, ◌<◌, ℕ, ◌+◌, List, [], ◌∷◌, ◌++◌, Bool, true, false, ◌&&◌, not, ◌==◌, length, take, drop, cond, arith, refl, ap, sym, ◌∙◌, length-take, length-drop, length-append}
 use Rattle.std.specs.Prelude.{Option, Some, None, slice_get}
 use Rattle.std.specs.List.{list_all}
 use Rattle.std.proofs.lemmas.Bool.Decides.{nat_tests}
@@ -9,7 +9,6 @@ use Rattle.std.proofs.lemmas.List.Folds.{list_all-append}
 use Rattle.std.proofs.lemmas.Option.{slice_get_within, get_or_from_slice_get}
 use Rattle.sta_units.specs.Decimal.{number_on}
 use Rattle.timing_defs.specs.Names.{is_graphic, is_name}
-use Rattle.timing_defs.specs.declared.parasitics.RcNode.{RcNode}
 use Rattle.timing_defs.specs.declared.parasitics.RcNode.TheVariants.{Pin, Inner}
 use Rattle.spef_reader.specs.Words.{is_inner}
 use Rattle.spef_reader.specs.Nodes.{named, is_net, joined_node}

@@ -1,6 +1,6 @@
 -- The form of a decimal is the same in all units, and a value with a size has no fault.
 use Rattle.std.proofs.Common.{◌≡◌, ℕ, ◌+◌, Bool, true, false, not, ◌&&◌, List, ◌++◌, length, refl, sym, ◌∙◌}
-use Rattle.std.specs.Prelude.{ℤ, pos, ◌+ℤ◌, ◌-ℤ◌, ◌||◌, nat_lt, Option, Some, None, is_some, option_and_then, Result, Ok, Err}
+use Rattle.std.specs.Prelude.{ℤ, pos, ◌+ℤ◌, ◌-ℤ◌, ◌||◌, nat_lt, Option, Some, None, is_some, option_and_then, Ok, Err}
 use Rattle.std.proofs.lemmas.Bool.{cond_both}
 use Rattle.sta_units.specs.Numbers.{is_within}
 use Rattle.sta_units.specs.declared.decimals.DecFault.TheVariants.{TooLong, OutOfUnitRange}

@@ -5,6 +5,6 @@ use Rattle.verilog_netlist.proofs.nets.NetSet.take_all.Given as goal
 
 abbrev pub invariant-loop-name : goal.invariant-loop-name
 invariant-loop-name l = record {
-  rest : with_names l.self (into_iter_items l.name-iterator) ≡ with_names l.fn.self l.names;
+  rest : with_names l.self (into_iter_items l.name-iterator) ≡ with_names l.fn.self l.fn.names;
   left : into_iter_len l.name-iterator ≡ length (into_iter_items l.name-iterator);
 }
