@@ -18,7 +18,7 @@ written_form (Some w) ten =
     cond_both (nat_lt 30 (length w.whole + length w.fraction) || nat_lt 30 (number_on 0 w.exponent)) (Err TooLong) (in_range z) (λ r. has_form r ≡ true)
     (λ _. refl) (λ _. range_form z)
 
--- a word is a decimal where it is one in a unit in which no value is divided
+-- a word is a decimal where it is one in the unit of ten 40
 pub decimal_in_any : (word : List ℕ) → is_decimal word ≡ has_form (decimal_of word (pos 40))
 unfolding decimal_of
 decimal_in_any word = written_form (written_of word) (pos 0) ∙ sym (written_form (written_of word) (pos 40))

@@ -15,7 +15,7 @@ use sta_text::Token;
 use sta_units::{DecFault, Memory, Unit, decimal};
 use timing_defs::Code;
 
-/// Whether the word is a decimal, which is the same in all units; in this one no value is divided.
+/// Whether the word is a decimal, which is the same in all units; in this one values of common lengths are not divided.
 #[tactic(auto, using(crate::proofs::ValueLemmas::decimal_in_any))]
 fn is_decimal(word: &[u8]) -> bool
     ensures { result ≡ is_decimal word.now }
