@@ -1,25 +1,25 @@
 //! Names to numbers, in shards that stores share.
 
-ghost use Rattle.std.specs.Prelude.{◌≡◌, ◌<◌, [], ℕ, false, List, None, Some, cond, length, get_or, IfOk, OnOk, OnErr};
+ghost use Rattle.std.specs.Prelude.{◌≡◌, ◌<◌, [], ◌∷◌, ℕ, true, false, List, None, Some, cond, length, get_or, IfOk, OnOk, OnErr};
 ghost use Rattle.std.specs.Map.{lookup};
 ghost use Rattle.std.specs.Str.{bytes_eq};
 ghost use Rattle.timing_defs.specs.Names.{is_name};
 ghost use Rattle.netlist_store.specs.Shards.{shard_of, shard_from, number_under, HasNames};
 
 use cow_table::{CowTable, Held};
-use indexmap::IndexMap;
 use sta_units::{Again, Memory};
 use std::alloc::Global;
 use std::marker::Model;
-use timing_defs::Name;
+use timing_defs::{Items, Name};
 
 /// The number of shards: a prime, so that names spread over them.
 const SHARDS: usize = 131_101;
 
-/// The numbers of some names. Contracts see the pairs.
+/// The numbers of a few names, in one block of memory. The first pair of a name counts. Contracts see the
+/// pairs.
 #[derive(Drop)]
 pub(crate) struct Shard {
-    numbers: IndexMap<Name, u32>,
+    numbers: Items<(Held<Name>, u32)>,
 }
 
 impl Model for Shard {
@@ -28,17 +28,55 @@ impl Model for Shard {
 
     ghost Value = { List (List ℕ × ℕ) };
 
-    ghost view = { λ s. s.numbers.entries };
+    ghost view = { λ s. s.numbers };
 
-    ghost invariant = { λ s. HasNames s.numbers.entries };
+    ghost invariant = { λ s. HasNames s.numbers };
 }
 
-/// A copy of the numbers of a shard.
-fn numbers_again(numbers: &IndexMap<Name, u32>) -> Result<IndexMap<Name, u32>, Memory>
-    ensures { IfOk result (λ copy. copy.entries ≡ numbers.now.entries) }
+/// The number of a name among some pairs; none where no pair has it.
+fn number_in(pairs: &[(Held<Name>, u32)], name: &Name) -> Option<u32>
+    ensures { result ≡ lookup (bytes_eq name.now) pairs.now }
 {
-    let copy = numbers.clone()?;
-    Ok(copy)
+    for (other, number) in pairs {
+        if *name == *other.get() {
+            return Some(*number);
+        }
+    }
+    None
+}
+
+/// A pair, and the others behind it.
+fn pairs_behind(
+    alloc: Global,
+    name: Held<Name>,
+    number: u32,
+    pairs: &[(Held<Name>, u32)],
+) -> Result<Items<(Held<Name>, u32)>, Memory>
+    ensures { IfOk result (λ all. all ≡ (name, number) ∷ pairs.now) }
+{
+    let mut all = Items::with_room(alloc, pairs.len().saturating_add(1))?;
+    all.push((name, number))?;
+    for (other, its) in pairs {
+        all.push((other.share()?, *its))?;
+    }
+    Ok(all)
+}
+
+/// The pairs of other names.
+fn pairs_without(
+    alloc: Global,
+    name: &Name,
+    pairs: &[(Held<Name>, u32)],
+) -> Result<Items<(Held<Name>, u32)>, Memory>
+    ensures { IfOk result (λ rest. (q : List ℕ) → lookup (bytes_eq q) rest ≡ cond (bytes_eq name.now q) None (lookup (bytes_eq q) pairs.now)) }
+{
+    let mut rest = Items::new(alloc);
+    for (other, its) in pairs {
+        if *name != *other.get() {
+            rest.push((other.share()?, *its))?;
+        }
+    }
+    Ok(rest)
 }
 
 impl Shard {
@@ -46,14 +84,14 @@ impl Shard {
         ensures { result ≡ [] }
     {
         Shard {
-            numbers: IndexMap::new(alloc),
+            numbers: Items::new(alloc),
         }
     }
 
     fn number(&self, name: &Name) -> Option<u32>
         ensures { result ≡ lookup (bytes_eq name.now) self.now }
     {
-        self.numbers.get(name).copied()
+        number_in(self.numbers.as_slice(), name)
     }
 
     /// What is no name has no number; the call does nothing.
@@ -64,22 +102,19 @@ impl Shard {
     }
 
     /// The shard with another number for a name.
-    fn with(&self, name: Name, number: u32) -> Result<Shard, Memory>
+    fn with(&self, alloc: Global, name: Held<Name>, number: u32) -> Result<Shard, Memory>
+        requires { is_name name ≡ true }
         ensures { IfOk result (λ shard. (q : List ℕ) → lookup (bytes_eq q) shard ≡ cond (bytes_eq name q) (Some number) (lookup (bytes_eq q) self.now)) }
     {
-        let mut numbers = numbers_again(&self.numbers)?;
-        match numbers.insert(name, number) {
-            Ok(_) => Ok(Shard { numbers }),
-            Err(_) => Err(Memory),
-        }
+        let numbers = pairs_behind(alloc, name, number, self.numbers.as_slice())?;
+        Ok(Shard { numbers })
     }
 
     /// The shard without a name.
-    fn without(&self, name: &Name) -> Result<Shard, Memory>
+    fn without(&self, alloc: Global, name: &Name) -> Result<Shard, Memory>
         ensures { IfOk result (λ shard. (q : List ℕ) → lookup (bytes_eq q) shard ≡ cond (bytes_eq name.now q) None (lookup (bytes_eq q) self.now)) }
     {
-        let mut numbers = numbers_again(&self.numbers)?;
-        let _ = numbers.swap_remove(name);
+        let numbers = pairs_without(alloc, name, self.numbers.as_slice())?;
         Ok(Shard { numbers })
     }
 }
@@ -158,12 +193,12 @@ impl NameMap {
     }
 
     /// Gives a name a number.
-    pub(crate) fn put(&mut self, name: Name, number: u32) -> Result<(), Memory>
+    pub(crate) fn put(&mut self, name: Held<Name>, number: u32) -> Result<(), Memory>
         ensures ok { OnOk result ((q : List ℕ) → number_under self.new q ≡ cond (bytes_eq name q) (Some number) (number_under self.old q)) }
         ensures err { OnErr result (self.new ≡ self.old) }
     {
-        let place = shard_of(name.as_bytes());
-        let shard = self.shards.get(place).get().with(name, number)?;
+        let place = shard_of(name.get().as_bytes());
+        let shard = self.shards.get(place).get().with(self.alloc, name, number)?;
         self.shards.set(place, Held::of(self.alloc, shard)?)
     }
 
@@ -173,7 +208,7 @@ impl NameMap {
         ensures err { OnErr result (self.new ≡ self.old) }
     {
         let place = shard_of(name.as_bytes());
-        let shard = self.shards.get(place).get().without(name)?;
+        let shard = self.shards.get(place).get().without(self.alloc, name)?;
         self.shards.set(place, Held::of(self.alloc, shard)?)
     }
 

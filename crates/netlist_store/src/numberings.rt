@@ -446,8 +446,9 @@ fn push_name(
     ensures slots { OnOk result (slots.new ≡ slots.old ++ Named name.now ∷ []) }
     ensures numbers { OnOk result ((q : List ℕ) → number_under numbers.new q ≡ cond (bytes_eq name.now q) (Some number) (number_under numbers.old q)) }
 {
-    numbers.put(name.copied(alloc)?, number)?;
-    slots.push(Slot::Named(Held::of(alloc, name.copied(alloc)?)?))
+    let name = Held::of(alloc, name.copied(alloc)?)?;
+    numbers.put(name.share()?, number)?;
+    slots.push(Slot::Named(name))
 }
 
 /// Writes a name at a number, which is one of the slots or the next one.
@@ -462,8 +463,9 @@ fn put_name(
     ensures slots { OnOk result (map slot_name slots.new ≡ with_name (map slot_name slots.old) number name) }
     ensures numbers { OnOk result ((q : List ℕ) → number_under numbers.new q ≡ cond (bytes_eq name q) (Some number) (number_under numbers.old q)) }
 {
-    numbers.put(name.copied(alloc)?, number)?;
-    put_slot(slots, number, Held::of(alloc, name)?)
+    let name = Held::of(alloc, name)?;
+    numbers.put(name.share()?, number)?;
+    put_slot(slots, number, name)
 }
 
 /// Takes the name of a number out; the number waits.
