@@ -5,8 +5,13 @@ use Rattle.std.specs.Prelude.{◌&&◌, find, nat_eq, if◌then◌else◌}
 use Rattle.std.specs.List.{list_all, list_any}
 use Rattle.std.specs.Str.{bytes_eq}
 use Rattle.std.proofs.lemmas.Bool.{cases_Bool, false≢true, true≢false, and_parts, and_from, or_parts, or_from, or_left, or_right, or_cases, not-true, not_from_false}
+use Rattle.std.proofs.lemmas.List.{append_assoc}
 use Rattle.timing_defs.specs.Netlist.{is_listed, are_distinct}
 use Rattle.netlist_store.proofs.ShardLaws.{same_is, same_self}
+
+-- one item more is taken from a list
+pub one_taken : {X : Type 0} (xs front left rest : List X) (x : X) → xs ≡ front ++ left → left ≡ x ∷ rest → xs ≡ (front ++ x ∷ []) ++ rest
+one_taken xs front left rest x e next = e ∙ ap (λ ys. front ++ ys) next ∙ sym (append_assoc front (x ∷ []) rest)
 
 pub apart_sym : (a b : List ℕ) → bytes_eq a b ≡ false → bytes_eq b a ≡ false
 apart_sym a b apart = elim (cases_Bool (bytes_eq b a)) [

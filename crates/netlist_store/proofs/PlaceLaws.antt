@@ -1,6 +1,6 @@
 -- Numbers that are the places of names in a list.
 
-use Rattle.std.proofs.Common.{◌≡◌, ◌≢◌, ℕ, zero, suc, ◌<◌, ◌≤◌, ◌+◌, Bool, true, false, not, List, [], ◌∷◌, ◌++◌, map, length, take, get_or, Option, None, Some, refl, sym, ap, ◌∙◌, inl, inr, arith, lt-ltb, le-ltb, if◌then◌else◌}
+use Rattle.std.proofs.Common.{◌≡◌, ◌≢◌, ℕ, zero, suc, ◌≤◌, ◌+◌, Bool, true, false, not, List, [], ◌∷◌, ◌++◌, map, length, take, Option, None, Some, refl, sym, ap, ◌∙◌, inl, inr, arith, lt-ltb, le-ltb, if◌then◌else◌}
 use Rattle.std.specs.Prelude.{find, is_some, nat_eq, nat_lt, ◌&&◌, ◌||◌}
 use Rattle.std.specs.List.{slice_get, list_any, filter_map, position_or_len}
 use Rattle.std.specs.Str.{bytes_eq}
@@ -129,28 +129,26 @@ found_at {X} name (y ∷ ys) (suc n) x d e =
     listed_in (z ∷ zs) (suc n) e = elim (cases_Bool (bytes_eq (name x) (name z))) [ inl h ↦ rw h refl | inr h ↦ rw h (listed_in zs n e) ]
 
 -- the next of distinct names is not among those before it
-pub next_new : (names : List (List ℕ)) (i : ℕ) (name : List ℕ) → are_distinct names ≡ true → i < length names → name ≡ get_or names i name
-    → is_listed (take i names) name ≡ false
-next_new [] i name d low e = absurd (omega (arith, low))
-next_new (x ∷ xs) zero name d low e = refl
-next_new (x ∷ xs) (suc i) name d low e =
-    let rest = next_new xs i name (and_right (not (is_listed xs x)) (are_distinct xs) d) (omega (arith, low)) e in
+pub new_behind : (front rest : List (List ℕ)) (name : List ℕ) → are_distinct (front ++ name ∷ rest) ≡ true → is_listed front name ≡ false
+new_behind [] rest name d = refl
+new_behind (x ∷ xs) rest name d =
+    let others = new_behind xs rest name (and_right (not (is_listed (xs ++ name ∷ rest) x)) (are_distinct (xs ++ name ∷ rest)) d) in
     let other : bytes_eq name x ≡ false = elim (cases_Bool (bytes_eq name x)) [
       | inl h ↦ absurd (false≢true
-          (sym (ap not (ap (is_listed xs) (sym (same_is name x h)) ∙ within xs i (omega (arith, low)) e))
-          ∙ and_left (not (is_listed xs x)) (are_distinct xs) d))
+          (sym (ap not (ap (is_listed (xs ++ name ∷ rest)) (sym (same_is name x h)) ∙ within xs))
+          ∙ and_left (not (is_listed (xs ++ name ∷ rest) x)) (are_distinct (xs ++ name ∷ rest)) d))
       | inr h ↦ h
     ] in
-    rw other rest
+    rw other others
   where
-    within : (ys : List (List ℕ)) (j : ℕ) → j < length ys → name ≡ get_or ys j name → is_listed ys name ≡ true
-    within [] j low e = absurd (omega (arith, low))
-    within (y ∷ ys) zero low e = let same : name ≡ y = e in rw (ap (bytes_eq name) (sym same) ∙ same_self name) refl
-    within (y ∷ ys) (suc j) low e = elim (cases_Bool (bytes_eq name y)) [ inl h ↦ rw h refl | inr h ↦ rw h (within ys j (omega (arith, low)) e) ]
+    within : (ys : List (List ℕ)) → is_listed (ys ++ name ∷ rest) name ≡ true
+    within [] = rw (same_self name) refl
+    within (y ∷ ys) = elim (cases_Bool (bytes_eq name y)) [ inl h ↦ rw h refl | inr h ↦ rw h (within ys) ]
 
-pub fresh_next : (names : List (List ℕ)) (i : ℕ) (name : List ℕ) → are_distinct names ≡ true → i < length names → name ≡ get_or names i name
-    → number_of (map Some (take i names)) name ≡ None
-fresh_next names i name d low e = none (number_of (map Some (take i names)) name) (numbers_listed (take i names) name ∙ next_new names i name d low e)
+pub fresh_behind : (names front rest : List (List ℕ)) (name : List ℕ) → are_distinct names ≡ true → names ≡ front ++ name ∷ rest
+    → number_of (map Some front) name ≡ None
+fresh_behind names front rest name d e =
+    none (number_of (map Some front) name) (numbers_listed front name ∙ new_behind front rest name (ap are_distinct (sym e) ∙ d))
   where
     none : (o : Option ℕ) → is_some o ≡ false → o ≡ None
     none None h = refl

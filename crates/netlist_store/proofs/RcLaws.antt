@@ -7,7 +7,7 @@ use Rattle.std.specs.Option.{option_or}
 use Rattle.std.specs.Str.{bytes_eq}
 use Rattle.std.proofs.lemmas.Bool.{cases_Bool, cases_eq, false≢true}
 use Rattle.std.proofs.lemmas.Bool.Decides.{eqb_tells}
-use Rattle.std.proofs.lemmas.List.{take_more}
+use Rattle.std.proofs.lemmas.List.{map-append, take_more}
 use Rattle.std.proofs.lemmas.List.Elements.{filter_map-append}
 use Rattle.std.proofs.lemmas.List.Folds.{find-append}
 use Rattle.timing_defs.specs.declared.parasitics.NetRc.{NetRc}
@@ -19,7 +19,7 @@ use Rattle.netlist_store.specs.Building.{rc_named, with_row, AreRcRows}
 use Rattle.netlist_store.proofs.NumberLaws.{number_at, some_is}
 use Rattle.netlist_store.proofs.OrderLaws.{get_set_same, get_set_other}
 use Rattle.netlist_store.proofs.PinLists.{and_left, and_right, and_both}
-use Rattle.netlist_store.proofs.PlaceLaws.{found_listed}
+use Rattle.netlist_store.proofs.PlaceLaws.{found_listed, new_behind}
 use Rattle.netlist_store.proofs.ShardLaws.{same_is, same_self}
 
 at_within : (names : List (Option (List ℕ))) (n : ℕ) (name : List ℕ) → name_at names n ≡ Some name → n < length names
@@ -111,31 +111,14 @@ module _ (nets : List (Option (List ℕ))) (numbers : AreNumbers nets) (rcs : Li
           }
 
 -- as the loop has it
-pub next_rcs : (nets : List (Option (List ℕ))) (rcs : List NetRc) (i : ℕ) (rc : NetRc) (rows after : List (Option NetRc)) → AreNumbers nets
-    → are_distinct (map (λ r. r.net) rcs) ≡ true → i < length rcs → rc ≡ get_or rcs i rc → after ≡ with_row (number_of nets rc.net) rc rows
-    → AreRcRows nets (take i rcs) rows → AreRcRows nets (take (i + 1) rcs) after
-next_rcs nets rcs i rc rows after numbers d low here put had =
-    subst (λ rs. AreRcRows nets rs after) (sym (take_more rcs i rc low ∙ ap (λ r. take i rcs ++ r ∷ []) (sym here)))
-    (more_rcs nets numbers (take i rcs) rc rows after had (new_net rcs i low here d) put)
-  where
-    new_net : (rs : List NetRc) (j : ℕ) → j < length rs → rc ≡ get_or rs j rc → are_distinct (map (λ r. r.net) rs) ≡ true
-        → is_listed (map (λ r. r.net) (take j rs)) rc.net ≡ false
-    new_net [] j low e d = absurd (omega (arith, low))
-    new_net (r ∷ rs) zero low e d = refl
-    new_net (r ∷ rs) (suc j) low e d =
-        let rest = new_net rs j (omega (arith, low)) e (and_right (not (is_listed (map (λ s. s.net) rs) r.net)) (are_distinct (map (λ s. s.net) rs)) d) in
-        let other : bytes_eq rc.net r.net ≡ false = elim (cases_Bool (bytes_eq rc.net r.net)) [
-          | inl h ↦ absurd (false≢true
-              (sym (ap not (ap (is_listed (map (λ s. s.net) rs)) (sym (same_is rc.net r.net h)) ∙ within rs j (omega (arith, low)) e))
-              ∙ and_left (not (is_listed (map (λ s. s.net) rs) r.net)) (are_distinct (map (λ s. s.net) rs)) d))
-          | inr h ↦ h
-        ] in
-        rw other rest
-      where
-        within : (ys : List NetRc) (j : ℕ) → j < length ys → rc ≡ get_or ys j rc → is_listed (map (λ s. s.net) ys) rc.net ≡ true
-        within [] j low e = absurd (omega (arith, low))
-        within (y ∷ ys) zero low e = let same : rc ≡ y = e in rw (ap (λ s. bytes_eq rc.net s.net) (sym same) ∙ same_self rc.net) refl
-        within (y ∷ ys) (suc j) low e = elim (cases_Bool (bytes_eq rc.net y.net)) [ inl h ↦ rw h refl | inr h ↦ rw h (within ys j (omega (arith, low)) e) ]
+pub next_rcs : (nets : List (Option (List ℕ))) (rcs front rest : List NetRc) (rc : NetRc) (rows after : List (Option NetRc)) → AreNumbers nets
+    → are_distinct (map (λ r. r.net) rcs) ≡ true → rcs ≡ front ++ rc ∷ rest → after ≡ with_row (number_of nets rc.net) rc rows
+    → AreRcRows nets front rows → AreRcRows nets (front ++ rc ∷ []) after
+next_rcs nets rcs front rest rc rows after numbers d e put had =
+    more_rcs nets numbers front rc rows after had
+    (new_behind (map (λ (r : NetRc). r.net) front) (map (λ (r : NetRc). r.net) rest) rc.net
+    (ap are_distinct (sym (ap (map (λ (r : NetRc). r.net)) e ∙ map-append (λ (r : NetRc). r.net) front (rc ∷ rest))) ∙ d))
+    put
 
 -- the numbers of distinct nets are distinct
 pub numbers_differ : (nets : List (Option (List ℕ))) (rcs : List NetRc) → are_distinct (map (λ r. r.net) rcs) ≡ true

@@ -35,10 +35,12 @@ fn full_name_bytes(alloc: Global, inst: &Name, own: &Name) -> Result<Vec<u8>, Me
     ensures bytes { IfOk result (λ bytes. bytes.items ≡ inst.now ++ 58 ∷ own.now) }
     ensures name { IfOk result (λ bytes. IsTrue (is_name bytes.items)) }
 {
-    let mut bytes = Vec::new(alloc);
-    bytes.extend_from_slice(inst.as_bytes())?;
+    let inst = inst.as_bytes();
+    let own = own.as_bytes();
+    let mut bytes = Vec::with_capacity(alloc, inst.len() + 1 + own.len())?;
+    bytes.extend_from_slice(inst)?;
     bytes.extend_from_slice(b":")?;
-    bytes.extend_from_slice(own.as_bytes())?;
+    bytes.extend_from_slice(own)?;
     Ok(bytes)
 }
 
@@ -269,13 +271,13 @@ fn net_rows(
 fn inst_rows(
     alloc: Global,
     frame: &Frame,
-    insts: &[Inst],
+    insts: Items<Inst>,
 ) -> Result<CowTable<Option<Held<InstRow>>>, Memory>
-    ensures { IfOk result (λ rows. rows ≡ map Some insts.now) }
+    ensures { IfOk result (λ rows. rows ≡ map Some insts) }
 {
     let mut rows = CowTable::new(alloc);
-    for inst in insts {
-        let row = InstRow::of(frame, inst.again(alloc)?);
+    for inst in insts.into_vec() {
+        let row = InstRow::of(frame, inst);
         rows.push(Some(Held::of(alloc, row)?))?;
     }
     Ok(rows)
@@ -319,13 +321,13 @@ fn put_rc(
     alloc: Global,
     rows: &mut CowTable<Option<Held<NetRc>>>,
     nets: &Numbering,
-    rc: &NetRc,
+    rc: NetRc,
 ) -> Result<(), Memory>
     requires { length rows.old ≡ length nets.now }
-    ensures { OnOk result (rows.new ≡ with_row (number_of nets.now rc.now.net) rc.now rows.old) }
+    ensures { OnOk result (rows.new ≡ with_row (number_of nets.now rc.net) rc rows.old) }
 {
     match nets.number(&rc.net) {
-        Some(net) => rows.set(net as usize, Some(Held::of(alloc, rc.again(alloc)?)?)),
+        Some(net) => rows.set(net as usize, Some(Held::of(alloc, rc)?)),
         None => Ok(()),
     }
 }
@@ -334,14 +336,14 @@ fn put_rc(
 fn rc_rows(
     alloc: Global,
     nets: &Numbering,
-    rcs: &[NetRc],
+    rcs: Items<NetRc>,
 ) -> Result<CowTable<Option<Held<NetRc>>>, Memory>
-    requires { are_distinct (map (λ rc. rc.net) rcs.now) ≡ true }
-    ensures { IfOk result (λ rows. AreRcRows nets.now rcs.now rows) }
+    requires { are_distinct (map (λ rc. rc.net) rcs) ≡ true }
+    ensures { IfOk result (λ rows. AreRcRows nets.now rcs rows) }
 {
     nets.laws();
     let mut rows = empty_rcs(alloc, nets.bound())?;
-    for rc in rcs {
+    for rc in rcs.into_vec() {
         put_rc(alloc, &mut rows, nets, rc)?;
     }
     Ok(rows)
@@ -394,7 +396,7 @@ fn pin_numbers(alloc: Global, frame: &Frame, insts: &[Inst]) -> Result<Numbering
     ensures { IfOk result (λ made. made ≡ map Some (of_pins name_of frame.now.ports frame.now.late.cells insts.now)) }
 {
     let words = pin_names(alloc, frame.ports.as_slice(), &frame.late, insts)?;
-    numbered(alloc, words.as_slice())
+    numbered(alloc, words)
 }
 
 /// The numbers of instances.
@@ -403,7 +405,16 @@ fn inst_numbers(alloc: Global, insts: &[Inst]) -> Result<Numbering, Memory>
     ensures { IfOk result (λ made. made ≡ map Some (map (λ inst. inst.name) insts.now)) }
 {
     let called = inst_names(alloc, insts)?;
-    numbered(alloc, called.as_slice())
+    numbered(alloc, called)
+}
+
+/// The numbers of nets.
+fn net_numbers(alloc: Global, nets: &Items<Name>) -> Result<Numbering, Memory>
+    requires { are_distinct nets.now ≡ true }
+    ensures { IfOk result (λ made. made ≡ map Some nets.now) }
+{
+    let called = nets.again(alloc)?;
+    numbered(alloc, called)
 }
 
 /// The numbers of instances, nets and pins: each has its place as its number.
@@ -422,7 +433,7 @@ pub(crate) fn names_of(
 {
     let pins = pin_numbers(alloc, frame, insts.as_slice())?;
     match inst_numbers(alloc, insts.as_slice()) {
-        Ok(insts) => match numbered(alloc, nets.as_slice()) {
+        Ok(insts) => match net_numbers(alloc, nets) {
             Ok(nets) => Ok(Names { insts, nets, pins }),
             Err(wanting) => {
                 insts.discard();
@@ -437,32 +448,103 @@ pub(crate) fn names_of(
     }
 }
 
-/// The rows of instances, nets and pins.
-pub(crate) fn rows_of(
+/// The rows of pins, and the pins on each net.
+#[derive(Drop)]
+struct PinRows {
+    pins: CowTable<PinRow>,
+    net_pins: CowTable<Held<Items<u32>>>,
+}
+
+impl PinRows {
+    /// Gives the rows up.
+    fn discard(self) {}
+}
+
+/// The rows of pins, and the pins on each net.
+fn both_pin_rows(
     alloc: Global,
     frame: &Frame,
     names: &Names,
-    insts: &Items<Inst>,
-    rcs: &Items<NetRc>,
-) -> Result<Rows, Memory>
-    requires rcs { are_distinct (map (λ rc. rc.net) rcs.now) ≡ true }
+    insts: &[Inst],
+) -> Result<PinRows, Memory>
     requires pins { length names.now.pins ≡ length (of_pins (row_of names.now.insts names.now.nets) frame.now.ports frame.now.late.cells insts.now) }
-    ensures insts { IfOk result (λ rows. rows.insts ≡ map Some insts.now) }
-    ensures rcs { IfOk result (λ rows. AreRcRows names.now.nets rcs.now rows.rcs) }
     ensures pins { IfOk result (λ rows. rows.pins ≡ of_pins (row_of names.now.insts names.now.nets) frame.now.ports frame.now.late.cells insts.now) }
     ensures net_len { IfOk result (λ rows. length rows.net_pins ≡ length names.now.nets) }
     ensures net_pins { IfOk result (λ rows. AreNetPins rows.pins (length rows.pins) rows.net_pins) }
 {
-    let pins = pin_rows(alloc, frame, names, insts.as_slice())?;
+    let pins = pin_rows(alloc, frame, names, insts)?;
     let net_pins = net_rows(alloc, &pins, names.pins.bound(), names.nets.bound())?;
-    let rcs = rc_rows(alloc, &names.nets, rcs.as_slice())?;
-    let insts = inst_rows(alloc, frame, insts.as_slice())?;
-    Ok(Rows {
-        insts,
-        rcs,
-        net_pins,
-        pins,
-    })
+    Ok(PinRows { pins, net_pins })
+}
+
+/// Gives instances up.
+fn give_up_insts(_insts: Items<Inst>) {}
+
+/// The rows of instances and of parasitics, beside rows of pins.
+fn rows_beside(
+    alloc: Global,
+    frame: &Frame,
+    names: &Names,
+    insts: Items<Inst>,
+    rcs: Items<NetRc>,
+    rows: PinRows,
+) -> Result<Rows, Memory>
+    requires rcs { are_distinct (map (λ rc. rc.net) rcs) ≡ true }
+    ensures insts { IfOk result (λ all. all.insts ≡ map Some insts) }
+    ensures rcs { IfOk result (λ all. AreRcRows names.now.nets rcs all.rcs) }
+    ensures pins { IfOk result (λ all. all.pins ≡ rows.pins) }
+    ensures net_pins { IfOk result (λ all. all.net_pins ≡ rows.net_pins) }
+{
+    match rc_rows(alloc, &names.nets, rcs) {
+        Ok(rcs) => match inst_rows(alloc, frame, insts) {
+            Ok(insts) => {
+                let PinRows { pins, net_pins } = rows;
+                Ok(Rows {
+                    insts,
+                    rcs,
+                    net_pins,
+                    pins,
+                })
+            }
+            Err(wanting) => {
+                rows.discard();
+                Err(wanting)
+            }
+        },
+        Err(wanting) => {
+            give_up_insts(insts);
+            rows.discard();
+            Err(wanting)
+        }
+    }
+}
+
+/// Gives instances and parasitics up.
+fn give_up_lists(_insts: Items<Inst>, _rcs: Items<NetRc>) {}
+
+/// The rows of instances, nets and pins. Instances and parasitics move into them.
+pub(crate) fn rows_of(
+    alloc: Global,
+    frame: &Frame,
+    names: &Names,
+    insts: Items<Inst>,
+    rcs: Items<NetRc>,
+) -> Result<Rows, Memory>
+    requires rcs { are_distinct (map (λ rc. rc.net) rcs) ≡ true }
+    requires pins { length names.now.pins ≡ length (of_pins (row_of names.now.insts names.now.nets) frame.now.ports frame.now.late.cells insts) }
+    ensures insts { IfOk result (λ rows. rows.insts ≡ map Some insts) }
+    ensures rcs { IfOk result (λ rows. AreRcRows names.now.nets rcs rows.rcs) }
+    ensures pins { IfOk result (λ rows. rows.pins ≡ of_pins (row_of names.now.insts names.now.nets) frame.now.ports frame.now.late.cells insts) }
+    ensures net_len { IfOk result (λ rows. length rows.net_pins ≡ length names.now.nets) }
+    ensures net_pins { IfOk result (λ rows. AreNetPins rows.pins (length rows.pins) rows.net_pins) }
+{
+    match both_pin_rows(alloc, frame, names, insts.as_slice()) {
+        Ok(rows) => rows_beside(alloc, frame, names, insts, rcs, rows),
+        Err(wanting) => {
+            give_up_lists(insts, rcs);
+            Err(wanting)
+        }
+    }
 }
 
 /// The nets with parasitics in their order.

@@ -203,9 +203,9 @@ impl Numbering {
     }
 
     /// The numbering with a new name, whose number is after all others.
-    fn pushed(self, name: &Name) -> Result<Numbering, Memory>
-        requires fresh { number_of self name.now ≡ None }
-        ensures { IfOk result (λ after. after ≡ self ++ Some name.now ∷ []) }
+    fn pushed(self, name: Name) -> Result<Numbering, Memory>
+        requires fresh { number_of self name ≡ None }
+        ensures { IfOk result (λ after. after ≡ self ++ Some name ∷ []) }
     {
         let number = self.bound();
         if number as usize >= MOST {
@@ -424,12 +424,12 @@ impl Numbering {
 }
 
 /// Distinct names with numbers in their order.
-pub(crate) fn numbered(alloc: Global, names: &[Name]) -> Result<Numbering, Memory>
-    requires { are_distinct names.now ≡ true }
-    ensures { IfOk result (λ made. made ≡ map Some names.now) }
+pub(crate) fn numbered(alloc: Global, names: Items<Name>) -> Result<Numbering, Memory>
+    requires { are_distinct names ≡ true }
+    ensures { IfOk result (λ made. made ≡ map Some names) }
 {
     let mut made = Numbering::new(alloc)?;
-    for name in names {
+    for name in names.into_vec() {
         made = made.pushed(name)?;
     }
     Ok(made)
@@ -440,13 +440,13 @@ fn push_name(
     slots: &mut CowTable<Slot>,
     numbers: &mut NameMap,
     alloc: Global,
-    name: &Name,
+    name: Name,
     number: u32,
 ) -> Result<(), Memory>
-    ensures slots { OnOk result (slots.new ≡ slots.old ++ Named name.now ∷ []) }
-    ensures numbers { OnOk result ((q : List ℕ) → number_under numbers.new q ≡ cond (bytes_eq name.now q) (Some number) (number_under numbers.old q)) }
+    ensures slots { OnOk result (slots.new ≡ slots.old ++ Named name ∷ []) }
+    ensures numbers { OnOk result ((q : List ℕ) → number_under numbers.new q ≡ cond (bytes_eq name q) (Some number) (number_under numbers.old q)) }
 {
-    let name = Held::of(alloc, name.copied(alloc)?)?;
+    let name = Held::of(alloc, name)?;
     numbers.put(name.share()?, number)?;
     slots.push(Slot::Named(name))
 }

@@ -7,7 +7,8 @@ ghost use Rattle.timing_defs.specs.Wires.{rc_of};
 ghost use Rattle.timing_defs.specs.Names.{is_name};
 ghost use Rattle.timing_defs.specs.Edits.{inst_named, net_in_use};
 ghost use Rattle.netlist_store.specs.Numbering.{name_at, number_of, is_number, inst_numbered, pin_numbered, owner_number, net_number, is_on_number, IsNumbered};
-ghost use Rattle.netlist_store.specs.Building.{of_pins};
+ghost use Rattle.std.specs.List.{filter_map};
+ghost use Rattle.netlist_store.specs.Building.{first_numbers, of_pins};
 ghost use Rattle.netlist_store.specs.Linked.{IsLinked, IsSized};
 ghost use Rattle.netlist_store.specs.Stores.{TellsInst, TellsPin};
 
@@ -56,6 +57,9 @@ impl Lists {
     fn discard(self) {}
 }
 
+/// Gives up the names of nets.
+fn give_up_nets(_nets: Items<Name>) {}
+
 /// Gives up a frame and names.
 fn give_up(frame: Held<Frame>, names: Names) {
     frame.discard();
@@ -63,55 +67,79 @@ fn give_up(frame: Held<Frame>, names: Names) {
 }
 
 impl Store {
-    /// The store of a frame, names and lists that are of one linked design.
-    fn of_names(alloc: Global, frame: Frame, names: Names, lists: &Lists) -> Result<Store, Memory>
-        requires linked { IsLinked (record { early = frame.early; late = frame.late; ports = frame.ports; nets = lists.now.nets; insts = lists.now.insts; constraints = frame.constraints; rcs = lists.now.rcs }) }
-        requires insts { names.insts ≡ map Some (map (λ inst. inst.name) lists.now.insts) }
-        requires nets { names.nets ≡ map Some lists.now.nets }
-        requires pins { names.pins ≡ map Some (of_pins name_of frame.ports frame.late.cells lists.now.insts) }
-        ensures { IfOk result (λ store. store.design ≡ record { early = frame.early; late = frame.late; ports = frame.ports; nets = lists.now.nets; insts = lists.now.insts; constraints = frame.constraints; rcs = lists.now.rcs }) }
+    /// The store of a frame, names, orders and lists that are of one linked design. The lists move into it.
+    fn of_orders(
+        alloc: Global,
+        frame: Frame,
+        names: Names,
+        orders: Orders,
+        lists: Lists,
+    ) -> Result<Store, Memory>
+        requires linked { IsLinked (record { early = frame.early; late = frame.late; ports = frame.ports; nets = lists.nets; insts = lists.insts; constraints = frame.constraints; rcs = lists.rcs }) }
+        requires insts { names.insts ≡ map Some (map (λ inst. inst.name) lists.insts) }
+        requires nets { names.nets ≡ map Some lists.nets }
+        requires pins { names.pins ≡ map Some (of_pins name_of frame.ports frame.late.cells lists.insts) }
+        requires inst_order { orders.insts ≡ first_numbers (length names.insts) }
+        requires net_order { orders.nets ≡ first_numbers (length names.nets) }
+        requires rc_order { orders.rcs ≡ filter_map (λ rc. number_of names.nets rc.net) lists.rcs }
+        ensures { IfOk result (λ store. store.design ≡ record { early = frame.early; late = frame.late; ports = frame.ports; nets = lists.nets; insts = lists.insts; constraints = frame.constraints; rcs = lists.rcs }) }
     {
         names.laws();
-        match rows_of(alloc, &frame, &names, &lists.insts, &lists.rcs) {
-            Ok(rows) => match orders_of(alloc, &names, &lists.rcs) {
-                Ok(orders) => match Held::of(alloc, frame) {
-                    Ok(frame) => Ok(Store {
-                        frame,
-                        names,
-                        rows,
-                        orders,
-                    }),
-                    Err(wanting) => {
-                        names.discard();
-                        rows.discard();
-                        orders.discard();
-                        Err(wanting)
-                    }
-                },
+        let Lists { nets, insts, rcs } = lists;
+        give_up_nets(nets);
+        match rows_of(alloc, &frame, &names, insts, rcs) {
+            Ok(rows) => match Held::of(alloc, frame) {
+                Ok(frame) => Ok(Store {
+                    frame,
+                    names,
+                    rows,
+                    orders,
+                }),
                 Err(wanting) => {
-                    frame.discard();
                     names.discard();
                     rows.discard();
+                    orders.discard();
                     Err(wanting)
                 }
             },
             Err(wanting) => {
                 frame.discard();
                 names.discard();
+                orders.discard();
+                Err(wanting)
+            }
+        }
+    }
+
+    /// The store of a frame, names and lists that are of one linked design.
+    fn of_names(alloc: Global, frame: Frame, names: Names, lists: Lists) -> Result<Store, Memory>
+        requires linked { IsLinked (record { early = frame.early; late = frame.late; ports = frame.ports; nets = lists.nets; insts = lists.insts; constraints = frame.constraints; rcs = lists.rcs }) }
+        requires insts { names.insts ≡ map Some (map (λ inst. inst.name) lists.insts) }
+        requires nets { names.nets ≡ map Some lists.nets }
+        requires pins { names.pins ≡ map Some (of_pins name_of frame.ports frame.late.cells lists.insts) }
+        ensures { IfOk result (λ store. store.design ≡ record { early = frame.early; late = frame.late; ports = frame.ports; nets = lists.nets; insts = lists.insts; constraints = frame.constraints; rcs = lists.rcs }) }
+    {
+        match orders_of(alloc, &names, &lists.rcs) {
+            Ok(orders) => Store::of_orders(alloc, frame, names, orders, lists),
+            Err(wanting) => {
+                frame.discard();
+                names.discard();
+                lists.discard();
                 Err(wanting)
             }
         }
     }
 
     /// The store of a frame and of lists that are of one linked design.
-    fn of_lists(alloc: Global, frame: Frame, lists: &Lists) -> Result<Store, Memory>
-        requires { IsLinked (record { early = frame.early; late = frame.late; ports = frame.ports; nets = lists.now.nets; insts = lists.now.insts; constraints = frame.constraints; rcs = lists.now.rcs }) }
-        ensures { IfOk result (λ store. store.design ≡ record { early = frame.early; late = frame.late; ports = frame.ports; nets = lists.now.nets; insts = lists.now.insts; constraints = frame.constraints; rcs = lists.now.rcs }) }
+    fn of_lists(alloc: Global, frame: Frame, lists: Lists) -> Result<Store, Memory>
+        requires { IsLinked (record { early = frame.early; late = frame.late; ports = frame.ports; nets = lists.nets; insts = lists.insts; constraints = frame.constraints; rcs = lists.rcs }) }
+        ensures { IfOk result (λ store. store.design ≡ record { early = frame.early; late = frame.late; ports = frame.ports; nets = lists.nets; insts = lists.insts; constraints = frame.constraints; rcs = lists.rcs }) }
     {
         match names_of(alloc, &frame, &lists.nets, &lists.insts) {
             Ok(names) => Store::of_names(alloc, frame, names, lists),
             Err(wanting) => {
                 frame.discard();
+                lists.discard();
                 Err(wanting)
             }
         }
@@ -135,11 +163,7 @@ impl Store {
         } = design;
         let lists = Lists { nets, insts, rcs };
         match frame_of(alloc, early, late, ports, constraints) {
-            Ok(frame) => {
-                let made = Store::of_lists(alloc, frame, &lists);
-                lists.discard();
-                made
-            }
+            Ok(frame) => Store::of_lists(alloc, frame, lists),
             Err(wanting) => {
                 lists.discard();
                 Err(wanting)

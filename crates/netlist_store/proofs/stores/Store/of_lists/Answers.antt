@@ -5,9 +5,9 @@ use Rattle.netlist_store.proofs.stores.Store.of_lists.Goals as goal
 
 pub names_of-requires : goal.names_of-requires
 names_of-requires c = record {
-  nets = nets_distinct (whole c.args.frame c.args.lists.now.nets c.args.lists.now.insts c.args.lists.now.rcs) c.requires;
-  insts = insts_apart (whole c.args.frame c.args.lists.now.nets c.args.lists.now.insts c.args.lists.now.rcs) c.requires;
-  pins = pins_ready (whole c.args.frame c.args.lists.now.nets c.args.lists.now.insts c.args.lists.now.rcs) c.args.frame refl refl c.requires;
+  nets = nets_distinct (whole c.args.frame c.args.lists.nets c.args.lists.insts c.args.lists.rcs) c.requires;
+  insts = insts_apart (whole c.args.frame c.args.lists.nets c.args.lists.insts c.args.lists.rcs) c.requires;
+  pins = pins_ready (whole c.args.frame c.args.lists.nets c.args.lists.insts c.args.lists.rcs) c.args.frame refl refl c.requires;
 }
 
 pub of_names-requires : goal.of_names-requires
