@@ -119,6 +119,9 @@ impl Shard {
     }
 }
 
+/// A sum from which on the next one is divided, so that most bytes of a name take no division.
+const LARGE: usize = 1 << 55;
+
 /// The shard of a name.
 #[tactic(auto, unfolding(crate::specs::Shards::shard_of))]
 fn shard_of(name: &[u8]) -> usize
@@ -127,9 +130,12 @@ fn shard_of(name: &[u8]) -> usize
 {
     let mut place = 0;
     for byte in name {
-        place = (place * 257 + *byte as usize) % SHARDS;
+        place = place * 257 + *byte as usize;
+        if LARGE <= place {
+            place %= SHARDS;
+        }
     }
-    place
+    place % SHARDS
 }
 
 /// A map from names to numbers. A copy shares each shard until one of the two changes it. Contracts
