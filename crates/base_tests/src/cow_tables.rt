@@ -62,8 +62,8 @@ fn a_copy_of_3000_items_is_set_alone(rt: HostRuntime) {
 }
 
 #[test]
-fn copies_part_at_the_edges_of_chunks(rt: HostRuntime) {
-    for count in [1, 255, 256, 257, 511, 512, 513] {
+fn copies_part_at_the_edges_of_chunks_and_pages(rt: HostRuntime) {
+    for count in [1, 63, 64, 65, 127, 128, 129, 4_095, 4_096, 4_097, 8_193] {
         let mut original = counted(&rt, rt.alloc(), count);
         let mut copy = original.again(rt.alloc()).expect(&rt, "memory");
         copy.push(7).expect(&rt, "memory");
@@ -119,7 +119,7 @@ fn threads_fill_a_table_and_write_it(rt: HostRuntime) {
 
 #[test]
 fn the_first_error_comes_back(rt: HostRuntime) {
-    for (count, workers) in [(10, 1), (3_000, 3)] {
+    for (count, workers) in [(10, 1), (3_000, 3), (9_000, 3)] {
         let len = count as usize;
         let mut table = zeros(&rt, rt.alloc(), workers, len);
         let refused = write_all(&rt, rt.alloc(), workers, &mut table, count, 7);

@@ -7,25 +7,25 @@ use Rattle.cow_table.specs.Pieces.{IsCut}
 
 module _ {X A : Type 0} (f : X → List A) (v : A) where
   abbrev IsFull : X → Type 0
-  IsFull x = f x ≡ replicate 256 v
+  IsFull x = f x ≡ replicate 64 v
 
-  size : (x : X) → IsFull x → length (f x) ≡ 256
-  size x h = ap length h ∙ length-replicate 256 v
+  size : (x : X) → IsFull x → length (f x) ≡ 64
+  size x h = ap length h ∙ length-replicate 64 v
 
-  pub full_cut : (xs : List X) → All IsFull xs → IsCut f xs
+  pub full_cut : (xs : List X) → All IsFull xs → IsCut 64 f xs
   full_cut [] h = tt
   full_cut (x ∷ []) h =
       let long = size x (All-head IsFull x [] h) in
       (omega (arith, long), omega (arith, long))
   full_cut (x ∷ y ∷ ys) h = (size x (All-head IsFull x (y ∷ ys) h), full_cut (y ∷ ys) (All-tail IsFull x (y ∷ ys) h))
 
-  pub full_items : (xs : List X) (n : ℕ) → All IsFull xs → length xs ≡ n → flat_map f xs ≡ replicate (n * 256) v
+  pub full_items : (xs : List X) (n : ℕ) → All IsFull xs → length xs ≡ n → flat_map f xs ≡ replicate (n * 64) v
   full_items [] n h e =
-      let none : 0 ≡ n * 256 = omega (arith, e) in
+      let none : 0 ≡ n * 64 = omega (arith, e) in
       ap (λ k. replicate k v) none
   full_items (x ∷ xs) n h e =
-      let more : 256 + length xs * 256 ≡ n * 256 = omega (arith, e) in
+      let more : 64 + length xs * 64 ≡ n * 64 = omega (arith, e) in
       ap (λ l. l ++ flat_map f xs) (All-head IsFull x xs h)
-      ∙ ap (λ l. replicate 256 v ++ l) (full_items xs (length xs) (All-tail IsFull x xs h) refl)
-      ∙ replicate-append-replicate 256 (length xs * 256) v
+      ∙ ap (λ l. replicate 64 v ++ l) (full_items xs (length xs) (All-tail IsFull x xs h) refl)
+      ∙ replicate-append-replicate 64 (length xs * 64) v
       ∙ ap (λ k. replicate k v) more

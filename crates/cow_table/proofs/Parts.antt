@@ -16,14 +16,14 @@ both_ok (Err e) h p q = p
 module _ {X A : Type 0} (f : X → List A) where
   -- two runs of pieces, where the first has full ones alone
   pub record AreParts (front back : List X) (at count : ℕ) : Type 0 where
-    pub front_cut : IsCut f front
-    pub back_cut : IsCut f back
-    pub before : at * 256 ≡ length (flat_map f front)
-    pub behind : count - at * 256 ≡ length (flat_map f back)
-    pub within : at * 256 ≤ count
+    pub front_cut : IsCut 4096 f front
+    pub back_cut : IsCut 4096 f back
+    pub before : at * 4096 ≡ length (flat_map f front)
+    pub behind : count - at * 4096 ≡ length (flat_map f back)
+    pub within : at * 4096 ≤ count
 
-  parted : (front back : List X) → 0 < length back → IsCut f (front ++ back)
-      → IsCut f front × IsCut f back × (length (flat_map f front) ≡ length front * 256)
+  parted : (front back : List X) → 0 < length back → IsCut 4096 f (front ++ back)
+      → IsCut 4096 f front × IsCut 4096 f back × (length (flat_map f front) ≡ length front * 4096)
   parted [] back low cut = (tt, cut, omega arith)
   parted (x ∷ []) [] low cut = absurd (omega (arith, low))
   parted (x ∷ []) (y ∷ ys) low cut =
@@ -33,7 +33,7 @@ module _ {X A : Type 0} (f : X → List A) where
       let rest = parted (z ∷ zs) back low cut.1 in
       ((cut.0, rest.0), rest.1, omega (arith, cut.0, rest.2, length-append (f x) (flat_map f (z ∷ zs))))
 
-  pub joined : (front back : List X) → IsCut f front → IsCut f back → length (flat_map f front) ≡ length front * 256 → IsCut f (front ++ back)
+  pub joined : (front back : List X) → IsCut 4096 f front → IsCut 4096 f back → length (flat_map f front) ≡ length front * 4096 → IsCut 4096 f (front ++ back)
   joined [] back c d e = d
   joined (x ∷ []) [] c d e = c
   joined (x ∷ []) (y ∷ ys) c d e =
@@ -43,10 +43,10 @@ module _ {X A : Type 0} (f : X → List A) where
 
   -- the pieces are cut at a place where some are left
   pub parts_of : (xs front back : List X) (at count : ℕ) → xs ≡ front ++ back → length front ≡ at → at < length xs
-      → IsCut f xs → count ≡ length (flat_map f xs) → AreParts front back at count
+      → IsCut 4096 f xs → count ≡ length (flat_map f xs) → AreParts front back at count
   parts_of xs front back at count e n low cut counted =
       let some : 0 < length back = omega (arith, low, n, ap length e, length-append front back) in
-      let runs = parted front back some (subst (IsCut f) e cut) in
+      let runs = parted front back some (subst (IsCut 4096 f) e cut) in
       let whole : length (flat_map f xs) ≡ length (flat_map f front) + length (flat_map f back) =
       ap (λ l. length (flat_map f l)) e ∙ ap length (flat_map-append f front back) ∙ length-append (flat_map f front) (flat_map f back) in
       record {

@@ -1,4 +1,4 @@
-//! The pieces that the copies of a table share.
+//! The least pieces that the copies of a table share.
 
 ghost use Rattle.std.specs.Prelude.{◌≡◌, ◌<◌, [], ◌∷◌, ◌++◌, length, replicate, slice_get, slice_set, IfOk, OnOk, OnErr};
 ghost use Rattle.std.specs.Arc.{arc_value};
@@ -9,7 +9,7 @@ use std::marker::Model;
 use std::sync::Arc;
 
 /// The greatest number of items in a chunk.
-pub const CHUNK: usize = 256;
+pub const CHUNK: usize = 64;
 
 /// Some items that stand side by side in a table.
 #[derive(Drop)]
@@ -68,7 +68,7 @@ impl<T: Drop> Chunk<T> {
 impl<T: Again + Drop> Chunk<T> {
     /// A full chunk of copies of an item.
     pub fn filled(alloc: Global, item: &T) -> Result<Chunk<T>, Memory>
-        ensures { IfOk result (λ chunk. chunk ≡ replicate 256 item.now) }
+        ensures { IfOk result (λ chunk. chunk ≡ replicate 64 item.now) }
     {
         let mut items = Vec::with_capacity(alloc, CHUNK)?;
         for at in 0..CHUNK {

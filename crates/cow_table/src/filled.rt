@@ -1,72 +1,72 @@
-//! Equal items in full chunks, made by several threads.
+//! Equal items in full pages, made by several threads.
 
 ghost use Rattle.std.specs.Prelude.{◌≡◌, All, length, replicate, IfOk};
 ghost use Rattle.std.specs.Arc.{arc_value};
 ghost use denote.Param.Send.{IsSync, IsSend};
 
-use crate::chunks::{CHUNK, Chunk};
+use crate::pages::Page;
 use sta_units::{Again, Memory};
 use std::alloc::Global;
 use std::sync::Arc;
 use std::thread::{Threads, join};
 
-/// A full chunk of copies of an item.
-fn full_chunk<T: Again + Drop>(alloc: Global, item: &T) -> Result<Arc<Chunk<T>>, Memory>
-    ensures { IfOk result (λ chunk. arc_value chunk ≡ replicate 256 item.now) }
+/// A full page of copies of an item.
+fn full_page<T: Again + Drop>(alloc: Global, item: &T) -> Result<Arc<Page<T>>, Memory>
+    ensures { IfOk result (λ page. arc_value page ≡ replicate 4096 item.now) }
 {
-    let chunk = Chunk::filled(alloc, item)?;
-    Arc::new(alloc, chunk).map_err(|_| Memory)
+    let page = Page::filled(alloc, item)?;
+    Arc::new(alloc, page).map_err(|_| Memory)
 }
 
-/// That many full chunks of copies of an item, in a list with that much room.
-fn some_chunks<T: Again + Drop>(
+/// That many full pages of copies of an item, in a list with that much room.
+fn some_pages<T: Again + Drop>(
     alloc: Global,
     count: usize,
     room: usize,
     item: &T,
-) -> Result<Vec<Arc<Chunk<T>>>, Memory>
-    ensures len { IfOk result (λ chunks. length chunks.items ≡ count) }
-    ensures each { IfOk result (λ chunks. All (λ chunk. arc_value chunk ≡ replicate 256 item.now) chunks.items) }
+) -> Result<Vec<Arc<Page<T>>>, Memory>
+    ensures len { IfOk result (λ pages. length pages.items ≡ count) }
+    ensures each { IfOk result (λ pages. All (λ page. arc_value page ≡ replicate 4096 item.now) pages.items) }
 {
-    let mut chunks = Vec::with_capacity(alloc, room)?;
+    let mut pages = Vec::with_capacity(alloc, room)?;
     for at in 0..count {
         let _ = at;
-        chunks.push(full_chunk(alloc, item)?).map_err(|_| Memory)?;
+        pages.push(full_page(alloc, item)?).map_err(|_| Memory)?;
     }
-    Ok(chunks)
+    Ok(pages)
 }
 
-/// The same by that many threads, which share the chunks evenly: the last part goes to a new thread.
+/// The same by that many threads, which share the pages evenly: the last part goes to a new thread.
 #[cycle(parts)]
-pub(crate) fn full_chunks<H: Threads + Sync, T: Again + Send + Sync + Drop>(
+pub(crate) fn full_pages<H: Threads + Sync, T: Again + Send + Sync + Drop>(
     rt: &H,
     alloc: Global,
     parts: usize,
     count: usize,
     room: usize,
     item: &T,
-) -> Result<Vec<Arc<Chunk<T>>>, Memory>
-    ensures len { IfOk result (λ chunks. length chunks.items ≡ count) }
-    ensures each { IfOk result (λ chunks. All (λ chunk. arc_value chunk ≡ replicate 256 item.now) chunks.items) }
+) -> Result<Vec<Arc<Page<T>>>, Memory>
+    ensures len { IfOk result (λ pages. length pages.items ≡ count) }
+    ensures each { IfOk result (λ pages. All (λ page. arc_value page ≡ replicate 4096 item.now) pages.items) }
 {
     if parts < 2 {
-        return some_chunks(alloc, count, room, item);
+        return some_pages(alloc, count, room, item);
     }
     let share = count / parts;
     let others = parts - 1;
     let rest = count - share;
-    let theirs = move || -> Result<Vec<Arc<Chunk<T>>>, Memory>
-        ensures len { IfOk result (λ chunks. length chunks.items ≡ share) }
-        ensures each { IfOk result (λ chunks. All (λ chunk. arc_value chunk ≡ replicate 256 item.entry.now) chunks.items) }
-    { some_chunks(alloc, share, share, item) };
-    let ours = move || -> Result<Vec<Arc<Chunk<T>>>, Memory>
+    let theirs = move || -> Result<Vec<Arc<Page<T>>>, Memory>
+        ensures len { IfOk result (λ pages. length pages.items ≡ share) }
+        ensures each { IfOk result (λ pages. All (λ page. arc_value page ≡ replicate 4096 item.entry.now) pages.items) }
+    { some_pages(alloc, share, share, item) };
+    let ours = move || -> Result<Vec<Arc<Page<T>>>, Memory>
         requires { IsSync H.row × IsSync T.row × IsSend T.row }
-        ensures len { IfOk result (λ chunks. length chunks.items ≡ rest) }
-        ensures each { IfOk result (λ chunks. All (λ chunk. arc_value chunk ≡ replicate 256 item.entry.now) chunks.items) }
-    { full_chunks(rt, alloc, others, rest, room, item) };
+        ensures len { IfOk result (λ pages. length pages.items ≡ rest) }
+        ensures each { IfOk result (λ pages. All (λ page. arc_value page ≡ replicate 4096 item.entry.now) pages.items) }
+    { full_pages(rt, alloc, others, rest, room, item) };
     let (last, first) = join(rt, theirs, ours);
-    let mut chunks = first?;
+    let mut pages = first?;
     let mut more = last?;
-    chunks.append(&mut more)?;
-    Ok(chunks)
+    pages.append(&mut more)?;
+    Ok(pages)
 }

@@ -8,7 +8,7 @@ use std::marker::Model;
 use std::sync::Arc;
 
 /// A value that several owners hold and none changes. Contracts see the value. In a table it makes the
-/// copy of an item one count, so that the copy of a piece of 256 items takes no memory for their lists.
+/// copy of an item one count, so that the copy of a piece of 64 items takes no memory for their lists.
 #[derive(Drop)]
 pub struct Held<T> {
     held: Arc<T>,

@@ -5,6 +5,7 @@ mod chunks;
 mod filled;
 mod held;
 mod moves;
+mod pages;
 mod tables;
 mod writes;
 

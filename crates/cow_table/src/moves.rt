@@ -5,7 +5,7 @@ ghost use Rattle.std.specs.Arc.{arc_value};
 ghost use Rattle.cow_table.specs.Pieces.{IsCut};
 ghost use Rattle.cow_table.specs.Writes.{first_refused, written};
 
-use crate::chunks::Chunk;
+use crate::pages::Page;
 use crate::tables::set_at;
 use sta_units::{Again, Memory};
 use std::sync::Arc;
@@ -22,46 +22,46 @@ pub(crate) fn first_refused<T: Drop, E: Drop>(values: Vec<Result<T, E>>) -> Opti
     None
 }
 
-/// Writes a value at its place, where that is there: the chunks have `count` items.
+/// Writes a value at its place, where that is there: the pages have `count` items.
 fn move_one<T: Again + Drop>(
     count: usize,
     place: usize,
     value: T,
-    chunks: &mut [Arc<Chunk<T>>],
+    pages: &mut [Arc<Page<T>>],
 ) -> Result<(), Memory>
-    requires cut { IsCut arc_value chunks.old }
-    requires counted { count ≡ length (flat_map arc_value chunks.old) }
-    ensures cut { IsCut arc_value chunks.new }
-    ensures len { length (flat_map arc_value chunks.new) ≡ count }
-    ensures ok { OnOk result (flat_map arc_value chunks.new ≡ set (flat_map arc_value chunks.old) place value) }
+    requires cut { IsCut 4096 arc_value pages.old }
+    requires counted { count ≡ length (flat_map arc_value pages.old) }
+    ensures cut { IsCut 4096 arc_value pages.new }
+    ensures len { length (flat_map arc_value pages.new) ≡ count }
+    ensures ok { OnOk result (flat_map arc_value pages.new ≡ set (flat_map arc_value pages.old) place value) }
 {
     if place < count {
-        set_at(chunks, place, value)
+        set_at(pages, place, value)
     } else {
         Ok(())
     }
 }
 
 /// Writes each value at its place, in order, up to the first that is an error, which is given back: the
-/// chunks have `count` items. A place that is not below `count` is passed by.
+/// pages have `count` items. A place that is not below `count` is passed by.
 pub(crate) fn move_all<T: Again + Drop, E: Drop>(
     count: usize,
     places: &[u32],
     values: Vec<Result<T, E>>,
-    chunks: &mut [Arc<Chunk<T>>],
+    pages: &mut [Arc<Page<T>>],
 ) -> Result<Option<E>, Memory>
-    requires cut { IsCut arc_value chunks.old }
-    requires counted { count ≡ length (flat_map arc_value chunks.old) }
+    requires cut { IsCut 4096 arc_value pages.old }
+    requires counted { count ≡ length (flat_map arc_value pages.old) }
     requires same { length places.now ≡ length values.items }
-    ensures cut { IsCut arc_value chunks.new }
-    ensures len { length (flat_map arc_value chunks.new) ≡ count }
+    ensures cut { IsCut 4096 arc_value pages.new }
+    ensures len { length (flat_map arc_value pages.new) ≡ count }
     ensures refused { IfOk result (λ refused. refused ≡ first_refused values.items) }
-    ensures ok { IfOk result (λ refused. refused ≡ None → flat_map arc_value chunks.new ≡ written 0 (flat_map arc_value chunks.old) places.now values.items) }
+    ensures ok { IfOk result (λ refused. refused ≡ None → flat_map arc_value pages.new ≡ written 0 (flat_map arc_value pages.old) places.now values.items) }
 {
     let mut at = 0;
     for value in values {
         match value {
-            Ok(value) => move_one(count, places[at] as usize, value, chunks)?,
+            Ok(value) => move_one(count, places[at] as usize, value, pages)?,
             Err(refused) => return Ok(Some(refused)),
         }
         at += 1;

@@ -1,13 +1,13 @@
-//! A list in chunks, which a table shares with its copies.
+//! A list in pages, which a table shares with its copies.
 
 ghost use Rattle.std.specs.Prelude.{◌≡◌, ◌<◌, ◌≤◌, ◌*◌, ◌/◌, None, [], ◌∷◌, ◌++◌, length, replicate, slice_get, slice_set, IfOk, OnOk, OnErr, flat_map};
 ghost use Rattle.std.specs.Arc.{arc_value};
 ghost use Rattle.cow_table.specs.Pieces.{IsCut};
 ghost use Rattle.cow_table.specs.Writes.{first_refused, written};
 
-use crate::chunks::{CHUNK, Chunk, push_in, set_in};
-use crate::filled::full_chunks;
+use crate::filled::full_pages;
 use crate::moves::{first_refused, move_all};
+use crate::pages::{PAGE, Page, push_in_page, set_in_page};
 use crate::writes::put_parts;
 use sta_units::{Again, Memory};
 use std::alloc::Global;
@@ -15,11 +15,15 @@ use std::marker::Model;
 use std::sync::Arc;
 use std::thread::Threads;
 
-/// A list whose copies share what they have in common: a copy costs one step for each 256 items,
-/// and the first write to a chunk that is shared copies that chunk alone.
+/// So many writes are worth a thread.
+const SHARE: usize = 256;
+
+/// A list whose copies share what they have in common: a copy costs one step for each 4,096
+/// items, and the first write to 64 items that are shared copies these alone, with a step for each 64 of the
+/// 4,096 among which they stand.
 #[derive(Drop)]
 pub struct CowTable<T> {
-    chunks: Vec<Arc<Chunk<T>>>,
+    pages: Vec<Arc<Page<T>>>,
     len: usize,
     alloc: Global,
 }
@@ -34,9 +38,9 @@ impl<T> Model for CowTable<T> {
 
     ghost coded = { coded_list T.code };
 
-    ghost view = { λ t. flat_map arc_value t.chunks.items };
+    ghost view = { λ t. flat_map arc_value t.pages.items };
 
-    ghost invariant = { λ t. IsCut arc_value t.chunks.items × (t.len ≡ length (flat_map arc_value t.chunks.items)) };
+    ghost invariant = { λ t. IsCut 4096 arc_value t.pages.items × (t.len ≡ length (flat_map arc_value t.pages.items)) };
 }
 
 impl<T> CowTable<T> {
@@ -45,7 +49,7 @@ impl<T> CowTable<T> {
         ensures { result ≡ [] }
     {
         CowTable {
-            chunks: Vec::new(alloc),
+            pages: Vec::new(alloc),
             len: 0,
             alloc,
         }
@@ -63,19 +67,19 @@ impl<T> CowTable<T> {
         requires { i < length self.now }
         ensures { slice_get self.now i ≡ Some result.now }
     {
-        item_in(self.chunks.as_slice(), i)
+        item_in(self.pages.as_slice(), i)
     }
 }
 
 impl<T: Drop> CowTable<T> {
-    /// A copy, which shares each chunk until one of its owners writes it; a later change of the
+    /// A copy, which shares each page until one of its owners writes it; a later change of the
     /// table or of the copy leaves the other as it is.
     pub fn copy(&self) -> Result<CowTable<T>, Memory>
         ensures { IfOk result (λ table. table ≡ self.now) }
     {
-        let chunks = shared(&self.chunks)?;
+        let pages = shared(&self.pages)?;
         Ok(CowTable {
-            chunks,
+            pages,
             len: self.len,
             alloc: self.alloc,
         })
@@ -90,7 +94,7 @@ impl<T: Again + Drop> CowTable<T> {
         ensures ok { OnOk result (self.new ≡ slice_set self.old i value) }
         ensures err { OnErr result (self.new ≡ self.old) }
     {
-        set_at(self.chunks.as_mut_slice(), i, value)
+        set_at(self.pages.as_mut_slice(), i, value)
     }
 
     /// Adds `value` at the end; a refusal leaves the table as it was. No copy of the table changes.
@@ -101,7 +105,7 @@ impl<T: Again + Drop> CowTable<T> {
         let Some(len) = self.len.checked_add(1) else {
             return Err(Memory);
         };
-        push_at(&mut self.chunks, self.alloc, self.len, value)?;
+        push_at(&mut self.pages, self.alloc, self.len, value)?;
         self.len = len;
         Ok(())
     }
@@ -118,15 +122,15 @@ impl<T: Again + Send + Sync + Drop> CowTable<T> {
     ) -> Result<CowTable<T>, Memory>
         ensures { IfOk result (λ table. table ≡ replicate count item.now) }
     {
-        let full = count / CHUNK;
-        let parts = (workers as usize).min(full / 4 + 1);
-        let chunks = full_chunks(rt, alloc, parts, full, full + 1, item)?;
+        let full = count / PAGE;
+        let parts = (workers as usize).min(full + 1);
+        let pages = full_pages(rt, alloc, parts, full, full + 1, item)?;
         let mut table = CowTable {
-            chunks,
-            len: full * CHUNK,
+            pages,
+            len: full * PAGE,
             alloc,
         };
-        for at in full * CHUNK..count {
+        for at in full * PAGE..count {
             let _ = at;
             table.push(item.again(alloc)?)?;
         }
@@ -134,7 +138,7 @@ impl<T: Again + Send + Sync + Drop> CowTable<T> {
     }
 
     /// Writes each value at its place, in order, by up to that many threads, each of which writes some
-    /// chunks that stand side by side. A place that is not below the number of items is passed by. Gives
+    /// pages that stand side by side. A place that is not below the number of items is passed by. Gives
     /// back the first error among the values, where there is one; then, or where memory is wanting, what
     /// the items are is not told. No copy of the table changes.
     pub fn put_all<H: Threads + Sync, E: Sync + Drop>(
@@ -149,14 +153,14 @@ impl<T: Again + Send + Sync + Drop> CowTable<T> {
         ensures refused { IfOk result (λ refused. refused ≡ first_refused values.items) }
         ensures ok { IfOk result (λ refused. refused ≡ None → self.new ≡ written 0 self.old places.now values.items) }
     {
-        let parts = (workers as usize).min(places.len() / CHUNK + 1).max(1);
-        let chunks = self.chunks.as_mut_slice();
+        let parts = (workers as usize).min(places.len() / SHARE + 1).max(1);
+        let pages = self.pages.as_mut_slice();
         if parts == 1 {
-            return move_all(self.len, places, values, chunks);
+            return move_all(self.len, places, values, pages);
         }
         let copied = values.as_slice();
         put_parts(
-            rt, self.alloc, parts, parts, self.len, places, copied, chunks,
+            rt, self.alloc, parts, parts, self.len, places, copied, pages,
         )?;
         Ok(first_refused(values))
     }
@@ -168,92 +172,92 @@ impl<T: Drop> Again for CowTable<T> {
     }
 }
 
-/// The same chunks, each with one owner more.
-fn shared<T: Drop>(chunks: &Vec<Arc<Chunk<T>>>) -> Result<Vec<Arc<Chunk<T>>>, Memory>
-    requires { IsCut arc_value chunks.now.items }
-    ensures cut { IfOk result (λ copies. IsCut arc_value copies.items) }
-    ensures items { IfOk result (λ copies. flat_map arc_value copies.items ≡ flat_map arc_value chunks.now.items) }
+/// The same pages, each with one owner more.
+fn shared<T: Drop>(pages: &Vec<Arc<Page<T>>>) -> Result<Vec<Arc<Page<T>>>, Memory>
+    requires { IsCut 4096 arc_value pages.now.items }
+    ensures cut { IfOk result (λ copies. IsCut 4096 arc_value copies.items) }
+    ensures items { IfOk result (λ copies. flat_map arc_value copies.items ≡ flat_map arc_value pages.now.items) }
 {
-    let copies = chunks.clone()?;
+    let copies = pages.clone()?;
     Ok(copies)
 }
 
-/// The item at `i` of the chunks.
-fn item_in<T>(chunks: &[Arc<Chunk<T>>], i: usize) -> &T
-    requires cut { IsCut arc_value chunks.now }
-    requires within { i < length (flat_map arc_value chunks.now) }
-    ensures { slice_get (flat_map arc_value chunks.now) i ≡ Some result.now }
+/// The item at `i` of the pages.
+fn item_in<T>(pages: &[Arc<Page<T>>], i: usize) -> &T
+    requires cut { IsCut 4096 arc_value pages.now }
+    requires within { i < length (flat_map arc_value pages.now) }
+    ensures { slice_get (flat_map arc_value pages.now) i ≡ Some result.now }
 {
-    chunks[i / CHUNK].get(i % CHUNK)
+    pages[i / PAGE].get(i % PAGE)
 }
 
-/// Writes `value` at `i` of the chunks; a refusal leaves the items as they were.
+/// Writes `value` at `i` of the pages; a refusal leaves the items as they were.
 pub(crate) fn set_at<T: Again + Drop>(
-    chunks: &mut [Arc<Chunk<T>>],
+    pages: &mut [Arc<Page<T>>],
     i: usize,
     value: T,
 ) -> Result<(), Memory>
-    requires cut { IsCut arc_value chunks.old }
-    requires within { i < length (flat_map arc_value chunks.old) }
-    ensures cut { IsCut arc_value chunks.new }
-    ensures ok { OnOk result (flat_map arc_value chunks.new ≡ slice_set (flat_map arc_value chunks.old) i value) }
-    ensures err { OnErr result (flat_map arc_value chunks.new ≡ flat_map arc_value chunks.old) }
+    requires cut { IsCut 4096 arc_value pages.old }
+    requires within { i < length (flat_map arc_value pages.old) }
+    ensures cut { IsCut 4096 arc_value pages.new }
+    ensures ok { OnOk result (flat_map arc_value pages.new ≡ slice_set (flat_map arc_value pages.old) i value) }
+    ensures err { OnErr result (flat_map arc_value pages.new ≡ flat_map arc_value pages.old) }
 {
-    set_in(&mut chunks[i / CHUNK], i % CHUNK, value)
+    set_in_page(&mut pages[i / PAGE], i % PAGE, value)
 }
 
-/// Adds `value` after the `len` items of the chunks; a refusal leaves the items as they were.
+/// Adds `value` after the `len` items of the pages; a refusal leaves the items as they were.
 fn push_at<T: Again + Drop>(
-    chunks: &mut Vec<Arc<Chunk<T>>>,
+    pages: &mut Vec<Arc<Page<T>>>,
     alloc: Global,
     len: usize,
     value: T,
 ) -> Result<(), Memory>
-    requires cut { IsCut arc_value chunks.old.items }
-    requires counted { len ≡ length (flat_map arc_value chunks.old.items) }
-    ensures cut { IsCut arc_value chunks.new.items }
-    ensures ok { OnOk result (flat_map arc_value chunks.new.items ≡ flat_map arc_value chunks.old.items ++ value ∷ []) }
-    ensures err { OnErr result (flat_map arc_value chunks.new.items ≡ flat_map arc_value chunks.old.items) }
+    requires cut { IsCut 4096 arc_value pages.old.items }
+    requires counted { len ≡ length (flat_map arc_value pages.old.items) }
+    ensures cut { IsCut 4096 arc_value pages.new.items }
+    ensures ok { OnOk result (flat_map arc_value pages.new.items ≡ flat_map arc_value pages.old.items ++ value ∷ []) }
+    ensures err { OnErr result (flat_map arc_value pages.new.items ≡ flat_map arc_value pages.old.items) }
 {
-    if len / CHUNK < chunks.len() {
-        push_last(chunks.as_mut_slice(), len, value)
+    if len / PAGE < pages.len() {
+        push_last(pages.as_mut_slice(), len, value)
     } else {
-        begin(chunks, alloc, value)
+        begin(pages, alloc, value)
     }
 }
 
-/// Adds `value` to the last chunk, which has room.
+/// Adds `value` to the last page, which has room.
 fn push_last<T: Again + Drop>(
-    chunks: &mut [Arc<Chunk<T>>],
+    pages: &mut [Arc<Page<T>>],
     len: usize,
     value: T,
 ) -> Result<(), Memory>
-    requires cut { IsCut arc_value chunks.old }
-    requires counted { len ≡ length (flat_map arc_value chunks.old) }
-    requires room { len / 256 < length chunks.old }
-    ensures cut { IsCut arc_value chunks.new }
-    ensures ok { OnOk result (flat_map arc_value chunks.new ≡ flat_map arc_value chunks.old ++ value ∷ []) }
-    ensures err { OnErr result (flat_map arc_value chunks.new ≡ flat_map arc_value chunks.old) }
+    requires cut { IsCut 4096 arc_value pages.old }
+    requires counted { len ≡ length (flat_map arc_value pages.old) }
+    requires room { len / 4096 < length pages.old }
+    ensures cut { IsCut 4096 arc_value pages.new }
+    ensures ok { OnOk result (flat_map arc_value pages.new ≡ flat_map arc_value pages.old ++ value ∷ []) }
+    ensures err { OnErr result (flat_map arc_value pages.new ≡ flat_map arc_value pages.old) }
 {
-    push_in(&mut chunks[len / CHUNK], value)
+    push_in_page(&mut pages[len / PAGE], len % PAGE, value)
 }
 
-/// Begins a chunk with `value`, where every chunk is full.
-fn begin<T: Drop>(chunks: &mut Vec<Arc<Chunk<T>>>, alloc: Global, value: T) -> Result<(), Memory>
-    requires cut { IsCut arc_value chunks.old.items }
-    requires full { 256 * length chunks.old.items ≤ length (flat_map arc_value chunks.old.items) }
-    ensures cut { IsCut arc_value chunks.new.items }
-    ensures ok { OnOk result (flat_map arc_value chunks.new.items ≡ flat_map arc_value chunks.old.items ++ value ∷ []) }
-    ensures err { OnErr result (flat_map arc_value chunks.new.items ≡ flat_map arc_value chunks.old.items) }
+/// Begins a page with `value`, where every page is full.
+fn begin<T: Drop>(pages: &mut Vec<Arc<Page<T>>>, alloc: Global, value: T) -> Result<(), Memory>
+    requires cut { IsCut 4096 arc_value pages.old.items }
+    requires full { 4096 * length pages.old.items ≤ length (flat_map arc_value pages.old.items) }
+    ensures cut { IsCut 4096 arc_value pages.new.items }
+    ensures ok { OnOk result (flat_map arc_value pages.new.items ≡ flat_map arc_value pages.old.items ++ value ∷ []) }
+    ensures err { OnErr result (flat_map arc_value pages.new.items ≡ flat_map arc_value pages.old.items) }
 {
-    let chunk = chunk_of(alloc, value)?;
-    chunks.push(chunk).map_err(|_| Memory)
+    let page = page_of(alloc, value)?;
+    pages.push(page).map_err(|_| Memory)
 }
 
-/// A chunk of one item, with one owner.
-fn chunk_of<T: Drop>(alloc: Global, first: T) -> Result<Arc<Chunk<T>>, Memory>
-    ensures { IfOk result (λ chunk. arc_value chunk ≡ first ∷ []) }
+/// A page of one item, with one owner.
+fn page_of<T: Drop>(alloc: Global, first: T) -> Result<Arc<Page<T>>, Memory>
+    ensures { IfOk result (λ page. arc_value page ≡ first ∷ []) }
 {
-    let chunk = Chunk::of(alloc, first)?;
-    Arc::new(alloc, chunk).map_err(|_| Memory)
+    let page = Page::of(alloc, first)?;
+    Arc::new(alloc, page).map_err(|_| Memory)
 }

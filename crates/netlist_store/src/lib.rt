@@ -20,7 +20,7 @@
 //!   the `Inst` and the `NetRc` of the design; beside an `Inst` stand the places of its cell in the
 //!   tables of the libraries, where the cell is looked for first. `net_pins` lists the pins on a net. `pins` has the
 //!   owner, the net and the direction of each pin. Rows are held by `Arc`, so the copy of a chunk
-//!   of 256 rows that a write costs is 256 counts.
+//!   of 64 rows that a write costs is 64 counts.
 //! - `Roll`, one for instances, nets and parasitics: the numbers in the order of the design's lists.
 //!   A new one stands last, and one that goes leaves an empty place, found through the number's
 //!   place. The order is apart from the numbers, so that numbers can be used again while new
@@ -53,7 +53,7 @@
 //! A store is made in time of the design's pins, nets and parasitics; but each name that comes copies
 //! its shard, which has one name in 131,101 (some 2 of 200,000 pins).
 //! Each look-up is one or two steps (a hash of the name, or a place in a table) and takes no memory;
-//! `net_pins` gives a slice. A copy of a store shares all chunks: one count for each 256 rows. An
+//! `net_pins` gives a slice. A copy of a store shares all chunks: one count for each 4,096 rows. An
 //! edit of an instance or a net makes its row anew, in time of its connections; nothing goes over
 //! the design.
 #![tactic(auto)]

@@ -135,7 +135,7 @@ impl Required {
     /// leads to a node whose required times are others: each once and counted as a step, from the highest
     /// level down, each level's nodes shared between that many threads. All other rows are shared with the
     /// base. Gate, rows and faults as `full` has them. Takes time of the nodes evaluated and of the arcs at
-    /// them, and a step for each 256 rows.
+    /// them, and a step for each 4,096 rows.
     pub fn update<H: Threads + Sync, A: Rows + Delayed + Sync, G: Gate, L>(
         &self,
         rt: &H,

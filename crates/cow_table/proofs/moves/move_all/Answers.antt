@@ -18,7 +18,7 @@ loop-value-preserved g c =
       c.move_one.ensures.len,
       more,
       refused_later c.loop-value.value-iterator.rest.items c.next.new.self.rest.items c.in-Some.value c.in-Ok.value c.in-Some.ensures.steps.0 c.in-Ok.is ∙ c.loop-value.invariant.3,
-      moved_step (flat_map arc_value c.loop-value.chunks) (flat_map arc_value c.move_one.new.chunks) c.args.places.now c.loop-value.value-iterator.rest.items c.next.new.self.rest.items
+      moved_step (flat_map arc_value c.loop-value.pages) (flat_map arc_value c.move_one.new.pages) c.args.places.now c.loop-value.value-iterator.rest.items c.next.new.self.rest.items
           c.loop-value.at (slice_index_or c.args.places.now c.loop-value.at 0) c.in-Some.value c.in-Ok.value c.in-Some.ensures.steps.0 c.in-Ok.is low
           (get_or_default c.args.places.now c.loop-value.at 0 _ low) c.in_ok-move_one-in-Ok.ensures.ok
           ∙ c.loop-value.invariant.4,
@@ -37,5 +37,5 @@ pub returns-clause-ok : goal.returns-clause-ok
 returns-clause-ok g c _ =
     let was = c.loop-value.invariant.5 in
     let none = c.in-None.ensures.steps.0 in
-    moved_end (flat_map arc_value c.loop-value.chunks) _ c.loop-value.value-iterator.rest.items c.args.places.now c.loop-value.at (omega (arith, was, none))
+    moved_end (flat_map arc_value c.loop-value.pages) _ c.loop-value.value-iterator.rest.items c.args.places.now c.loop-value.at (omega (arith, was, none))
     c.loop-value.invariant.2 c.loop-value.invariant.4

@@ -5,7 +5,7 @@ use Rattle.cow_table.proofs.writes.+parts.Goals as goal
 
 pub put_parts-overflow_mul-at : goal.put_parts-overflow_mul-at
 put_parts-overflow_mul-at g t c =
-    let parts = parts_of arc_value c.args.chunks.now c.split_at_mut-front.result.0.now c.split_at_mut-front.result.1.now c.last_part-at.result c.args.count
+    let parts = parts_of arc_value c.args.pages.now c.split_at_mut-front.result.0.now c.split_at_mut-front.result.1.now c.last_part-at.result c.args.count
     c.split_at_mut-front.ensures.value c.split_at_mut-front.ensures.front_len c.last_part-at.ensures c.requires.cut c.requires.counted in
     let fits = c.ranges.count in
     let most = parts.within in
@@ -16,27 +16,27 @@ put_parts-overflow_mul-at-2 g t c = put_parts-overflow_mul-at g t c
 
 pub put_parts-overflow_sub-count : goal.put_parts-overflow_sub-count
 put_parts-overflow_sub-count g t c =
-    (parts_of arc_value c.args.chunks.now c.split_at_mut-front.result.0.now c.split_at_mut-front.result.1.now c.last_part-at.result c.args.count
+    (parts_of arc_value c.args.pages.now c.split_at_mut-front.result.0.now c.split_at_mut-front.result.1.now c.last_part-at.result c.args.count
     c.split_at_mut-front.ensures.value c.split_at_mut-front.ensures.front_len c.last_part-at.ensures c.requires.cut c.requires.counted).within
 
 pub put_parts-put_both-requires-clause-front_cut : goal.put_parts-put_both-requires-clause-front_cut
 put_parts-put_both-requires-clause-front_cut g t c κs within =
-    (parts_of arc_value c.args.chunks.now c.split_at_mut-front.result.0.now c.split_at_mut-front.result.1.now c.last_part-at.result c.args.count
+    (parts_of arc_value c.args.pages.now c.split_at_mut-front.result.0.now c.split_at_mut-front.result.1.now c.last_part-at.result c.args.count
     c.split_at_mut-front.ensures.value c.split_at_mut-front.ensures.front_len c.last_part-at.ensures c.requires.cut c.requires.counted).front_cut
 
 pub put_parts-put_both-requires-clause-back_cut : goal.put_parts-put_both-requires-clause-back_cut
 put_parts-put_both-requires-clause-back_cut g t c κs within =
-    (parts_of arc_value c.args.chunks.now c.split_at_mut-front.result.0.now c.split_at_mut-front.result.1.now c.last_part-at.result c.args.count
+    (parts_of arc_value c.args.pages.now c.split_at_mut-front.result.0.now c.split_at_mut-front.result.1.now c.last_part-at.result c.args.count
     c.split_at_mut-front.ensures.value c.split_at_mut-front.ensures.front_len c.last_part-at.ensures c.requires.cut c.requires.counted).back_cut
 
 pub put_parts-put_both-requires-clause-before : goal.put_parts-put_both-requires-clause-before
 put_parts-put_both-requires-clause-before g t c κs within =
-    (parts_of arc_value c.args.chunks.now c.split_at_mut-front.result.0.now c.split_at_mut-front.result.1.now c.last_part-at.result c.args.count
+    (parts_of arc_value c.args.pages.now c.split_at_mut-front.result.0.now c.split_at_mut-front.result.1.now c.last_part-at.result c.args.count
     c.split_at_mut-front.ensures.value c.split_at_mut-front.ensures.front_len c.last_part-at.ensures c.requires.cut c.requires.counted).before
 
 pub put_parts-put_both-requires-clause-behind : goal.put_parts-put_both-requires-clause-behind
 put_parts-put_both-requires-clause-behind g t c κs within =
-    (parts_of arc_value c.args.chunks.now c.split_at_mut-front.result.0.now c.split_at_mut-front.result.1.now c.last_part-at.result c.args.count
+    (parts_of arc_value c.args.pages.now c.split_at_mut-front.result.0.now c.split_at_mut-front.result.1.now c.last_part-at.result c.args.count
     c.split_at_mut-front.ensures.value c.split_at_mut-front.ensures.front_len c.last_part-at.ensures c.requires.cut c.requires.counted).behind
 
 pub put_parts-returns-clause-cut : goal.put_parts-returns-clause-cut
@@ -46,13 +46,13 @@ put_parts-returns-clause-cut g t c =
 
 pub put_parts-returns-clause-len : goal.put_parts-returns-clause-len
 put_parts-returns-clause-len g t c =
-    let parts = parts_of arc_value c.args.chunks.now c.split_at_mut-front.result.0.now c.split_at_mut-front.result.1.now c.last_part-at.result c.args.count
+    let parts = parts_of arc_value c.args.pages.now c.split_at_mut-front.result.0.now c.split_at_mut-front.result.1.now c.last_part-at.result c.args.count
     c.split_at_mut-front.ensures.value c.split_at_mut-front.ensures.front_len c.last_part-at.ensures c.requires.cut c.requires.counted in
     both_long arc_value c.put_both.new.front c.put_both.new.back _ _ c.args.count c.put_both.ensures.before c.put_both.ensures.behind (omega (arith, parts.within))
 
 pub put_parts-returns-clause-ok : goal.put_parts-returns-clause-ok
 put_parts-returns-clause-ok g t c =
-    let parts = parts_of arc_value c.args.chunks.now c.split_at_mut-front.result.0.now c.split_at_mut-front.result.1.now c.last_part-at.result c.args.count
+    let parts = parts_of arc_value c.args.pages.now c.split_at_mut-front.result.0.now c.split_at_mut-front.result.1.now c.last_part-at.result c.args.count
     c.split_at_mut-front.ensures.value c.split_at_mut-front.ensures.front_len c.last_part-at.ensures c.requires.cut c.requires.counted in
-    both_written arc_value c.put_both.result c.args.chunks.now c.split_at_mut-front.result.0.now c.split_at_mut-front.result.1.now c.put_both.new.front c.put_both.new.back
+    both_written arc_value c.put_both.result c.args.pages.now c.split_at_mut-front.result.0.now c.split_at_mut-front.result.1.now c.put_both.new.front c.put_both.new.back
     _ c.args.places.now c.args.values.now c.split_at_mut-front.ensures.value parts.before c.put_both.ensures.front c.put_both.ensures.back

@@ -6,7 +6,7 @@ use Rattle.cow_table.proofs.writes.put_one.Goals as goal
 
 pub returns-in_ok-again-in-Ok-clause-ok : goal.returns-in_ok-again-in-Ok-clause-ok
 returns-in_ok-again-in-Ok-clause-ok g c =
-    let items = flat_map arc_value c.args.chunks.now in
+    let items = flat_map arc_value c.args.pages.now in
     let copied = ap (λ v. set items (c.args.place - c.args.first) v) c.in_ok-again-in-Ok.ensures in
     let there = at_place c.args.first items c.args.place c.args.value.now c.in-Ok.value c.in-Ok.is c.if-first-place.true in
     on_ok_weaker c.set_at.result (λ h. h ∙ copied ∙ there) c.set_at.ensures.ok

@@ -6,7 +6,7 @@ use Rattle.cow_table.proofs.writes.put_within.Goals as goal
 
 pub loop-at-preserved : goal.loop-at-preserved
 loop-at-preserved g c =
-    let step = written_step c.args.first (flat_map arc_value c.loop-at.chunks) (flat_map arc_value c.put_one.new.chunks) c.args.places.now c.args.values.now c.loop-at.at
+    let step = written_step c.args.first (flat_map arc_value c.loop-at.pages) (flat_map arc_value c.put_one.new.pages) c.args.places.now c.args.values.now c.loop-at.at
     (slice_index_or c.args.places.now c.loop-at.at 0) c.index-values-at.result c.loop-at-test.true c.requires.same (get_or_default c.args.places.now c.loop-at.at 0 _ c.loop-at-test.true) c.index-values-at.is c.in_ok-put_one.ensures.ok in
     (c.put_one.ensures.cut, c.put_one.ensures.len, step ∙ c.loop-at.invariant.2)
 

@@ -6,7 +6,7 @@ use Rattle.cow_table.proofs.writes.put_within.Given as goal
 
 abbrev pub invariant-loop-at : goal.invariant-loop-at
 invariant-loop-at g l =
-    IsCut arc_value l.chunks
-    × (length (flat_map arc_value l.chunks) ≡ l.count)
-    × (written l.first (flat_map arc_value l.chunks) (drop l.at l.places) (drop l.at l.values)
-    ≡ written l.first (flat_map arc_value l.fn.chunks) l.places l.values)
+    IsCut 4096 arc_value l.pages
+    × (length (flat_map arc_value l.pages) ≡ l.count)
+    × (written l.first (flat_map arc_value l.pages) (drop l.at l.places) (drop l.at l.values)
+    ≡ written l.first (flat_map arc_value l.fn.pages) l.places l.values)
