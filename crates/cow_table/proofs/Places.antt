@@ -1,4 +1,4 @@
--- Where the items of a list stand that is kept in pieces of 64.
+-- Where the items of a list stand that is kept in pieces of one size.
 use Rattle.std.specs.Prelude.{◌≡◌, ℕ, zero, suc, ◌+◌, ◌*◌, ◌-◌, ◌/◌, ◌%◌, ◌<◌, ◌≤◌, List, [], ◌∷◌, ◌++◌, length, set, get_or, Result, Ok, Err, Bool, true, false, cond, refl}
 use Rattle.std.specs.List.{flat_map, slice_get, AllZip}
 use Rattle.std.specs.Result.{OnOk, OnErr}
@@ -23,13 +23,13 @@ both : {T E P : Type 0} (r : Result T E) → OnOk r P → OnErr r P → P
 both (Ok x) p q = p
 both (Err e) p q = q
 
-module _ {X A : Type 0} (f : X → List A) where
-  cut-cons : (x : X) (xs : List X) → length (f x) ≡ 64 → IsCut 64 f xs → IsCut 64 f (x ∷ xs)
+module _ (size : ℕ) (some : 0 < size) {X A : Type 0} (f : X → List A) where
+  cut-cons : (x : X) (xs : List X) → length (f x) ≡ size → IsCut size f xs → IsCut size f (x ∷ xs)
   cut-cons x [] full cut = (omega arith, omega arith)
   cut-cons x (y ∷ ys) full cut = (full, cut)
 
   -- the j-th item of the k-th piece is there
-  held : (xs : List X) (k j : ℕ) → IsCut 64 f xs → j < 64 → 64 * k + j < length (flat_map f xs)
+  held : (xs : List X) (k j : ℕ) → IsCut size f xs → j < size → size * k + j < length (flat_map f xs)
       → (k < length xs) × ((x : X) → x ≡ get_or xs k x → j < length (f x))
   held [] k j cut low within = absurd (omega arith)
   held (a ∷ []) zero j cut low within =
@@ -44,34 +44,34 @@ module _ {X A : Type 0} (f : X → List A) where
       let rest = held (b ∷ bs) k j cut.1 low (omega (arith, cut.0, length-append (f a) (flat_map f (b ∷ bs)))) in
       (omega (arith, rest.0), rest.1)
 
-  item : (xs : List X) (k j : ℕ) (x : X) → IsCut 64 f xs → k < length xs → j < length (f x) → x ≡ get_or xs k x
-      → slice_get (flat_map f xs) (64 * k + j) ≡ slice_get (f x) j
+  item : (xs : List X) (k j : ℕ) (x : X) → IsCut size f xs → k < length xs → j < length (f x) → x ≡ get_or xs k x
+      → slice_get (flat_map f xs) (size * k + j) ≡ slice_get (f x) j
   item [] k j x cut low inside e = absurd (omega arith)
   item (a ∷ as1) zero j x cut low inside e =
-      let here : 64 * 0 + j ≡ j = omega arith in
+      let here : size * 0 + j ≡ j = omega arith in
       let near : j < length (f a) = subst (λ (y : X). j < length (f y)) e inside in
       ap (λ n. slice_get (f a ++ flat_map f as1) n) here ∙ get_left (f a) (flat_map f as1) j near ∙ ap (λ (y : X). slice_get (f y) j) (sym e)
   item (a ∷ []) (suc k) j x cut low inside e = absurd (omega arith)
   item (a ∷ b ∷ bs) (suc k) j x cut low inside e =
-      get_right (f a) (flat_map f (b ∷ bs)) (64 * suc k + j) (64 * k + j) (omega (arith, cut.0)) ∙ item (b ∷ bs) k j x cut.1 (omega arith) inside e
+      get_right (f a) (flat_map f (b ∷ bs)) (size * suc k + j) (size * k + j) (omega (arith, cut.0)) ∙ item (b ∷ bs) k j x cut.1 (omega arith) inside e
 
   -- one item is written
-  put : (xs : List X) (k j : ℕ) (x y : X) (v : A) → IsCut 64 f xs → k < length xs → j < length (f x) → x ≡ get_or xs k x → f y ≡ set (f x) j v
-      → flat_map f (set xs k y) ≡ set (flat_map f xs) (64 * k + j) v
+  put : (xs : List X) (k j : ℕ) (x y : X) (v : A) → IsCut size f xs → k < length xs → j < length (f x) → x ≡ get_or xs k x → f y ≡ set (f x) j v
+      → flat_map f (set xs k y) ≡ set (flat_map f xs) (size * k + j) v
   put [] k j x y v cut low inside e new = absurd (omega arith)
   put (a ∷ as1) zero j x y v cut low inside e new =
-      let here : j ≡ 64 * 0 + j = omega arith in
+      let here : j ≡ size * 0 + j = omega arith in
       let near : j < length (f a) = subst (λ (y : X). j < length (f y)) e inside in
       let from : f y ≡ set (f a) j v = new ∙ ap (λ (z : X). set (f z) j v) e in
       ap (λ l. l ++ flat_map f as1) from ∙ sym (set-append_left (f a) (flat_map f as1) j v near) ∙ ap (λ n. set (f a ++ flat_map f as1) n v) here
   put (a ∷ []) (suc k) j x y v cut low inside e new = absurd (omega arith)
   put (a ∷ b ∷ bs) (suc k) j x y v cut low inside e new =
-      let at : 64 * k + j ≡ 64 * suc k + j - 64 = omega arith in
+      let at : size * k + j ≡ size * suc k + j - size = omega arith in
       ap (λ l. f a ++ l) (put (b ∷ bs) k j x y v cut.1 (omega arith) inside e new ∙ ap (λ n. set (flat_map f (b ∷ bs)) n v) at)
-      ∙ sym (set-append_right (f a) (flat_map f (b ∷ bs)) 64 (64 * suc k + j) v cut.0 (omega arith))
+      ∙ sym (set-append_right (f a) (flat_map f (b ∷ bs)) size (size * suc k + j) v cut.0 (omega arith))
 
   -- a piece gives way to one that is as long
-  put_cut : (xs : List X) (k : ℕ) (x y : X) → IsCut 64 f xs → x ≡ get_or xs k x → length (f y) ≡ length (f x) → IsCut 64 f (set xs k y)
+  put_cut : (xs : List X) (k : ℕ) (x y : X) → IsCut size f xs → x ≡ get_or xs k x → length (f y) ≡ length (f x) → IsCut size f (set xs k y)
   put_cut [] k x y cut e same = tt
   put_cut (a ∷ []) zero x y cut e same =
       let long : length (f y) ≡ length (f a) = same ∙ ap (λ (z : X). length (f z)) e in
@@ -89,8 +89,8 @@ module _ {X A : Type 0} (f : X → List A) where
   kept (a ∷ as1) (suc k) x y e same = ap (λ l. f a ++ l) (kept as1 k x y e same)
 
   -- the last piece gets one item more
-  grown : (xs : List X) (k : ℕ) (x y : X) (v : A) → IsCut 64 f xs → k < length xs → length (flat_map f xs) < 64 * k + 64 → x ≡ get_or xs k x → f y ≡ f x ++ v ∷ []
-      → IsCut 64 f (set xs k y) × (flat_map f (set xs k y) ≡ flat_map f xs ++ v ∷ [])
+  grown : (xs : List X) (k : ℕ) (x y : X) (v : A) → IsCut size f xs → k < length xs → length (flat_map f xs) < size * k + size → x ≡ get_or xs k x → f y ≡ f x ++ v ∷ []
+      → IsCut size f (set xs k y) × (flat_map f (set xs k y) ≡ flat_map f xs ++ v ∷ [])
   grown [] k x y v cut low room e new = absurd (omega arith)
   grown (a ∷ []) zero x y v cut low room e new =
       let from : f y ≡ f a ++ v ∷ [] = new ∙ ap (λ (z : X). f z ++ v ∷ []) e in
@@ -104,8 +104,8 @@ module _ {X A : Type 0} (f : X → List A) where
       (cut-cons a (set (b ∷ bs) k y) cut.0 rest.0, ap (λ l. f a ++ l) rest.1 ∙ sym (append_assoc (f a) (flat_map f (b ∷ bs)) (v ∷ [])))
 
   -- where every piece is full, one item more begins a piece
-  begun : (xs : List X) (y : X) (v : A) → IsCut 64 f xs → 64 * length xs ≤ length (flat_map f xs) → f y ≡ v ∷ []
-      → IsCut 64 f (xs ++ y ∷ []) × (flat_map f (xs ++ y ∷ []) ≡ flat_map f xs ++ v ∷ [])
+  begun : (xs : List X) (y : X) (v : A) → IsCut size f xs → size * length xs ≤ length (flat_map f xs) → f y ≡ v ∷ []
+      → IsCut size f (xs ++ y ∷ []) × (flat_map f (xs ++ y ∷ []) ≡ flat_map f xs ++ v ∷ [])
   begun [] y v cut full new =
       let long : length (f y) ≡ 1 = ap length new in
       ((omega (arith, long), omega (arith, long)), append-nil (f y) ∙ new)
@@ -120,44 +120,59 @@ module _ {X A : Type 0} (f : X → List A) where
       ((cut.0, rest.0), ap (λ l. f a ++ l) rest.1 ∙ sym (append_assoc (f a) (flat_map f (b ∷ bs)) (v ∷ [])))
 
   -- the same by the place in the whole list
-  pub in_bounds : (xs : List X) (i : ℕ) → IsCut 64 f xs → i < length (flat_map f xs) → i / 64 < length xs
-  in_bounds xs i cut within = (held xs (i / 64) (i % 64) cut (mod-lt i (omega arith)) (omega (arith, div-add-mod i 64))).0
+  pub in_bounds : (xs : List X) (i : ℕ) → IsCut size f xs → i < length (flat_map f xs) → i / size < length xs
+  in_bounds xs i cut within = (held xs (i / size) (i % size) cut (mod-lt i some) (omega (arith, div-add-mod i size))).0
 
-  pub in_piece : (xs : List X) (i : ℕ) (x : X) → IsCut 64 f xs → i < length (flat_map f xs) → x ≡ get_or xs (i / 64) x → i % 64 < length (f x)
-  in_piece xs i x cut within e = (held xs (i / 64) (i % 64) cut (mod-lt i (omega arith)) (omega (arith, div-add-mod i 64))).1 x e
+  pub in_piece : (xs : List X) (i : ℕ) (x : X) → IsCut size f xs → i < length (flat_map f xs) → x ≡ get_or xs (i / size) x → i % size < length (f x)
+  in_piece xs i x cut within e = (held xs (i / size) (i % size) cut (mod-lt i some) (omega (arith, div-add-mod i size))).1 x e
 
-  pub item_at : (xs : List X) (i : ℕ) (x : X) → IsCut 64 f xs → i < length (flat_map f xs) → x ≡ get_or xs (i / 64) x
-      → slice_get (flat_map f xs) i ≡ slice_get (f x) (i % 64)
+  pub item_at : (xs : List X) (i : ℕ) (x : X) → IsCut size f xs → i < length (flat_map f xs) → x ≡ get_or xs (i / size) x
+      → slice_get (flat_map f xs) i ≡ slice_get (f x) (i % size)
   item_at xs i x cut within e =
-      ap (λ n. slice_get (flat_map f xs) n) (sym (div-add-mod i 64))
-      ∙ item xs (i / 64) (i % 64) x cut (in_bounds xs i cut within) (in_piece xs i x cut within e) e
+      ap (λ n. slice_get (flat_map f xs) n) (sym (div-add-mod i size))
+      ∙ item xs (i / size) (i % size) x cut (in_bounds xs i cut within) (in_piece xs i x cut within e) e
 
-  put_at : (xs : List X) (i : ℕ) (x y : X) (v : A) → IsCut 64 f xs → i < length (flat_map f xs) → x ≡ get_or xs (i / 64) x → f y ≡ set (f x) (i % 64) v
-      → IsCut 64 f (set xs (i / 64) y) × (flat_map f (set xs (i / 64) y) ≡ set (flat_map f xs) i v)
+  put_at : (xs : List X) (i : ℕ) (x y : X) (v : A) → IsCut size f xs → i < length (flat_map f xs) → x ≡ get_or xs (i / size) x → f y ≡ set (f x) (i % size) v
+      → IsCut size f (set xs (i / size) y) × (flat_map f (set xs (i / size) y) ≡ set (flat_map f xs) i v)
   put_at xs i x y v cut within e new = (
-    put_cut xs (i / 64) x y cut e (ap length new ∙ length-set (f x) (i % 64) v),
-    put xs (i / 64) (i % 64) x y v cut (in_bounds xs i cut within) (in_piece xs i x cut within e) e new
-        ∙ ap (λ n. set (flat_map f xs) n v) (div-add-mod i 64),
+    put_cut xs (i / size) x y cut e (ap length new ∙ length-set (f x) (i % size) v),
+    put xs (i / size) (i % size) x y v cut (in_bounds xs i cut within) (in_piece xs i x cut within e) e new
+        ∙ ap (λ n. set (flat_map f xs) n v) (div-add-mod i size),
   )
 
-  kept_at : (xs : List X) (k : ℕ) (x y : X) → IsCut 64 f xs → x ≡ get_or xs k x → f y ≡ f x
-      → IsCut 64 f (set xs k y) × (flat_map f (set xs k y) ≡ flat_map f xs)
+  kept_at : (xs : List X) (k : ℕ) (x y : X) → IsCut size f xs → x ≡ get_or xs k x → f y ≡ f x
+      → IsCut size f (set xs k y) × (flat_map f (set xs k y) ≡ flat_map f xs)
   kept_at xs k x y cut e same = (put_cut xs k x y cut e (ap length same), kept xs k x y e same)
 
-  grown_at : (xs : List X) (n : ℕ) (x y : X) (v : A) → IsCut 64 f xs → n ≡ length (flat_map f xs) → n / 64 < length xs → x ≡ get_or xs (n / 64) x → f y ≡ f x ++ v ∷ []
-      → IsCut 64 f (set xs (n / 64) y) × (flat_map f (set xs (n / 64) y) ≡ flat_map f xs ++ v ∷ [])
+  grown_at : (xs : List X) (n : ℕ) (x y : X) (v : A) → IsCut size f xs → n ≡ length (flat_map f xs) → n / size < length xs → x ≡ get_or xs (n / size) x → f y ≡ f x ++ v ∷ []
+      → IsCut size f (set xs (n / size) y) × (flat_map f (set xs (n / size) y) ≡ flat_map f xs ++ v ∷ [])
   grown_at xs n x y v cut counted low e new =
-      let part : n % 64 < 64 = mod-lt n (omega arith) in
-      grown xs (n / 64) x y v cut low (omega (arith, counted, part, div-add-mod n 64)) e new
+      let part : n % size < size = mod-lt n some in
+      grown xs (n / size) x y v cut low (omega (arith, counted, part, div-add-mod n size)) e new
+
+  -- the last piece has what the others leave
+  last : (xs : List X) (k j : ℕ) (x : X) → IsCut size f xs → j < size → size * k + j ≡ length (flat_map f xs) → k < length xs → x ≡ get_or xs k x → j ≡ length (f x)
+  last [] k j x cut low counted within e = absurd (omega arith)
+  last (a ∷ []) zero j x cut low counted within e =
+      let short : length (f a ++ []) ≡ length (f a) = ap length (append-nil (f a)) in
+      let same : length (f x) ≡ length (f a) = ap (λ (y : X). length (f y)) e in
+      omega (arith, short, counted, same)
+  last (a ∷ []) (suc k) j x cut low counted within e = absurd (omega arith)
+  last (a ∷ b ∷ bs) zero j x cut low counted within e = absurd (omega (arith, cut.0, low, counted, length-append (f a) (flat_map f (b ∷ bs))))
+  last (a ∷ b ∷ bs) (suc k) j x cut low counted within e =
+      last (b ∷ bs) k j x cut.1 low (omega (arith, cut.0, counted, length-append (f a) (flat_map f (b ∷ bs)))) (omega (arith, within)) e
+
+  pub last_at : (xs : List X) (n : ℕ) (x : X) → IsCut size f xs → n ≡ length (flat_map f xs) → n / size < length xs → x ≡ get_or xs (n / size) x → n % size ≡ length (f x)
+  last_at xs n x cut counted low e = last xs (n / size) (n % size) x cut (mod-lt n some) (omega (arith, counted, div-add-mod n size)) low e
 
   -- the pieces after a push that may be refused
-  pub begun_or_kept : (xs ys : List X) (y : X) (v : A) (b : Bool) → IsCut 64 f xs → 64 * length xs ≤ length (flat_map f xs) → f y ≡ v ∷ []
-      → ys ≡ cond b (xs ++ y ∷ []) xs → IsCut 64 f ys
-  begun_or_kept xs ys y v true cut full new e = subst (IsCut 64 f) (sym e) (begun xs y v cut full new).0
-  begun_or_kept xs ys y v false cut full new e = subst (IsCut 64 f) (sym e) cut
+  pub begun_or_kept : (xs ys : List X) (y : X) (v : A) (b : Bool) → IsCut size f xs → size * length xs ≤ length (flat_map f xs) → f y ≡ v ∷ []
+      → ys ≡ cond b (xs ++ y ∷ []) xs → IsCut size f ys
+  begun_or_kept xs ys y v true cut full new e = subst (IsCut size f) (sym e) (begun xs y v cut full new).0
+  begun_or_kept xs ys y v false cut full new e = subst (IsCut size f) (sym e) cut
 
   -- copies of the pieces keep the items
-  pub copied : (xs ys : List X) → AllZip (λ x y. f y ≡ f x) xs ys → IsCut 64 f xs → IsCut 64 f ys × (flat_map f ys ≡ flat_map f xs)
+  pub copied : (xs ys : List X) → AllZip (λ x y. f y ≡ f x) xs ys → IsCut size f xs → IsCut size f ys × (flat_map f ys ≡ flat_map f xs)
   copied [] [] z cut = (tt, refl)
   copied [] (y ∷ ys) z cut = absurd z
   copied (x ∷ xs) [] z cut = absurd z
@@ -171,26 +186,26 @@ module _ {X A : Type 0} (f : X → List A) where
 
   -- the pieces and their items after a write that may be refused
   pub record IsWritten {T E : Type 0} (r : Result T E) (xs ys : List X) (items : List A) : Type 0 where
-    pub cut : IsCut 64 f ys
+    pub cut : IsCut size f ys
     pub ok : OnOk r (flat_map f ys ≡ items)
     pub err : OnErr r (flat_map f ys ≡ flat_map f xs)
 
-  pub set_or_kept : {T E : Type 0} (r : Result T E) (xs : List X) (i : ℕ) (x y : X) (v : A) → IsCut 64 f xs → i < length (flat_map f xs) → x ≡ get_or xs (i / 64) x
-      → OnOk r (f y ≡ set (f x) (i % 64) v) → OnErr r (f y ≡ f x) → IsWritten r xs (set xs (i / 64) y) (set (flat_map f xs) i v)
+  pub set_or_kept : {T E : Type 0} (r : Result T E) (xs : List X) (i : ℕ) (x y : X) (v : A) → IsCut size f xs → i < length (flat_map f xs) → x ≡ get_or xs (i / size) x
+      → OnOk r (f y ≡ set (f x) (i % size) v) → OnErr r (f y ≡ f x) → IsWritten r xs (set xs (i / size) y) (set (flat_map f xs) i v)
   set_or_kept r xs i x y v cut within e ok err =
-      let new = λ (h : f y ≡ set (f x) (i % 64) v). put_at xs i x y v cut within e h in
-      let same = λ (h : f y ≡ f x). kept_at xs (i / 64) x y cut e h in
+      let new = λ (h : f y ≡ set (f x) (i % size) v). put_at xs i x y v cut within e h in
+      let same = λ (h : f y ≡ f x). kept_at xs (i / size) x y cut e h in
       record {
         cut = both r (on_ok_weaker r (λ h. (new h).0) ok) (on_err_weaker r (λ h. (same h).0) err);
         ok = on_ok_weaker r (λ h. (new h).1) ok;
         err = on_err_weaker r (λ h. (same h).1) err;
       }
 
-  pub grown_or_kept : {T E : Type 0} (r : Result T E) (xs : List X) (n : ℕ) (x y : X) (v : A) → IsCut 64 f xs → n ≡ length (flat_map f xs) → n / 64 < length xs → x ≡ get_or xs (n / 64) x
-      → OnOk r (f y ≡ f x ++ v ∷ []) → OnErr r (f y ≡ f x) → IsWritten r xs (set xs (n / 64) y) (flat_map f xs ++ v ∷ [])
+  pub grown_or_kept : {T E : Type 0} (r : Result T E) (xs : List X) (n : ℕ) (x y : X) (v : A) → IsCut size f xs → n ≡ length (flat_map f xs) → n / size < length xs → x ≡ get_or xs (n / size) x
+      → OnOk r (f y ≡ f x ++ v ∷ []) → OnErr r (f y ≡ f x) → IsWritten r xs (set xs (n / size) y) (flat_map f xs ++ v ∷ [])
   grown_or_kept r xs n x y v cut counted room e ok err =
       let new = λ (h : f y ≡ f x ++ v ∷ []). grown_at xs n x y v cut counted room e h in
-      let same = λ (h : f y ≡ f x). kept_at xs (n / 64) x y cut e h in
+      let same = λ (h : f y ≡ f x). kept_at xs (n / size) x y cut e h in
       record {
         cut = both r (on_ok_weaker r (λ h. (new h).0) ok) (on_err_weaker r (λ h. (same h).0) err);
         ok = on_ok_weaker r (λ h. (new h).1) ok;

@@ -48,11 +48,7 @@ fn item_in<T>(chunks: &[Arc<Chunk<T>>], at: usize) -> &T
 }
 
 /// Writes `value` at `at` of the chunks; a refusal leaves the items as they were.
-fn set_at<T: Again + Drop>(
-    chunks: &mut [Arc<Chunk<T>>],
-    at: usize,
-    value: T,
-) -> Result<(), Memory>
+fn set_at<T: Again + Drop>(chunks: &mut [Arc<Chunk<T>>], at: usize, value: T) -> Result<(), Memory>
     requires cut { IsCut 64 arc_value chunks.old }
     requires within { at < length (flat_map arc_value chunks.old) }
     ensures cut { IsCut 64 arc_value chunks.new }

@@ -53,7 +53,7 @@
 //! A store is made in time of the design's pins, nets and parasitics; but each name that comes copies
 //! its shard, which has one name in 131,101 (some 2 of 200,000 pins).
 //! Each look-up is one or two steps (a hash of the name, or a place in a table) and takes no memory;
-//! `net_pins` gives a slice. A copy of a store shares all chunks: one count for each 4,096 rows. An
+//! `net_pins` gives a slice. A copy of a store shares all pages: one count for each 4,096 rows. An
 //! edit of an instance or a net makes its row anew, in time of its connections; nothing goes over
 //! the design.
 #![tactic(auto)]

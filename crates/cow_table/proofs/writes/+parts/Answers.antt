@@ -1,4 +1,4 @@
-use Rattle.std.proofs.Common.{rules, arith, ap, ◌∙◌, sym, flat_map, length, ◌*◌, ◌≤◌, ◌≡◌}
+use Rattle.std.proofs.Common.{rules, arith, ◌∙◌, length, ◌≡◌}
 use Rattle.std.specs.Arc.{arc_value}
 use Rattle.cow_table.proofs.Parts.{parts_of, joined, both_written, both_long}
 use Rattle.cow_table.proofs.writes.+parts.Goals as goal

@@ -1,4 +1,4 @@
-use Rattle.std.proofs.Common.{ap, slice_index_or, flat_map, ◌∙◌}
+use Rattle.std.proofs.Common.{slice_index_or, flat_map, ◌∙◌}
 use Rattle.std.specs.Arc.{arc_value}
 use Rattle.std.proofs.lemmas.List.{get_or_default}
 use Rattle.cow_table.proofs.Writing.{written_step, written_end}
