@@ -287,6 +287,7 @@ fn with_arrivals<H: Threads + Sync, G: Gate, L>(
     store: &Store,
     graph: &Graph,
     touched: &Touched,
+    reach: &Reach,
     arrivals: Arrivals,
     workers: u32,
     gate: &G,
@@ -298,6 +299,7 @@ fn with_arrivals<H: Threads + Sync, G: Gate, L>(
     requires graph { graph.now.stored ≡ store.now }
     requires base { IsBase base.now }
     requires made { IsEditOf base.now.graph.now.stored (touch_of touched.now) store.now }
+    requires reach { IsReach base.now.graph.now.stored graph.now (touch_of touched.now) reach.now }
     requires arrivals { AreArrivals store.now arrivals }
     requires fine { AreRowsFine store.now.design }
     ensures found { IfOk result (IsFound store.now graph.now) }
@@ -305,12 +307,11 @@ fn with_arrivals<H: Threads + Sync, G: Gate, L>(
     ensures steps { steps.new ≤ steps.old + backward_count base.now.graph.now.stored.design store.now.design (touch_of touched.now) }
     ensures refused { IfErr result (IsRangeFault store.now.design) }
 {
-    let reach = reach_of(alloc, base.graph, graph, touched)?;
     let required = required_after(
-        rt, alloc, base, store, graph, touched, &arrivals, &reach, workers, gate, steps,
+        rt, alloc, base, store, graph, touched, &arrivals, reach, workers, gate, steps,
     )?;
     let found = with_required(
-        rt, alloc, base, store, graph, touched, &reach, arrivals, required,
+        rt, alloc, base, store, graph, touched, reach, arrivals, required,
     )?;
     Ok(found)
 }
@@ -339,10 +340,12 @@ pub(crate) fn find_after<H: Threads + Sync, G: Gate, L>(
     ensures steps { steps.new ≤ steps.old + forward_count base.now.graph.now.stored.design store.now.design (touch_of touched.now) + backward_count base.now.graph.now.stored.design store.now.design (touch_of touched.now) }
     ensures refused { IfErr result (IsRangeFault store.now.design) }
 {
-    let arrivals = base.arrivals.update(
-        rt, alloc, base.graph, store, graph, touched, workers, gate, steps,
+    let reach = reach_of(alloc, base.graph, graph, touched)?;
+    let seeds = reach.seeds.as_slice();
+    let arrivals = base.arrivals.update_from(
+        rt, alloc, base.graph, store, graph, touched, seeds, workers, gate, steps,
     )?;
     with_arrivals(
-        rt, alloc, base, store, graph, touched, arrivals, workers, gate, steps,
+        rt, alloc, base, store, graph, touched, &reach, arrivals, workers, gate, steps,
     )
 }

@@ -393,6 +393,7 @@ impl Arrivals {
         gate: &G,
         steps: &mut Steps<L>,
         wires: &Wires,
+        seeds: &[u32],
     ) -> Result<Renewed, Fault>
         requires some { 1 ≤ workers }
         requires most { workers ≤ 32 }
@@ -400,13 +401,13 @@ impl Arrivals {
         requires made { IsEditOf base.now.stored (record { insts = touched.now.insts; nets = touched.now.nets }) store.now }
         requires was { AreArrivals base.now.stored self.now }
         requires plan { ArePlanned store.now wires.now (arc_value self.now.ports) }
+        requires seeds { AreSeeds base.now.stored store.now (record { insts = touched.now.insts; nets = touched.now.nets }) seeds.now }
         ensures found { IfOk result (λ t. AreRenewed graph.now t.rows t.delays) }
         ensures steps { OnOk result (steps.new ≡ steps.old + forward_count base.now.stored.design store.now.design (record { insts = touched.now.insts; nets = touched.now.nets })) }
         ensures least { steps.old ≤ steps.new }
         ensures few { steps.new ≤ steps.old + forward_count base.now.stored.design store.now.design (record { insts = touched.now.insts; nets = touched.now.nets }) }
         ensures err { IfErr result (IsRangeFault store.now.design) }
     {
-        let seeds = seeds(alloc, base, graph, touched)?;
         let mut tables = self.begun(alloc, base, graph, touched)?;
         let setting = Setting {
             store,
@@ -421,7 +422,7 @@ impl Arrivals {
             base,
             graph,
             touched,
-            seeds.as_slice(),
+            seeds,
             &mut tables,
             workers,
             gate,
@@ -465,11 +466,57 @@ impl Arrivals {
         ensures few { steps.new ≤ steps.old + forward_count base.now.stored.design store.now.design (record { insts = touched.now.insts; nets = touched.now.nets }) }
         ensures err { IfErr result (IsRangeFault store.now.design) }
     {
+        let seeds = seeds(alloc, base, graph, touched)?;
+        self.update_from(
+            rt,
+            alloc,
+            base,
+            store,
+            graph,
+            touched,
+            seeds.as_slice(),
+            workers,
+            gate,
+            steps,
+        )
+    }
+
+    /// The same, where the seeds of the update are told: the numbers of the nodes that the ECO touched, or whose
+    /// arcs in or place in a clock network it changed.
+    pub fn update_from<H: Threads + Sync, G: Gate, L>(
+        &self,
+        rt: &H,
+        alloc: Global,
+        base: &Graph,
+        store: &Store,
+        graph: &Graph,
+        touched: &Touched,
+        seeds: &[u32],
+        workers: u32,
+        gate: &G,
+        steps: &mut Steps<L>,
+    ) -> Result<Arrivals, Fault>
+        requires some { 1 ≤ workers }
+        requires most { workers ≤ 32 }
+        requires graph { graph.now.stored ≡ store.now }
+        requires made { IsEditOf base.now.stored (record { insts = touched.now.insts; nets = touched.now.nets }) store.now }
+        requires sound { IsSound store.now.design }
+        requires was { AreArrivals base.now.stored self.now }
+        requires seeds { AreSeeds base.now.stored store.now (record { insts = touched.now.insts; nets = touched.now.nets }) seeds.now }
+        ensures rows { IfOk result (λ a. AreRows store.now a.rows) }
+        ensures tables { IfOk result (AreTables store.now) }
+        ensures delays { IfOk result (λ a. AreDelays store.now (arc_value a.delays)) }
+        ensures fine { OnOk result (AreRowsFine store.now.design) }
+        ensures steps { OnOk result (steps.new ≡ steps.old + forward_count base.now.stored.design store.now.design (record { insts = touched.now.insts; nets = touched.now.nets })) }
+        ensures least { steps.old ≤ steps.new }
+        ensures few { steps.new ≤ steps.old + forward_count base.now.stored.design store.now.design (record { insts = touched.now.insts; nets = touched.now.nets }) }
+        ensures err { IfErr result (IsRangeFault store.now.design) }
+    {
         store.laws();
         graph.laws();
         let wires = self.wires_after(alloc, base.store(), store, touched)?;
         let found = self.renewed(
-            rt, alloc, base, store, graph, touched, workers, gate, steps, &wires,
+            rt, alloc, base, store, graph, touched, workers, gate, steps, &wires, seeds,
         )?;
         let delays = shared(alloc, found.delays)?;
         Ok(Arrivals {
