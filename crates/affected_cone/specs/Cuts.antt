@@ -1,8 +1,7 @@
 -- Rising lists of numbers from a number on, and endpoints put in their order.
 
-use Rattle.std.specs.Prelude.{ℕ, ◌≡◌, nat_eq, nat_lt, Bool, false, not, ◌&&◌, if◌then◌else◌, List, [], ◌∷◌, Option, Some, None}
+use Rattle.std.specs.Prelude.{ℕ, ◌≡◌, nat_eq, nat_lt, Bool, false, if◌then◌else◌, List, [], ◌∷◌, Option, Some, None}
 use Rattle.std.specs.List.Sorted.{IsPermutation, IsNonDecreasingBy, IsStrictlyIncreasing}
-use Rattle.netlist_store.specs.Numbering.{Stored, is_number}
 use Rattle.edit_reach.specs.Reach.{is_in}
 use Rattle.affected_cone.specs.declared.ends.EndSlacks.{EndSlacks}
 use Rattle.affected_cone.specs.Renewed.{pin_of}
@@ -16,12 +15,9 @@ abbrev pub begins_with : ℕ → List ℕ → Bool
 begins_with n [] = false
 begins_with n (x ∷ xs) = nat_eq x n
 
--- an endpoint that keeps its slacks, by the rising numbers of those searched again, from its own on
-abbrev pub stays_before : Stored → List ℕ → ℕ → Bool
-stays_before s rest pin = is_number s.pins pin && not (begins_with pin rest)
-
-abbrev pub cut_end : Stored → List ℕ → EndSlacks → Option EndSlacks
-cut_end s rest end = (if stays_before s rest end.pin then Some end else None)
+-- an endpoint that keeps its slacks, by the rising numbers of those that do not, from its own on
+abbrev pub cut_end : List ℕ → EndSlacks → Option EndSlacks
+cut_end rest end = (if begins_with end.pin rest then None else Some end)
 
 -- the same numbers, rising
 pub record IsRisingOf (numbers sorted : List ℕ) : Type 0 where

@@ -10,15 +10,14 @@ ghost use Rattle.netlist_store.specs.Applying.{IsEditOf};
 ghost use Rattle.level_workers.specs.Mapped.{IsMap};
 ghost use Rattle.edit_reach.specs.Reach.{HasSeeds, AreBehind};
 ghost use Rattle.affected_cone.specs.Analysed.{is_end, ends_of, IsEnd, IsSearch};
-ghost use Rattle.affected_cone.specs.Cuts.{from_number, begins_with, stays_before, cut_end, IsRisingOf, IsInOrder};
+ghost use Rattle.affected_cone.specs.Cuts.{from_number, begins_with, cut_end, IsRisingOf, IsInOrder};
 ghost use Rattle.affected_cone.specs.Renewed.{kept_end, end_number, pin_of, AreKeptEnds};
 ghost use Rattle.affected_cone.specs.Rising.{AreRising};
 
 use crate::ends::{EndSlacks, Search, end_slacks, is_end, slacks_of};
 use edit_reach::dirty_pins;
-use indexmap::IndexSet;
 use netlist_store::{Store, Touched};
-use pin_graph::Graph;
+use pin_graph::{Graph, gone_pins};
 use sta_units::Memory;
 use std::alloc::Global;
 use std::thread::Threads;
@@ -51,21 +50,15 @@ fn begins_with(numbers: &[u32], number: u32) -> bool
     }
 }
 
-/// Whether a pin is there, and is not the first of those to which the edit leads, from it on.
-fn stays(store: &Store, rest: &[u32], pin: u32) -> bool
-    ensures { result ≡ stays_before store.now rest.now pin }
+/// An endpoint, where it is not the first of the pins to which the edit leads, from it on: then it keeps its
+/// slacks.
+fn cut_end(rest: &[u32], end: EndSlacks) -> Option<EndSlacks>
+    ensures { result ≡ cut_end rest.now end }
 {
-    store.has_pin(pin) && !begins_with(rest, pin)
-}
-
-/// An endpoint, where it keeps its slacks.
-fn cut_end(store: &Store, rest: &[u32], end: EndSlacks) -> Option<EndSlacks>
-    ensures { result ≡ cut_end store.now rest.now end }
-{
-    if stays(store, rest, end.pin) {
-        Some(end)
-    } else {
+    if begins_with(rest, end.pin) {
         None
+    } else {
+        Some(end)
     }
 }
 
@@ -77,6 +70,16 @@ fn add_number(numbers: &mut Items<u32>, number: Option<u32>) -> Result<(), Memor
         Some(number) => numbers.push(number),
         None => Ok(()),
     }
+}
+
+/// Adds numbers.
+fn add_numbers(numbers: &mut Items<u32>, more: &[u32]) -> Result<(), Memory>
+    ensures { OnOk result (numbers.new ≡ numbers.old ++ more.now) }
+{
+    for number in more {
+        numbers.push(*number)?;
+    }
+    Ok(())
 }
 
 /// Adds an endpoint, where it is there.
@@ -92,19 +95,18 @@ fn add_end(ends: &mut Items<EndSlacks>, end: Option<EndSlacks>) -> Result<(), Me
 /// The endpoints that keep their slacks: both lists rise, and are gone through once.
 fn kept_ends(
     alloc: Global,
-    store: &Store,
     dirty: &[u32],
     ends: &[EndSlacks],
 ) -> Result<Items<EndSlacks>, Memory>
     requires dirty { IsStrictlyIncreasing dirty.now }
     requires ends { AreRising ends.now }
-    ensures { IfOk result (λ kept. kept ≡ filter_map (kept_end store.now dirty.now) ends.now) }
+    ensures { IfOk result (λ kept. kept ≡ filter_map (kept_end dirty.now) ends.now) }
 {
-    let mut kept = Items::new(alloc);
+    let mut kept = Items::with_room(alloc, ends.len())?;
     let mut rest = dirty;
     for end in ends {
         rest = from_number(rest, end.pin);
-        add_end(&mut kept, cut_end(store, rest, *end))?;
+        add_end(&mut kept, cut_end(rest, *end))?;
     }
     Ok(kept)
 }
@@ -212,31 +214,57 @@ fn rising(alloc: Global, numbers: &[u32]) -> Result<Items<u32>, Memory>
     Ok(distinct(copy))
 }
 
-/// The slacks of all endpoints of an edited store, by those of the base and the pins to which the edit
-/// leads.
+/// The slacks of all endpoints of an edited store, by those of the base, the pins to which the edit leads,
+/// and those of the base that are gone.
 fn renewed<H: Threads + Sync>(
     rt: &H,
     alloc: Global,
     base: &Graph,
     ends: &[EndSlacks],
     search: &Search<'_>,
-    dirty: &IndexSet<u32>,
+    dirty: &[u32],
 ) -> Result<Items<EndSlacks>, Memory>
     requires search { IsSearch search.now }
     requires ends { IsMap (IsEnd base.now.stored) (ends_of base.now.stored) ends.now }
-    requires kept { AreKeptEnds base.now.stored search.now.store.now dirty.now.keys }
+    requires kept { AreKeptEnds base.now.stored search.now.store.now dirty.now }
     ensures { IfOk result (IsMap (IsEnd search.now.store.now) (ends_of search.now.store.now)) }
 {
     // The base's graph is asked for by the contract alone.
     let _ = base;
-    let numbers = rising(alloc, dirty.as_slice())?;
+    let numbers = rising(alloc, dirty)?;
     let pins = numbers.as_slice();
-    let mut all = kept_ends(alloc, search.store, pins, ends)?;
+    let mut all = kept_ends(alloc, pins, ends)?;
     let again = ends_among(alloc, search.store, pins)?;
     let found = searched(rt, alloc, search, again.as_slice())?;
     add_ends(&mut all, found.as_slice())?;
     let sorted = in_order(all)?;
     Ok(sorted)
+}
+
+/// The pins to which the edit leads, and those of the base that are gone: every other one is an endpoint in both
+/// stores or in none, with the same slacks.
+fn other_pins(
+    alloc: Global,
+    base: &Graph,
+    search: &Search<'_>,
+    touched: &Touched,
+    seeds: &[u32],
+    nodes: &[u32],
+) -> Result<Items<u32>, Memory>
+    requires numbered { IsNumbered base.now.stored }
+    requires search { IsSearch search.now }
+    requires made { IsEditOf base.now.stored (record { insts = touched.now.insts; nets = touched.now.nets }) search.now.store.now }
+    requires seeds { HasSeeds base.now.stored search.now.store.now (record { insts = touched.now.insts; nets = touched.now.nets }) seeds.now }
+    requires behind { AreBehind search.now.graph.now seeds.now nodes.now }
+    ensures { IfOk result (AreKeptEnds base.now.stored search.now.store.now) }
+{
+    base.laws();
+    search.graph.laws();
+    search.store.laws();
+    let dirty = dirty_pins(alloc, search.store, seeds, nodes)?;
+    let mut pins = gone_pins(alloc, base, search.graph, touched)?;
+    add_numbers(&mut pins, dirty.as_slice())?;
+    Ok(pins)
 }
 
 /// The slacks of all endpoints of the store that an ECO made of a base, by those of the base's. `seeds` are
@@ -261,12 +289,9 @@ pub(crate) fn ends_after<H: Threads + Sync>(
     requires behind { AreBehind search.now.graph.now seeds.now nodes.now }
     ensures { IfOk result (IsMap (IsEnd search.now.store.now) (ends_of search.now.store.now)) }
 {
-    // What was touched and the seeds are asked for by the contract alone.
-    let _ = touched;
-    let _ = seeds;
     base.laws();
     search.graph.laws();
     search.store.laws();
-    let dirty = dirty_pins(alloc, search.store, nodes)?;
-    renewed(rt, alloc, base, ends, search, &dirty)
+    let dirty = other_pins(alloc, base, search, touched, seeds, nodes)?;
+    renewed(rt, alloc, base, ends, search, dirty.as_slice())
 }

@@ -6,7 +6,7 @@ ghost use Rattle.std.specs.Option.{option_to_list};
 ghost use Rattle.pin_graph.specs.Joins.{own_number};
 ghost use Rattle.pin_graph.specs.Nodes.{pin_under};
 ghost use Rattle.edit_reach.specs.Reach.{HasDirty};
-ghost use Rattle.edit_reach.specs.Besides.{inst_under, pins_of_cell, inst_pins_at};
+ghost use Rattle.edit_reach.specs.Besides.{inst_under, tested_under, port_under, pins_of_cell, inst_pins_at};
 
 use crate::behind::number_set;
 use indexmap::IndexSet;
@@ -37,15 +37,47 @@ fn inst_under(store: &Store, node: u32) -> Option<u32>
     store.inst_of(pin)
 }
 
-/// The instances of the pins of nodes.
+/// The number of the instance of a node's pin, where its cell has tests; none of a port's, and of a gap.
+fn tested_under(store: &Store, node: u32) -> Option<u32>
+    ensures { result ≡ tested_under store.now node }
+{
+    let inst = inst_under(store, node)?;
+    if store.cell_at(inst, Split::Late).tests.is_empty() {
+        None
+    } else {
+        Some(inst)
+    }
+}
+
+/// The instances of the pins of nodes that have tests in their cells.
 fn insts_under(alloc: Global, store: &Store, nodes: &[u32]) -> Result<Items<u32>, Memory>
-    ensures { IfOk result (λ insts. insts ≡ filter_map (inst_under store.now) nodes.now) }
+    ensures { IfOk result (λ insts. insts ≡ filter_map (tested_under store.now) nodes.now) }
 {
     let mut insts = Items::new(alloc);
     for node in nodes {
-        add_number(&mut insts, inst_under(store, *node))?;
+        add_number(&mut insts, tested_under(store, *node))?;
     }
     Ok(insts)
+}
+
+/// The pin of a node, where it is a port.
+fn port_under(store: &Store, node: u32) -> Option<u32>
+    ensures { result ≡ port_under store.now node }
+{
+    match inst_under(store, node) {
+        Some(_) => None,
+        None => Some(node / 2),
+    }
+}
+
+/// Adds the ports among the pins of nodes.
+fn add_ports(pins: &mut Items<u32>, store: &Store, nodes: &[u32]) -> Result<(), Memory>
+    ensures { OnOk result (pins.new ≡ pins.old ++ filter_map (port_under store.now) nodes.now) }
+{
+    for node in nodes {
+        add_number(pins, port_under(store, *node))?;
+    }
+    Ok(())
 }
 
 /// The pins of nodes.
@@ -116,15 +148,22 @@ fn add_insts_pins(
     Ok(())
 }
 
-/// The pins of nodes of an edited store, with all other pins of their instances, each once. Of the nodes
-/// behind the seeds of an edit these are the pins that may differ from the base's.
-pub fn dirty_pins(alloc: Global, store: &Store, nodes: &[u32]) -> Result<IndexSet<u32>, Memory>
-    ensures { IfOk result (λ pins. HasDirty store.now nodes.now pins.keys) }
+/// The pins of the seeds of an edit, and of the nodes behind them the ports and all pins of the instances whose
+/// cells have tests, each once. Of the pins of an edited store these are the ones that may be no endpoint in the
+/// base or in the edited store alone, and the endpoints whose slacks may differ from the base's.
+pub fn dirty_pins(
+    alloc: Global,
+    store: &Store,
+    seeds: &[u32],
+    nodes: &[u32],
+) -> Result<IndexSet<u32>, Memory>
+    ensures { IfOk result (λ pins. HasDirty store.now seeds.now nodes.now pins.keys) }
 {
     store.laws();
     let found = insts_under(alloc, store, nodes)?;
     let insts = number_set(alloc, found.as_slice())?;
-    let mut pins = pins_under(alloc, nodes)?;
+    let mut pins = pins_under(alloc, seeds)?;
+    add_ports(&mut pins, store, nodes)?;
     add_insts_pins(alloc, store, &mut pins, insts.as_slice())?;
     number_set(alloc, pins.as_slice())
 }
