@@ -1,8 +1,9 @@
 //! The pins to which an edit leads, with those of their instances.
 
-ghost use Rattle.std.specs.Prelude.{◌≡◌, ◌++◌, map, IfOk, OnOk};
+ghost use Rattle.std.specs.Prelude.{◌≡◌, ◌++◌, true, map, IfOk, IfSome, OnOk};
 ghost use Rattle.std.specs.List.{filter_map, flat_map};
 ghost use Rattle.std.specs.Option.{option_to_list};
+ghost use Rattle.netlist_store.specs.Numbering.{is_number};
 ghost use Rattle.pin_graph.specs.Joins.{own_number};
 ghost use Rattle.pin_graph.specs.Nodes.{pin_under};
 ghost use Rattle.edit_reach.specs.Reach.{HasDirty};
@@ -28,7 +29,8 @@ fn add_number(numbers: &mut Items<u32>, number: Option<u32>) -> Result<(), Memor
 /// The number of the instance of a node's pin; none of a port's, and of a gap.
 #[tactic(auto, using(crate::proofs::Beside::gap_owner))]
 fn inst_under(store: &Store, node: u32) -> Option<u32>
-    ensures { result ≡ inst_under store.now node }
+    ensures value { result ≡ inst_under store.now node }
+    ensures inst { IfSome result (λ inst. is_number store.now.insts inst ≡ true) }
 {
     let pin = node / 2;
     if !store.has_pin(pin) {
@@ -38,6 +40,7 @@ fn inst_under(store: &Store, node: u32) -> Option<u32>
 }
 
 /// The number of the instance of a node's pin, where its cell has tests; none of a port's, and of a gap.
+#[tactic(auto, using(crate::proofs::Beside::tested_none, crate::proofs::Beside::tested_some))]
 fn tested_under(store: &Store, node: u32) -> Option<u32>
     ensures { result ≡ tested_under store.now node }
 {

@@ -1,0 +1,10 @@
+use Rattle.std.proofs.Common.{get_or}
+use Rattle.std.proofs.lemmas.List.{get_or_default}
+use Rattle.pin_graph.proofs.ArcLaws.{mapped_more}
+use Rattle.edit_reach.specs.Besides.{port_under}
+use Rattle.edit_reach.proofs.dirty.add_ports.Goals as goal
+
+pub loop-node-preserved : goal.loop-node-preserved
+loop-node-preserved c =
+    mapped_more (port_under c.args.store.now) c.args.pins.now c.loop-node.pins c.add_number.new.numbers c.args.nodes.now c.loop-node.node-index (get_or c.args.nodes.now c.loop-node.node-index 0)
+    c.port_under.result c.loop-node-test.true (get_or_default c.args.nodes.now c.loop-node.node-index 0 _ c.loop-node-test.true) c.port_under.ensures c.loop-node.invariant c.in_ok-add_number.ensures
