@@ -1,13 +1,13 @@
 -- Endpoints that keep their slacks, by rising numbers of those that are searched again.
 
 use Rattle.std.proofs.Common.{◌≡◌, ℕ, zero, suc, ◌+◌, ◌<◌, ◌≤◌, Bool, false, not, List, [], ◌∷◌, ◌-◌, cond, length, get_or, take, drop, Option, Some, None, refl, sym, ap, subst, ◌∙◌, inl, inr, arith}
-use Rattle.std.specs.Prelude.{nat_eq, nat_lt, Contains, ◌&&◌, ◌||◌, if◌then◌else◌, slice_index}
+use Rattle.std.specs.Prelude.{nat_eq, nat_lt, Contains, ◌||◌, if◌then◌else◌, slice_index}
 use Rattle.std.specs.List.{position, position_or_len, IsDistinct}
 use Rattle.std.specs.List.Sorted.{IsStrictlyIncreasing}
 use Rattle.std.proofs.lemmas.Bool.{cases_lt, lt-ltb, le-ltb, cases_eq, eq-eqb, ne_eqb}
 use Rattle.std.proofs.lemmas.List.{get_or_default, take_all, length-drop}
 use Rattle.timing_defs.proofs.Members.{some_is, first_in, later_in}
-use Rattle.netlist_store.specs.Numbering.{Stored, is_number}
+use Rattle.netlist_store.specs.Numbering.{Stored}
 use Rattle.level_cone.proofs.Counts.{rising_distinct}
 use Rattle.edit_reach.specs.Reach.{is_in}
 use Rattle.affected_cone.specs.declared.ends.EndSlacks.{EndSlacks}
@@ -113,7 +113,7 @@ pub record IsCut (dirty rest : List ℕ) (ends : List EndSlacks) (i : ℕ) : Typ
 pub cut_start : (dirty : List ℕ) (ends : List EndSlacks) → IsStrictlyIncreasing dirty → IsCut dirty dirty ends 0
 cut_start dirty ends up = record { rises = rises_of dirty up; same = λ j other above low. refl }
 
-module _ (s : Stored) (dirty rest more : List ℕ) (ends : List EndSlacks) (i : ℕ) (other : EndSlacks) (up : AreRising ends) (low : i < length ends) (had : IsCut dirty rest ends i)
+module _ (dirty rest more : List ℕ) (ends : List EndSlacks) (i : ℕ) (other : EndSlacks) (up : AreRising ends) (low : i < length ends) (had : IsCut dirty rest ends i)
     (cut : more ≡ from_number (number_at ends i other) rest) where
   still : (j : ℕ) (d : EndSlacks) → i ≤ j → j < length ends → is_in more (number_at ends j d) ≡ is_in dirty (number_at ends j d)
   still j d above under =
@@ -125,12 +125,12 @@ module _ (s : Stored) (dirty rest more : List ℕ) (ends : List EndSlacks) (i : 
   cut_more = record { rises = subst Rises (sym cut) (cut_rises (number_at ends i other) rest had.rises); same = λ j d above under. still j d (omega (arith, above)) under }
 
   -- the item at the place
-  pub cut_told : (o : Option EndSlacks) → o ≡ cut_end s more (get_or ends i other) → o ≡ kept_end s dirty (get_or ends i other)
+  pub cut_told : (o : Option EndSlacks) → o ≡ cut_end more (get_or ends i other) → o ≡ kept_end dirty (get_or ends i other)
   cut_told o e =
       let head : begins_with (number_at ends i other) more ≡ is_in dirty (number_at ends i other) =
       ap (begins_with (number_at ends i other)) cut ∙ head_is (number_at ends i other) rest had.rises
       ∙ ap (λ (xs : List ℕ). is_in xs (number_at ends i other)) (sym cut) ∙ still i other (omega arith) low in
-      e ∙ ap (λ (b : Bool). if is_number s.pins (number_at ends i other) && not b then Some (get_or ends i other) else None) head
+      e ∙ ap (λ (b : Bool). if b then None else Some (get_or ends i other)) head
 
 -- numbers put in rising order
 pub rising_pins : (numbers sorted pins : List ℕ) → IsRisingOf numbers sorted → pins ≡ sorted → IsStrictlyIncreasing pins
@@ -142,8 +142,9 @@ pins_distinct numbers sorted pins is e = rising_distinct pins (rising_pins numbe
 pub rising_kept : (base edited : Stored) (dirty numbers sorted pins : List ℕ) → numbers ≡ dirty → IsRisingOf numbers sorted → pins ≡ sorted → AreKeptEnds base edited dirty
     → AreKeptEnds base edited pins
 rising_kept base edited dirty numbers sorted pins from is e kept = record {
+  there = λ pin end off. kept.there pin end (sym (same pin) ∙ off);
   end = λ pin at off. kept.end pin at (sym (same pin) ∙ off);
-  slacks = λ pin end at off told. kept.slacks pin end at (sym (same pin) ∙ off) told;
+  slacks = λ pin end is_one off told. kept.slacks pin end is_one (sym (same pin) ∙ off) told;
 }
   where
     same : (n : ℕ) → is_in pins n ≡ is_in dirty n

@@ -1,10 +1,10 @@
 -- Items with numbers, some of them found again, put in the order of their numbers.
 
-use Rattle.std.proofs.Common.{◌≡◌, ◌⊎◌, ℕ, zero, suc, ◌<◌, ◌≤◌, Bool, true, false, not, List, [], ◌∷◌, ◌++◌, map, filter, get_or, Option, None, Some, refl, sym, ap, subst, ◌∙◌, inl, inr, arith}
-use Rattle.std.specs.Prelude.{nat_eq, Contains, ◌&&◌, if◌then◌else◌}
+use Rattle.std.proofs.Common.{◌≡◌, ◌⊎◌, ℕ, zero, suc, ◌<◌, ◌≤◌, Bool, true, false, List, [], ◌∷◌, ◌++◌, map, filter, get_or, Option, None, Some, refl, sym, ap, subst, ◌∙◌, inl, inr, arith}
+use Rattle.std.specs.Prelude.{nat_eq, Contains, if◌then◌else◌}
 use Rattle.std.specs.List.{filter_map, range_with_len, IsDistinct, AllByRecursion}
 use Rattle.std.specs.List.Sorted.{IsPermutation, IsNonDecreasingBy}
-use Rattle.std.proofs.lemmas.Bool.{cases_Bool, false≢true, and_parts, and_from, eq-eqb, eqb-true, both_ways}
+use Rattle.std.proofs.lemmas.Bool.{cases_Bool, false≢true, eq-eqb, eqb-true, both_ways}
 use Rattle.std.proofs.lemmas.Cmp.{nat_eq_equiv}
 use Rattle.std.proofs.lemmas.List.Elements.{Contains-append_cases, Contains-append_left, Contains-append_right}
 use Rattle.std.proofs.lemmas.List.Sorted.{IsPermutation-sym, IsPermutation-map, Contains-permutation}
@@ -141,13 +141,11 @@ pub record AreNumbered {E : Type 0} (key : E → ℕ) (Held : ℕ → E → Type
 
 module _ {E : Type 0} (key : E → ℕ) (Held Holds : ℕ → E → Type 0) (p p2 : ℕ → Bool) (len len2 : ℕ) (old : AreNumbered key Held p len) (new : AreNumbered key Holds p2 len2)
     (there : ℕ → Bool) (known : (n : ℕ) → p2 n ≡ true → there n ≡ true) (dirty : List ℕ)
+    (left : (n : ℕ) → p n ≡ true → is_in dirty n ≡ false → there n ≡ true)
     (end : (n : ℕ) → there n ≡ true → is_in dirty n ≡ false → p2 n ≡ p n)
-    (moves : (n : ℕ) (e : E) → there n ≡ true → is_in dirty n ≡ false → Held n e → Holds n e) where
-  abbrev stays : ℕ → Bool
-  stays n = there n && not (is_in dirty n)
-
+    (moves : (n : ℕ) (e : E) → p2 n ≡ true → is_in dirty n ≡ false → Held n e → Holds n e) where
   abbrev kept : E → Option E
-  kept e = (if stays (key e) then Some e else None)
+  kept e = (if is_in dirty (key e) then None else Some e)
 
   abbrev again : ℕ → Option ℕ
   again n = (if p2 n then Some n else None)
@@ -160,22 +158,25 @@ module _ {E : Type 0} (key : E → ℕ) (Held Holds : ℕ → E → Type 0) (p p
   choice_is true x y h = refl
   choice_is false x y h = absurd (cc)
 
-  not_is : (b : Bool) → not b ≡ true → b ≡ false
-  not_is true h = absurd (false≢true h)
-  not_is false h = refl
+  kept_same : (b : Bool) (x y : E) → (if b then None else Some x) ≡ Some y → x ≡ y
+  kept_same true x y h = absurd (cc)
+  kept_same false x y h = some_is h
+
+  kept_off : (b : Bool) (x y : E) → (if b then None else Some x) ≡ Some y → b ≡ false
+  kept_off true x y h = absurd (cc)
+  kept_off false x y h = refl
 
   module _ (ends : List E) (m : IsMap Held (filter p (range_with_len 0 len)) ends) (found : List E) (m2 : IsMap Holds (filter_map again dirty) found) where
-    in_kept : (e : E) → Contains (filter_map kept ends) e → (stays (key e) ≡ true) × Holds (key e) e × (p2 (key e) ≡ true)
+    in_kept : (e : E) → Contains (filter_map kept ends) e → (is_in dirty (key e) ≡ false) × Holds (key e) e × (p2 (key e) ≡ true)
     in_kept e c =
-        let within = part_in kept key (λ x y. choice_same (stays (key x)) x y) ends e c in
-        let pass = choice_is (stays (key e)) e e (part_passes kept key (λ x y. choice_same (stays (key x)) x y) ends e c) in
-        let parts = and_parts (there (key e)) (not (is_in dirty (key e))) pass in
-        let off = not_is (is_in dirty (key e)) parts.1 in
+        let within = part_in kept key (λ x y. kept_same (is_in dirty (key x)) x y) ends e c in
+        let off = kept_off (is_in dirty (key e)) e e (part_passes kept key (λ x y. kept_same (is_in dirty (key x)) x y) ends e c) in
         let it = item_of Held (filter p (range_with_len 0 len)) ends m e within in
         let is : key e ≡ it.item = old.keyed it.item e it.gives in
         let mine : Held (key e) e = subst (λ (n : ℕ). Held n e) (sym is) it.gives in
         let was : p (key e) ≡ true = ap p is ∙ passes_in p (range_with_len 0 len) it.item it.within in
-        (pass, moves (key e) e parts.0 off mine, end (key e) parts.0 off ∙ was)
+        let now : p2 (key e) ≡ true = end (key e) (left (key e) was off) off ∙ was in
+        (off, moves (key e) e now off mine, now)
 
     in_found : (e : E) → Contains found e → Contains dirty (key e) × Holds (key e) e × (p2 (key e) ≡ true)
     in_found e c =
@@ -195,7 +196,7 @@ module _ {E : Type 0} (key : E → ℕ) (Held Holds : ℕ → E → Type 0) (p p
     all_apart d =
         subst Apart (sym (map_both (filter_map kept ends)))
         (apart_both (map key (filter_map kept ends)) (map key found)
-        (part_apart kept key (λ x y. choice_same (stays (key x)) x y) ends
+        (part_apart kept key (λ x y. kept_same (is_in dirty (key x)) x y) ends
         (subst Apart (sym (keys_are key Held old.keyed (filter p (range_with_len 0 len)) ends m)) (apart_rising (filter p (range_with_len 0 len)) (rises p 0 len))))
         (subst Apart (sym (keys_are key Holds new.keyed (filter_map again dirty) found m2))
         (subst Apart (plain (filter_map again dirty)) (part_apart again (λ n. n) (λ x y. choice_same (p2 x) x y) dirty (subst Apart (sym (plain dirty)) (apart_distinct dirty d)))))
@@ -213,8 +214,7 @@ module _ {E : Type 0} (key : E → ℕ) (Held Holds : ℕ → E → Type 0) (p p
         other n c k =
             let a = in_map_back key (filter_map kept ends) n c in
             let b = in_map_back key found n k in
-            let stay = (in_kept a.item a.within).0 in
-            let off = not_is (is_in dirty (key a.item)) (and_parts (there (key a.item)) (not (is_in dirty (key a.item))) stay).1 in
+            let off = (in_kept a.item a.within).0 in
             let on = (in_found b.item b.within).0 in
             false≢true (sym off ∙ ap (is_in dirty) a.same
             ∙ any_in (nat_eq n) dirty n (subst (Contains dirty) b.same on) (nat_eq_equiv.refl n))
@@ -232,8 +232,7 @@ module _ {E : Type 0} (key : E → ℕ) (Held Holds : ℕ → E → Type 0) (p p
           let was : p n ≡ true = sym (end n (known n h) e) ∙ h in
           let o = result_of Held (filter p (range_with_len 0 len)) ends m n (in_filter p (range_with_len 0 len) n (number_in len n (old.low n was)) was) in
           let is : key o.result ≡ n = old.keyed n o.result o.gives in
-          let stay : stays (key o.result) ≡ true = ap stays is ∙ and_from (there n) (not (is_in dirty n)) (known n h) (ap not e) in
-          let told : kept o.result ≡ Some o.result = ap (λ b. if b then Some o.result else None) stay in
+          let told : kept o.result ≡ Some o.result = ap (λ k. if is_in dirty k then None else Some o.result) is ∙ ap (λ (b : Bool). if b then None else Some o.result) e in
           subst (Contains (map key (filter_map kept ends ++ found))) is
           (in_map key (filter_map kept ends ++ found) o.result
           (Contains-append_left (filter_map kept ends) found o.result (in_filter_map kept ends o.result o.result o.within told)))

@@ -152,8 +152,8 @@ fn add_insts_pins(
 }
 
 /// The pins of the seeds of an edit, and of the nodes behind them the ports and all pins of the instances whose
-/// cells have tests, each once. Of the pins of an edited store these are the ones that may be no endpoint in the
-/// base or in the edited store alone, and the endpoints whose slacks may differ from the base's.
+/// cells have tests, each once. Every other pin of the edited store is an endpoint in both stores or in none, with
+/// the same slacks.
 pub fn dirty_pins(
     alloc: Global,
     store: &Store,

@@ -12,10 +12,10 @@ loop-end-init c = (c.new-kept.ensures, cut_start c.args.dirty.now c.args.ends.no
 pub loop-end-preserved : goal.loop-end-preserved
 loop-end-preserved c =
     let told =
-    cut_told c.args.store.now c.args.dirty.now c.loop-end.rest.now c.from_number-rest.result.now c.args.ends.now c.loop-end.end-index no_end c.requires.ends c.loop-end-test.true
+    cut_told c.args.dirty.now c.loop-end.rest.now c.from_number-rest.result.now c.args.ends.now c.loop-end.end-index no_end c.requires.ends c.loop-end-test.true
     c.loop-end.invariant.1 c.from_number-rest.ensures c.cut_end.result c.cut_end.ensures in (
-      first_mapped_more (kept_end c.args.store.now c.args.dirty.now) c.loop-end.kept c.add_end.new.ends c.args.ends.now c.loop-end.end-index (get_or c.args.ends.now c.loop-end.end-index no_end)
+      first_mapped_more (kept_end c.args.dirty.now) c.loop-end.kept c.add_end.new.ends c.args.ends.now c.loop-end.end-index (get_or c.args.ends.now c.loop-end.end-index no_end)
           c.cut_end.result c.loop-end-test.true (get_or_default c.args.ends.now c.loop-end.end-index no_end _ c.loop-end-test.true) told c.loop-end.invariant.0 c.in_ok-add_end.ensures,
-      cut_more c.args.store.now c.args.dirty.now c.loop-end.rest.now c.from_number-rest.result.now c.args.ends.now c.loop-end.end-index no_end c.requires.ends c.loop-end-test.true
+      cut_more c.args.dirty.now c.loop-end.rest.now c.from_number-rest.result.now c.args.ends.now c.loop-end.end-index no_end c.requires.ends c.loop-end-test.true
           c.loop-end.invariant.1 c.from_number-rest.ensures,
     )

@@ -6,22 +6,22 @@ use Rattle.affected_cone.proofs.end_updates.renewed.Goals as goal
 
 pub kept_ends-requires-clause-dirty : goal.kept_ends-requires-clause-dirty
 kept_ends-requires-clause-dirty g c =
-    rising_pins c.as_slice.result.now c.in_ok-numbers.numbers c.as_slice-pins.result.now c.in_ok-numbers.ensures c.as_slice-pins.ensures
+    rising_pins c.args.dirty.now c.in_ok-numbers.numbers c.as_slice-pins.result.now c.in_ok-numbers.ensures c.as_slice-pins.ensures
 
 pub kept_ends-requires-clause-ends : goal.kept_ends-requires-clause-ends
 kept_ends-requires-clause-ends g c = ends_rise c.args.base.now.stored c.args.ends.now c.args.ends.now refl c.requires.ends
 
 pub searched-requires-clause-ends : goal.searched-requires-clause-ends
 searched-requires-clause-ends g c κs within =
-    among_ends c.args.search.now.store.now c.as_slice-pins.result.now c.as_slice-2.result.now (c.as_slice-2.ensures ∙ c.in_ok-again.ensures)
+    among_ends c.args.search.now.store.now c.as_slice-pins.result.now c.as_slice.result.now (c.as_slice.ensures ∙ c.in_ok-again.ensures)
 
 pub returns : goal.returns
 returns g c =
     renewed_ends c.args.base.now.stored c.args.search.now.store.now c.as_slice-pins.result.now c.as_slice-pins.result.now refl
-    (rising_kept c.args.base.now.stored c.args.search.now.store.now c.args.dirty.now.keys c.as_slice.result.now c.in_ok-numbers.numbers c.as_slice-pins.result.now c.as_slice.ensures.keys
+    (rising_kept c.args.base.now.stored c.args.search.now.store.now c.args.dirty.now c.args.dirty.now c.in_ok-numbers.numbers c.as_slice-pins.result.now refl
     c.in_ok-numbers.ensures c.as_slice-pins.ensures c.requires.kept)
-    (pins_distinct c.as_slice.result.now c.in_ok-numbers.numbers c.as_slice-pins.result.now c.in_ok-numbers.ensures c.as_slice-pins.ensures)
-    c.args.ends.now c.requires.ends c.in_ok-all.all c.in_ok-all.ensures c.as_slice-2.result.now (c.as_slice-2.ensures ∙ c.in_ok-again.ensures)
+    (pins_distinct c.args.dirty.now c.in_ok-numbers.numbers c.as_slice-pins.result.now c.in_ok-numbers.ensures c.as_slice-pins.ensures)
+    c.args.ends.now c.requires.ends c.in_ok-all.all c.in_ok-all.ensures c.as_slice.result.now (c.as_slice.ensures ∙ c.in_ok-again.ensures)
     c.in_ok-found.found c.in_ok-found.ensures c.add_ends.new.ends
-    (c.in_ok-add_ends.ensures ∙ ap (λ es. c.in_ok-all.all ++ es) c.as_slice-3.ensures)
+    (c.in_ok-add_ends.ensures ∙ ap (λ es. c.in_ok-all.all ++ es) c.as_slice-2.ensures)
     c.in_ok-sorted.sorted c.in_ok-sorted.ensures.same c.in_ok-sorted.ensures.rising
