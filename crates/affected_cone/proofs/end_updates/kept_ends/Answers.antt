@@ -7,7 +7,7 @@ use Rattle.affected_cone.proofs.EndCuts.{cut_start, cut_more, cut_told}
 use Rattle.affected_cone.proofs.end_updates.kept_ends.Goals as goal
 
 pub loop-end-init : goal.loop-end-init
-loop-end-init c = (c.new-kept.ensures, cut_start c.args.dirty.now c.args.ends.now c.requires.dirty)
+loop-end-init c = (c.in_ok-kept.ensures, cut_start c.args.dirty.now c.args.ends.now c.requires.dirty)
 
 pub loop-end-preserved : goal.loop-end-preserved
 loop-end-preserved c =
