@@ -51,7 +51,7 @@ module _ (g g2 : Graphed) (touch : Touch) (made : IsEditOf g.stored touch g2.sto
 
   kept : (pin : ℕ) (end : is_end g2.stored pin ≡ true) (off : is_in pins pin ≡ false)
       → IsKeptPin g g2 touch made num num2 is is2 seeds nodes all behind dirty beside pin (end_known g2.stored pin end) (off_both pin off).1
-          (end_may g2.stored num2 (edited_linked g.stored touch g2.stored made) pin end (end_known g2.stored pin end))
+      (end_may g2.stored num2 (edited_linked g.stored touch g2.stored made) pin end (end_known g2.stored pin end))
   kept pin end off =
       clean_pin g g2 touch made num num2 is is2 seeds nodes all behind dirty beside pin (end_known g2.stored pin end) (off_both pin off).1
       (end_may g2.stored num2 (edited_linked g.stored touch g2.stored made) pin end (end_known g2.stored pin end))

@@ -93,11 +93,7 @@ fn add_end(ends: &mut Items<EndSlacks>, end: Option<EndSlacks>) -> Result<(), Me
 }
 
 /// The endpoints that keep their slacks: both lists rise, and are gone through once.
-fn kept_ends(
-    alloc: Global,
-    dirty: &[u32],
-    ends: &[EndSlacks],
-) -> Result<Items<EndSlacks>, Memory>
+fn kept_ends(alloc: Global, dirty: &[u32], ends: &[EndSlacks]) -> Result<Items<EndSlacks>, Memory>
     requires dirty { IsStrictlyIncreasing dirty.now }
     requires ends { AreRising ends.now }
     ensures { IfOk result (λ kept. kept ≡ filter_map (kept_end dirty.now) ends.now) }
