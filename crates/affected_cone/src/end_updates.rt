@@ -285,9 +285,6 @@ pub(crate) fn ends_after<H: Threads + Sync>(
     requires behind { AreBehind search.now.graph.now seeds.now nodes.now }
     ensures { IfOk result (IsMap (IsEnd search.now.store.now) (ends_of search.now.store.now)) }
 {
-    base.laws();
-    search.graph.laws();
-    search.store.laws();
     let dirty = other_pins(alloc, base, search, touched, seeds, nodes)?;
     renewed(rt, alloc, base, ends, search, dirty.as_slice())
 }

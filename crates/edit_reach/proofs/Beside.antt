@@ -63,29 +63,6 @@ pins_put s n inst cell old new e f put =
     put ∙ ap (λ ks. old ++ ks)
     (sym (ap (λ o. option_map_or (λ inst. pins_of_cell s inst (cell_pins (cell_of s.design Late inst))) o []) e ∙ ap (λ o. pins_of_cell s inst (cell_pins o)) g))
 
--- whether the cell of an instance has tests
-some_tests : (tests : List CellTest) → (tests ≡ [] → ⊥) → is_some_test tests ≡ true
-some_tests [] h = absurd (h refl)
-some_tests (test ∷ tests) h = refl
-
-module _ (s : Stored) (node inst : ℕ) (cell : Cell) (under : Some inst ≡ inst_under s node) (at : option_and_then (cell_of s.design Late) (inst_numbered s inst) ≡ Some cell) where
-  tests_at : is_tested s inst ≡ is_some_test cell.tests
-  tests_at = by (inst_numbered s inst) refl at
-    where
-      by : (o : Option Inst) → inst_numbered s inst ≡ o → option_and_then (cell_of s.design Late) o ≡ Some cell → is_tested s inst ≡ is_some_test cell.tests
-      by None e f = absurd (cc)
-      by (Some i) e f =
-          ap (λ o. option_map_or (λ inst. is_some_test (cell_tests (cell_of s.design Late inst))) o false) e ∙ ap (λ o. is_some_test (cell_tests o)) f
-
-  chosen : tested_under s node ≡ (if is_some_test cell.tests then Some inst else None)
-  chosen = ap (option_and_then (λ i. if is_tested s i then Some i else None)) (sym under) ∙ ap (λ (b : Bool). if b then Some inst else None) tests_at
-
-  pub tested_none : cell.tests ≡ [] → None ≡ tested_under s node
-  tested_none none = sym (chosen ∙ ap (λ ts. if is_some_test ts then Some inst else None) none)
-
-  pub tested_some : (cell.tests ≡ [] → ⊥) → Some inst ≡ tested_under s node
-  tested_some some = sym (chosen ∙ ap (λ (b : Bool). if b then Some inst else None) (some_tests cell.tests some))
-
 pub flat_more : {X Y : Type 0} (f : X → List Y) (base ys ys' : List Y) (xs : List X) (i : ℕ) (x : X) → i < length xs → x ≡ get_or xs i x
     → ys ≡ base ++ flat_map f (take i xs) → ys' ≡ ys ++ f x → ys' ≡ base ++ flat_map f (take (i + 1) xs)
 flat_more {X} f base ys ys' xs i x low here had put =

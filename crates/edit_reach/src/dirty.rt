@@ -40,7 +40,6 @@ fn inst_under(store: &Store, node: u32) -> Option<u32>
 }
 
 /// The number of the instance of a node's pin, where its cell has tests; none of a port's, and of a gap.
-#[tactic(auto, using(crate::proofs::Beside::tested_none, crate::proofs::Beside::tested_some))]
 fn tested_under(store: &Store, node: u32) -> Option<u32>
     ensures { result ≡ tested_under store.now node }
 {
