@@ -438,7 +438,7 @@ impl Arrivals {
     /// nodes shared between that many threads, the gate called as each piece of a level begins; all else
     /// is shared with the base. The rows are those of `full`. Each evaluation is counted as a step; where
     /// the update is refused, at most as many. `OutOfRange` as `full` has it. Takes time of the touched
-    /// nets, of the nodes that are evaluated and of the arcs at them, and a step for each 256 rows.
+    /// nets, of the nodes that are evaluated and of the arcs at them, and a step for each 4,096 rows.
     pub fn update<H: Threads + Sync, G: Gate, L>(
         &self,
         rt: &H,
