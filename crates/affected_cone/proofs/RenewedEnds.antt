@@ -16,8 +16,6 @@ use Rattle.pin_graph.specs.Graphs.{Graphed, IsGraph}
 use Rattle.timing_defs.proofs.Members.{some_is, in_filter_map_back}
 use Rattle.store_pins.proofs.PinLaws.{there, below_bound}
 use Rattle.edit_reach.specs.Reach.{is_in, HasSeeds, AreBehind, HasDirty}
-use Rattle.eco_laws.proofs.EditOf.{edited_linked}
-use Rattle.edit_reach.proofs.Beside.{end_may}
 use Rattle.edit_reach.proofs.CleanPins.{IsKeptPin, same_end, clean_pin}
 use Rattle.affected_cone.specs.declared.ends.EndSlacks.{EndSlacks}
 use Rattle.affected_cone.specs.Analysed.{is_end, ends_of, slack_in, IsEnd}
@@ -50,11 +48,9 @@ module _ (g g2 : Graphed) (touch : Touch) (made : IsEditOf g.stored touch g2.sto
   ]
 
   kept : (pin : ℕ) (end : is_end g2.stored pin ≡ true) (off : is_in pins pin ≡ false)
-      → IsKeptPin g g2 touch made num num2 is is2 seeds nodes all behind dirty beside pin (end_known g2.stored pin end) (off_both pin off).1
-      (end_may g2.stored num2 (edited_linked g.stored touch g2.stored made) pin end (end_known g2.stored pin end))
+      → IsKeptPin g g2 touch made num num2 is is2 seeds nodes all behind dirty beside pin (end_known g2.stored pin end) (off_both pin off).1 end
   kept pin end off =
-      clean_pin g g2 touch made num num2 is is2 seeds nodes all behind dirty beside pin (end_known g2.stored pin end) (off_both pin off).1
-      (end_may g2.stored num2 (edited_linked g.stored touch g2.stored made) pin end (end_known g2.stored pin end))
+      clean_pin g g2 touch made num num2 is is2 seeds nodes all behind dirty beside pin (end_known g2.stored pin end) (off_both pin off).1 end
 
   clean_ends : AreKeptEnds g.stored g2.stored pins
   clean_ends = record {

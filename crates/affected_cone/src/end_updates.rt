@@ -266,7 +266,7 @@ fn other_pins(
 /// The slacks of all endpoints of the store that an ECO made of a base, by those of the base's. `seeds` are
 /// the nodes at which the ECO begins to change paths, and `nodes` these and all behind them. An endpoint is
 /// searched for where one of `nodes` is of it or of another pin of its instance; every other one keeps its
-/// slacks. Takes time of these nodes and searches, and goes through the list of endpoints once, with no look-up for each.
+/// slacks. Takes time of these nodes and searches, and goes through the list of endpoints a few times.
 pub(crate) fn ends_after<H: Threads + Sync>(
     rt: &H,
     alloc: Global,

@@ -342,7 +342,7 @@ pub(crate) fn find_after<H: Threads + Sync, G: Gate, L>(
 {
     let reach = reach_of(alloc, base.graph, graph, touched)?;
     let seeds = reach.seeds.as_slice();
-    let arrivals = base.arrivals.update_from(
+    let arrivals = base.arrivals.update(
         rt, alloc, base.graph, store, graph, touched, seeds, workers, gate, steps,
     )?;
     with_arrivals(

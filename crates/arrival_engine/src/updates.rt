@@ -30,7 +30,7 @@ use cow_table::CowTable;
 use level_cone::{LevelQueue, LevelTurn};
 use netlist_store::{Store, Touched};
 use node_rows::{Setting, Wires};
-use pin_graph::{Graph, GraphArc, gone_pins, seeds};
+use pin_graph::{Graph, GraphArc, gone_pins};
 use sta_outside::Gate;
 use sta_units::{Memory, Steps};
 use std::alloc::Global;
@@ -432,58 +432,14 @@ impl Arrivals {
     }
 
     /// The slews and arrivals of the store that an ECO made of the base's store, which these are of:
-    /// `base` is the base's graph, `graph` that of the edited store, `touched` what the ECO touched. The
-    /// nodes that it touched, or whose arcs in or place in a clock network it changed, and those that an
-    /// arc leads to from a node whose row differs, are evaluated once each, level by level, each level's
-    /// nodes shared between that many threads, the gate called as each piece of a level begins; all else
-    /// is shared with the base. The rows are those of `full`. Each evaluation is counted as a step; where
+    /// `base` is the base's graph, `graph` that of the edited store, `touched` what the ECO touched, `seeds`
+    /// the numbers of the nodes that it touched, or whose arcs in or place in a clock network it changed. These,
+    /// and those that an arc leads to from a node whose row differs, are evaluated once each, level by level,
+    /// each level's nodes shared between that many threads, the gate called as each piece of a level begins; all
+    /// else is shared with the base. The rows are those of `full`. Each evaluation is counted as a step; where
     /// the update is refused, at most as many. `OutOfRange` as `full` has it. Takes time of the touched
     /// nets, of the nodes that are evaluated and of the arcs at them, and a step for each 4,096 rows.
     pub fn update<H: Threads + Sync, G: Gate, L>(
-        &self,
-        rt: &H,
-        alloc: Global,
-        base: &Graph,
-        store: &Store,
-        graph: &Graph,
-        touched: &Touched,
-        workers: u32,
-        gate: &G,
-        steps: &mut Steps<L>,
-    ) -> Result<Arrivals, Fault>
-        requires some { 1 ≤ workers }
-        requires most { workers ≤ 32 }
-        requires graph { graph.now.stored ≡ store.now }
-        requires made { IsEditOf base.now.stored (record { insts = touched.now.insts; nets = touched.now.nets }) store.now }
-        requires sound { IsSound store.now.design }
-        requires was { AreArrivals base.now.stored self.now }
-        ensures rows { IfOk result (λ a. AreRows store.now a.rows) }
-        ensures tables { IfOk result (AreTables store.now) }
-        ensures delays { IfOk result (λ a. AreDelays store.now (arc_value a.delays)) }
-        ensures fine { OnOk result (AreRowsFine store.now.design) }
-        ensures steps { OnOk result (steps.new ≡ steps.old + forward_count base.now.stored.design store.now.design (record { insts = touched.now.insts; nets = touched.now.nets })) }
-        ensures least { steps.old ≤ steps.new }
-        ensures few { steps.new ≤ steps.old + forward_count base.now.stored.design store.now.design (record { insts = touched.now.insts; nets = touched.now.nets }) }
-        ensures err { IfErr result (IsRangeFault store.now.design) }
-    {
-        let seeds = seeds(alloc, base, graph, touched)?;
-        self.update_from(
-            rt,
-            alloc,
-            base,
-            store,
-            graph,
-            touched,
-            seeds.as_slice(),
-            workers,
-            gate,
-            steps,
-        )
-    }
-
-    /// The same, where the seeds of the update are told: the numbers of the nodes that the ECO touched, or whose
-    /// arcs in or place in a clock network it changed.
-    pub fn update_from<H: Threads + Sync, G: Gate, L>(
         &self,
         rt: &H,
         alloc: Global,

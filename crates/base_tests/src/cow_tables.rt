@@ -101,7 +101,7 @@ fn write_all<R: Threads + Sync + Abort>(
 
 #[test]
 fn threads_fill_a_table_and_write_it(rt: HostRuntime) {
-    for (count, workers) in [(0, 4), (255, 1), (3_000, 3), (20_000, 4)] {
+    for (count, workers) in [(0, 4), (255, 1), (4_096, 4), (4_097, 2), (8_192, 3), (20_000, 4)] {
         let len = count as usize;
         let mut table = zeros(&rt, rt.alloc(), workers, len);
         assert_eq!(rt; table.len(), len);
@@ -119,7 +119,7 @@ fn threads_fill_a_table_and_write_it(rt: HostRuntime) {
 
 #[test]
 fn the_first_error_comes_back(rt: HostRuntime) {
-    for (count, workers) in [(10, 1), (3_000, 3), (9_000, 3)] {
+    for (count, workers) in [(10, 1), (4_096, 2), (9_000, 3)] {
         let len = count as usize;
         let mut table = zeros(&rt, rt.alloc(), workers, len);
         let refused = write_all(&rt, rt.alloc(), workers, &mut table, count, 7);

@@ -26,7 +26,7 @@ use Rattle.pin_graph.specs.Nodes.{pin_under}
 use Rattle.timing_defs.proofs.Members.{some_is, any_back, in_map, in_filter_map, in_flat_map}
 use Rattle.store_pins.proofs.PinLaws.{HasNumber, pin_at_number, inst_told, own_back}
 use Rattle.edit_reach.proofs.Insertions.{grown}
-use Rattle.edit_reach.specs.Reach.{is_in, IsBeside, may_end, HasDirty}
+use Rattle.edit_reach.specs.Reach.{is_in, IsBeside, HasDirty}
 use Rattle.edit_reach.specs.Besides.{inst_under, is_some_test, is_tested, tested_under, port_of, port_under, pins_of_cell, inst_pins_at}
 
 -- what is put into a set is in it, and what is in a list stands there
@@ -91,8 +91,12 @@ module _ (s : Stored) (num : IsNumbered s) (linked : IsLinked s.design) where
           subst (λ (xs : List ℕ). Contains xs pin) (sym (ap (λ o. option_map_or (λ inst. pins_of_cell s inst (cell_pins (cell_of s.design Late inst))) o []) at))
           (in_filter_map (λ (q : CellPin). own_number s i q.name) (cell_pins (cell_of s.design Late i)) own.pin pin own.within told)
 
+  -- whether a pin may be an endpoint: no instance has it, or one whose cell has tests
+  abbrev may_end : Stored → ℕ → Bool
+  may_end t pin = option_map_or (is_tested t) (owner_number t pin) true
+
   -- an endpoint may be one
-  pub end_may : (pin : ℕ) → option_map_or (is_endpoint s.design) (pin_numbered s pin) false ≡ true → is_number s.pins pin ≡ true → may_end s pin ≡ true
+  end_may : (pin : ℕ) → option_map_or (is_endpoint s.design) (pin_numbered s pin) false ≡ true → is_number s.pins pin ≡ true → may_end s pin ≡ true
   end_may pin end there =
       let p = pin_at_number s num linked pin there in
       by p.0 p.1 p.0.owner refl (and_parts (not (is_driver p.0)) (option_map_or (tests_pin s.design p.0.own) p.0.owner true) (sym (ap (λ o. option_map_or (is_endpoint s.design) o false) p.1.pin) ∙ end)).1
@@ -116,7 +120,7 @@ module _ (s : Stored) (num : IsNumbered s) (linked : IsLinked s.design) where
 
   pub all_beside : (seeds nodes insts pins dirty : List ℕ) → insts ≡ insert_all nat_eq [] (filter_map (tested_under s) nodes)
       → pins ≡ (map pin_under seeds ++ filter_map (port_under s) nodes) ++ flat_map (inst_pins_at s) insts → dirty ≡ insert_all nat_eq [] pins → HasDirty s seeds nodes dirty
-  all_beside seeds nodes insts pins dirty from all of = record { first = first; each = λ n pin h there may near. each n pin h there near (owner_number s pin) refl may }
+  all_beside seeds nodes insts pins dirty from all of = record { first = first; each = λ n pin h there end near. each n pin h there near (owner_number s pin) refl (end_may pin end there) }
     where
       put : (pin : ℕ) → Contains ((map pin_under seeds ++ filter_map (port_under s) nodes) ++ flat_map (inst_pins_at s) insts) pin → is_in dirty pin ≡ true
       put pin c = put_in pins dirty of pin (subst (λ (xs : List ℕ). Contains xs pin) (sym all) c)

@@ -33,7 +33,7 @@ use Rattle.calm_laws.proofs.AlikeLaws.{HasTwin, twin_of, owner_same, cell_same}
 use Rattle.calm_laws.proofs.QuietNodes.{IsQuietNode, named_in, quiet_all}
 use Rattle.calm_laws.proofs.TestsKept.{quiet_end}
 use Rattle.calm_laws.proofs.KeptSlacks.{slack_kept}
-use Rattle.edit_reach.specs.Reach.{is_in, HasSeeds, AreBehind, IsBeside, may_end, HasDirty}
+use Rattle.edit_reach.specs.Reach.{is_in, HasSeeds, AreBehind, IsBeside, HasDirty}
 use Rattle.edit_reach.proofs.QuietReach.{all_low, linked, linked2, quiet, quiet_of, quiet_nodes}
 
 of_both : (pin : Pin) (n : Node) → Contains (both_nodes pin) n → n.pin ≡ pin
@@ -82,11 +82,11 @@ module _ (g g2 : Graphed) (touch : Touch) (made : IsEditOf g.stored touch g2.sto
         ∙ same_endpoint d d2 (framed_of g.stored touch g2.stored made) calm.node.pin one.0 calm.calm.kept.alike.pin
         ∙ sym (ap (λ o. option_map_or (is_endpoint d) o false) before)
 
-    module _ (may : may_end g2.stored p ≡ true) where
+    module _ (end : option_map_or (is_endpoint d2) (pin_numbered g2.stored p) false ≡ true) where
       -- no node of a pin beside is behind
       off : (k : ℕ) → IsBeside g2.stored (pin_under k) p → is_in found k ≡ false
       off k near = elim (cases_Bool (is_in found k)) [
-        | inl e ↦ absurd (false≢true (sym clean ∙ beside.each k p e there may near))
+        | inl e ↦ absurd (false≢true (sym clean ∙ beside.each k p e there end near))
         | inr e ↦ e
       ]
 

@@ -1,4 +1,4 @@
--- The pins of instances by their numbers.
+-- By numbers: the instances of nodes, whether their cells have tests, and the pins of instances and ports.
 
 use Rattle.std.specs.Prelude.{ℕ, Bool, true, false, List, [], ◌∷◌, Option, None, Some, if◌then◌else◌, option_and_then}
 use Rattle.std.specs.List.{filter_map}

@@ -5,10 +5,10 @@ use Rattle.std.specs.List.{list_any}
 use Rattle.std.specs.Option.{option_map_or}
 use Rattle.timing_defs.specs.Netlist.{Node}
 use Rattle.timing_defs.specs.Cones.{Touch, is_seed}
-use Rattle.netlist_store.specs.Numbering.{Stored, is_number, owner_number}
+use Rattle.timing_defs.specs.Tests.{is_endpoint}
+use Rattle.netlist_store.specs.Numbering.{Stored, is_number, owner_number, pin_numbered}
 use Rattle.pin_graph.specs.Nodes.{node_at, node_bound, pin_under}
 use Rattle.pin_graph.specs.Graphs.{Graphed, fan_at}
-use Rattle.edit_reach.specs.Besides.{is_tested}
 
 abbrev pub is_in : List ℕ → ℕ → Bool
 is_in nodes n = list_any (nat_eq n) nodes
@@ -27,11 +27,7 @@ pub record AreBehind (g : Graphed) (seeds nodes : List ℕ) : Type 0 where
 abbrev pub IsBeside : Stored → ℕ → ℕ → Type 0
 IsBeside s p q = (p ≡ q) ⊎ ((inst : ℕ) × (owner_number s p ≡ Some inst) × (owner_number s q ≡ Some inst))
 
--- whether a pin may be an endpoint: no instance has it, or one whose cell has tests
-abbrev pub may_end : Stored → ℕ → Bool
-may_end s pin = option_map_or (is_tested s) (owner_number s pin) true
-
--- the pins of seeds are in a list, and of the nodes behind them each pin, and each one beside it, that may be an endpoint
+-- the pins of seeds are in a list, and of the nodes behind them each endpoint that is of one or beside its pin
 pub record HasDirty (s : Stored) (seeds nodes dirty : List ℕ) : Type 0 where
   pub first : (n : ℕ) → is_in seeds n ≡ true → is_in dirty (pin_under n) ≡ true
-  pub each : (n pin : ℕ) → is_in nodes n ≡ true → is_number s.pins pin ≡ true → may_end s pin ≡ true → IsBeside s (pin_under n) pin → is_in dirty pin ≡ true
+  pub each : (n pin : ℕ) → is_in nodes n ≡ true → is_number s.pins pin ≡ true → option_map_or (is_endpoint s.design) (pin_numbered s pin) false ≡ true → IsBeside s (pin_under n) pin → is_in dirty pin ≡ true

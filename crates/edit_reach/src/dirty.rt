@@ -1,4 +1,4 @@
-//! The pins to which an edit leads, with those of their instances.
+//! The pins of seeds, and the endpoints at the nodes behind them: ports, and pins of instances whose cell has tests.
 
 ghost use Rattle.std.specs.Prelude.{◌≡◌, ◌++◌, true, map, IfOk, IfSome, OnOk};
 ghost use Rattle.std.specs.List.{filter_map, flat_map};
@@ -52,7 +52,7 @@ fn tested_under(store: &Store, node: u32) -> Option<u32>
 }
 
 /// The instances of the pins of nodes that have tests in their cells.
-fn insts_under(alloc: Global, store: &Store, nodes: &[u32]) -> Result<Items<u32>, Memory>
+fn tested_insts(alloc: Global, store: &Store, nodes: &[u32]) -> Result<Items<u32>, Memory>
     ensures { IfOk result (λ insts. insts ≡ filter_map (tested_under store.now) nodes.now) }
 {
     let mut insts = Items::new(alloc);
@@ -62,7 +62,7 @@ fn insts_under(alloc: Global, store: &Store, nodes: &[u32]) -> Result<Items<u32>
     Ok(insts)
 }
 
-/// The pin of a node, where it is a port.
+/// The pin of a node, where no instance has it: a port, or a number that is no pin.
 fn port_under(store: &Store, node: u32) -> Option<u32>
     ensures { result ≡ port_under store.now node }
 {
@@ -162,7 +162,7 @@ pub fn dirty_pins(
     ensures { IfOk result (λ pins. HasDirty store.now seeds.now nodes.now pins.keys) }
 {
     store.laws();
-    let found = insts_under(alloc, store, nodes)?;
+    let found = tested_insts(alloc, store, nodes)?;
     let insts = number_set(alloc, found.as_slice())?;
     let mut pins = pins_under(alloc, seeds)?;
     add_ports(&mut pins, store, nodes)?;

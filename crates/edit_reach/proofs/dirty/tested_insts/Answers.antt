@@ -2,7 +2,7 @@ use Rattle.std.proofs.Common.{get_or}
 use Rattle.std.proofs.lemmas.List.{get_or_default}
 use Rattle.pin_graph.proofs.ArcLaws.{first_mapped_more}
 use Rattle.edit_reach.specs.Besides.{tested_under}
-use Rattle.edit_reach.proofs.dirty.insts_under.Goals as goal
+use Rattle.edit_reach.proofs.dirty.tested_insts.Goals as goal
 
 pub loop-node-preserved : goal.loop-node-preserved
 loop-node-preserved c =

@@ -3,7 +3,7 @@ use Rattle.std.specs.Arc.{arc_value}
 use Rattle.arc_delays.specs.declared.tables.ArcDelay.{ArcDelay}
 use Rattle.arc_delays.specs.Delays.{AreDelays}
 use Rattle.arrival_engine.proofs.UpdatedLaws.{delays_whole, fine_whole}
-use Rattle.arrival_engine.proofs.tables.Arrivals.update_from.Goals as goal
+use Rattle.arrival_engine.proofs.tables.Arrivals.update.Goals as goal
 
 pub returns-clause-delays : goal.returns-clause-delays
 returns-clause-delays g c =
