@@ -22,3 +22,4 @@ mod updating;
 pub use analyses::{Analysis, ask};
 pub use asked::{end_named, pin_there};
 pub use ends::{EndSlacks, Search};
+pub use sharing::map_shared;

@@ -33,7 +33,7 @@ fn collected<H: Threads + Sync, I: Sync, R: Send + Drop, F: Fn(&I) -> Result<R, 
 
 /// The results of `f` for some items, in their order, by as many threads as there are processors; or want
 /// of memory.
-pub(crate) fn map_shared<
+pub fn map_shared<
     H: Threads + Sync,
     I: Sync,
     R: Send + Drop,
