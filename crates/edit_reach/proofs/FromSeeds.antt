@@ -1,6 +1,6 @@
 -- The seeds that a graph's update finds are all seeds.
 
-use Rattle.std.proofs.Common.{true, false, List, ℕ, ap, ◌∙◌}
+use Rattle.std.proofs.Common.{false, List, ℕ, ap, ◌∙◌}
 use Rattle.std.specs.Option.{option_map_or}
 use Rattle.timing_defs.specs.Cones.{Touch, is_seed}
 use Rattle.netlist_store.specs.Numbering.{Stored}

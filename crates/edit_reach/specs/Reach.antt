@@ -1,6 +1,6 @@
 -- What the seeds of an edit lead to, and the pins beside it, by numbers of the edited store.
 
-use Rattle.std.specs.Prelude.{ℕ, ◌≡◌, ◌⊎◌, ◌<◌, nat_eq, Bool, true, List, All, Some}
+use Rattle.std.specs.Prelude.{ℕ, ◌≡◌, ◌⊎◌, ◌<◌, nat_eq, Bool, true, false, List, All, Some}
 use Rattle.std.specs.List.{list_any}
 use Rattle.std.specs.Option.{option_map_or}
 use Rattle.timing_defs.specs.Netlist.{Node}
