@@ -15,13 +15,13 @@ use Rattle.timing_defs.specs.declared.parasitics.RcCap.{RcCap}
 use Rattle.timing_defs.specs.declared.parasitics.NetRc.{NetRc}
 use Rattle.timing_defs.specs.declared.design.Design.{Design}
 use Rattle.timing_defs.specs.Netlist.{Pin, pins, pin_named, net_of, is_on}
-use Rattle.timing_defs.specs.Wires.{same_rc, is_lumped, root_node}
+use Rattle.timing_defs.specs.Wires.{same_rc, is_lumped, root_node, touches}
 use Rattle.timing_defs.specs.Checks.{named_nodes, is_pin_of, has_resistor, pins_agree}
 use Rattle.netlist_store.specs.Linked.{IsLinked}
-use Rattle.netlist_store.specs.Numbering.{Stored, name_at, number_of, pin_numbered, is_on_number, IsNumbered}
+use Rattle.netlist_store.specs.Numbering.{Stored, name_at, number_of, is_named, pin_numbered, is_on_number, IsNumbered}
 use Rattle.design_link.specs.Nodes.{is_node, HaveSameNodes}
-use Rattle.timing_defs.proofs.SameNames.{same_self}
-use Rattle.timing_defs.proofs.Members.{some_is, first_in, later_in, in_filter, passes_in, kept_in}
+use Rattle.timing_defs.proofs.SameNames.{same_is, same_self}
+use Rattle.timing_defs.proofs.Members.{some_is, first_in, later_in, in_filter, passes_in, kept_in, any_in, any_back}
 use Rattle.store_pins.proofs.PinLaws.{HasNumber, told_at, there, pin_told, pin_of_number}
 use Rattle.design_link.proofs.Lists.{bool_iff}
 use Rattle.design_link.proofs.NetPinLaws.{ArePinsOn, is_pin_on, pin_is_on}
@@ -75,18 +75,26 @@ named_all p rc =
     ∙ ap (λ b. b && list_all p (map (λ c. c.node) rc.caps)) (ends_all p rc.ress)
     ∙ ap (λ b. list_all (λ r. p r.a && p r.b) rc.ress && b) (caps_all p rc.caps))
 
--- a pin at the end of a resistor
+-- the test of a number's name
+named_is : (name : List ℕ) (o : Option (List ℕ)) → is_named name o ≡ true → o ≡ Some name
+named_is name None e = absurd (true≢false (sym e))
+named_is name (Some n) e = ap Some (same_is n name e)
+
+-- a node at an end of one of some resistors
+abbrev pub is_end : List RcRes → RcNode → Bool
+is_end rs node = list_any (λ r. touches r node) rs
+
 node_flips : (a b : RcNode) → same_rc a b ≡ same_rc b a
 node_flips a b =
     bool_iff (same_rc a b) (same_rc b a) (λ e. ap (λ x. same_rc x a) (sym (node_is a b e)) ∙ node_self a) (λ e. ap (λ x. same_rc x b) (sym (node_is b a e)) ∙ node_self b)
 
-pub at_ends : (rs : List RcRes) (node : RcNode) → is_node (flat_map (λ r. r.a ∷ r.b ∷ []) rs) node ≡ list_any (λ r. same_rc r.a node || same_rc r.b node) rs
+pub at_ends : (rs : List RcRes) (node : RcNode) → is_node (flat_map (λ r. r.a ∷ r.b ∷ []) rs) node ≡ is_end rs node
 at_ends [] node = refl
 at_ends (r ∷ rs) node =
     ap (λ b. same_rc node r.a || (same_rc node r.b || b)) (at_ends rs node)
-    ∙ ap (λ b. b || (same_rc node r.b || list_any (λ x. same_rc x.a node || same_rc x.b node) rs)) (node_flips node r.a)
-    ∙ ap (λ b. same_rc r.a node || (b || list_any (λ x. same_rc x.a node || same_rc x.b node) rs)) (node_flips node r.b)
-    ∙ grouped (same_rc r.a node) (same_rc r.b node) (list_any (λ x. same_rc x.a node || same_rc x.b node) rs)
+    ∙ ap (λ b. b || (same_rc node r.b || is_end rs node)) (node_flips node r.a)
+    ∙ ap (λ b. same_rc r.a node || (b || is_end rs node)) (node_flips node r.b)
+    ∙ grouped (same_rc r.a node) (same_rc r.b node) (is_end rs node)
   where
     grouped : (a b c : Bool) → (a || (b || c)) ≡ ((a || b) || c)
     grouped true b c = refl
@@ -124,34 +132,50 @@ module _ (s : Stored) (num : IsNumbered s) (linked : IsLinked s.design) where
       by None h = sym (ap (λ o. option_map_or (is_on word) o false) h)
       by (Some p) h = absurd (true≢false (sym (num.pin_names name ∙ ap is_some h) ∙ ap is_some e))
 
-  -- all pins on a net are in a set
-  pub all_pins_in : (net : ℕ) (items : List ℕ) (set : List RcNode) (word : List ℕ) → ArePinsOn s net items → name_at s.nets net ≡ Some word
-      → ((k : ℕ) → k < length items → is_node set (pin_node s (get_or items k 0)) ≡ true)
-      → true ≡ list_all (λ pin. is_node set (root_node pin)) (filter (is_on word) (pins s.design))
-  all_pins_in net items set word on here each = sym (all_members (λ pin. is_node set (root_node pin)) (filter (is_on word) (pins s.design)) member)
+  -- a name stands among the pins on a net exactly where its pin is on the net
+  pub named_among : (net : ℕ) (items : List ℕ) (name word : List ℕ) → ArePinsOn s net items → name_at s.nets net ≡ Some word
+      → list_any (λ n. is_named name (name_at s.pins n)) items ≡ is_pin_of s.design word (rc_pin name)
+  named_among net items name word on here =
+      bool_iff (list_any (λ n. is_named name (name_at s.pins n)) items) (is_pin_of s.design word (rc_pin name)) to (back (number_of s.pins name) refl)
     where
-      member : (p : Pin) → Contains (filter (is_on word) (pins s.design)) p → is_node set (root_node p) ≡ true
-      member p c =
-          let h = pin_told s num linked p (kept_in (is_on word) (pins s.design) p c) in
-          let inside = on.all h.0 (pin_is_on s num linked net h.0 word p here h.1 (on_net word (net_of p) (passes_in (is_on word) (pins s.design) p c))) in
-          let at : get_or items inside.0 0 ≡ h.0 = get_or_default items inside.0 0 h.0 inside.1 ∙ inside.2 in
-          let is : pin_node s (get_or items inside.0 0) ≡ root_node p = ap (pin_node s) at ∙ ap rc_pin (ap (λ o. unwrap_or o []) h.1.name) in
-          ap (is_node set) (sym is) ∙ each inside.0 inside.1
+      to : list_any (λ n. is_named name (name_at s.pins n)) items ≡ true → is_pin_of s.design word (rc_pin name) ≡ true
+      to e =
+          let m = any_back (λ n. is_named name (name_at s.pins n)) items e in
+          sym (named_on net m.item name word here (num.pins.distinct m.item name (named_is name (name_at s.pins m.item) m.passes))) ∙ on.on m.item m.within
 
-  pub one_pin_out : (net n : ℕ) (items : List ℕ) (set : List RcNode) (word : List ℕ) → ArePinsOn s net items → name_at s.nets net ≡ Some word → Contains items n
-      → is_node set (pin_node s n) ≡ false → false ≡ list_all (λ pin. is_node set (root_node pin)) (filter (is_on word) (pins s.design))
-  one_pin_out net n items set word on here c out =
-      let r = is_pin_on s num linked net n word here (on.on n c) in
-      let is : pin_node s n ≡ root_node r.pin = ap rc_pin (ap (λ o. unwrap_or o []) r.has.name) in
-      let passes : is_on word r.pin ≡ true = ap (λ o. option_map_or (bytes_eq word) o false) r.on ∙ same_self word in
-      sym (not_all_in (λ pin. is_node set (root_node pin)) (filter (is_on word) (pins s.design)) r.pin (in_filter (is_on word) (pins s.design) r.pin r.has.within passes)
-      (ap (is_node set) (sym is) ∙ out))
+      back : (o : Option ℕ) → number_of s.pins name ≡ o → is_pin_of s.design word (rc_pin name) ≡ true → list_any (λ n. is_named name (name_at s.pins n)) items ≡ true
+      back None h e = absurd (true≢false (sym (not_named name word h ∙ e)))
+      back (Some n) h e =
+          any_in (λ m. is_named name (name_at s.pins m)) items n (on.all n (named_on net n name word here h ∙ e)) (ap (is_named name) (told_at s.pins name n h) ∙ same_self name)
 
--- one pin more is in a set
-pub pins_more : (s : Stored) (items : List ℕ) (set : List RcNode) (i : ℕ) (name : List ℕ) → ((k : ℕ) → k < i → is_node set (pin_node s (get_or items k 0)) ≡ true)
-    → name_at s.pins (get_or items i 0) ≡ Some name → is_node set (rc_pin name) ≡ true → (k : ℕ) → k < i + 1 → is_node set (pin_node s (get_or items k 0)) ≡ true
-pins_more s items set i name had here there k low = elim (cases_eq k i) [
-  | inl same ↦ ap (λ n. is_node set (pin_node s (get_or items n 0))) same ∙ ap (is_node set) (sym (node_at_number s (get_or items i 0) name here)) ∙ there
+  -- all pins on a net pass a test of nodes
+  module _ (net : ℕ) (items : List ℕ) (test : RcNode → Bool) (word : List ℕ) (on : ArePinsOn s net items) (here : name_at s.nets net ≡ Some word) where
+    pub all_pins_pass : ((k : ℕ) → k < length items → test (pin_node s (get_or items k 0)) ≡ true)
+        → true ≡ list_all (λ pin. test (root_node pin)) (filter (is_on word) (pins s.design))
+    all_pins_pass each = sym (all_members (λ pin. test (root_node pin)) (filter (is_on word) (pins s.design)) member)
+      where
+        member : (p : Pin) → Contains (filter (is_on word) (pins s.design)) p → test (root_node p) ≡ true
+        member p c =
+            let h = pin_told s num linked p (kept_in (is_on word) (pins s.design) p c) in
+            let inside = on.all h.0 (pin_is_on s num linked net h.0 word p here h.1 (on_net word (net_of p) (passes_in (is_on word) (pins s.design) p c))) in
+            let at : get_or items inside.0 0 ≡ h.0 = get_or_default items inside.0 0 h.0 inside.1 ∙ inside.2 in
+            let is : pin_node s (get_or items inside.0 0) ≡ root_node p = ap (pin_node s) at ∙ ap rc_pin (ap (λ o. unwrap_or o []) h.1.name) in
+            ap test (sym is) ∙ each inside.0 inside.1
+
+    pub one_pin_fails : (n : ℕ) → Contains items n → test (pin_node s n) ≡ false
+        → false ≡ list_all (λ pin. test (root_node pin)) (filter (is_on word) (pins s.design))
+    one_pin_fails n c fails =
+        let r = is_pin_on s num linked net n word here (on.on n c) in
+        let is : pin_node s n ≡ root_node r.pin = ap rc_pin (ap (λ o. unwrap_or o []) r.has.name) in
+        let passes : is_on word r.pin ≡ true = ap (λ o. option_map_or (bytes_eq word) o false) r.on ∙ same_self word in
+        sym (not_all_in (λ pin. test (root_node pin)) (filter (is_on word) (pins s.design)) r.pin (in_filter (is_on word) (pins s.design) r.pin r.has.within passes)
+        (ap test (sym is) ∙ fails))
+
+-- one pin more passes
+pub pins_more : (s : Stored) (items : List ℕ) (test : RcNode → Bool) (i : ℕ) (name : List ℕ) → ((k : ℕ) → k < i → test (pin_node s (get_or items k 0)) ≡ true)
+    → name_at s.pins (get_or items i 0) ≡ Some name → test (rc_pin name) ≡ true → (k : ℕ) → k < i + 1 → test (pin_node s (get_or items k 0)) ≡ true
+pins_more s items test i name had here there k low = elim (cases_eq k i) [
+  | inl same ↦ ap (λ n. test (pin_node s (get_or items n 0))) same ∙ ap test (sym (node_at_number s (get_or items i 0) name here)) ∙ there
   | inr other ↦ had k (omega arith)
 ]
 

@@ -111,7 +111,7 @@ fn add_name(alloc: Global, set: &mut IndexSet<Name>, name: &Name) -> Result<(), 
 fn name_set(alloc: Global, names: &[Name]) -> Result<IndexSet<Name>, Memory>
     ensures { IfOk result (λ set. (name : List ℕ) → is_listed set.keys name ≡ is_listed names.now name) }
 {
-    let mut set = IndexSet::new(alloc);
+    let mut set = IndexSet::with_capacity(alloc, names.len())?;
     for name in names {
         add_name(alloc, &mut set, name)?;
     }
