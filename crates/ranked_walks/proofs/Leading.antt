@@ -1,6 +1,6 @@
 -- The walks to which branches lead.
 
-use Rattle.std.proofs.Common.{◌≡◌, ℕ, zero, suc, ◌<◌, ◌≤◌, Bool, inl, inr, List, [], ◌∷◌, ◌++◌, length, take, Option, Some, None, refl, sym, ap, subst, ◌∙◌, arith}
+use Rattle.std.proofs.Common.{◌≡◌, ℕ, zero, suc, ◌<◌, ◌≤◌, Bool, true, false, inl, inr, List, [], ◌∷◌, ◌++◌, length, take, Option, Some, None, refl, sym, ap, subst, ◌∙◌, arith}
 use Rattle.std.specs.Prelude.{int_lt, min, slice_get, IsSome, All}
 use Rattle.std.proofs.lemmas.Bool.{cases_Bool, cases_lt}
 use Rattle.std.proofs.lemmas.Int.{ints}
@@ -110,6 +110,11 @@ module _ (rank : ℕ → ℕ) (before : ℕ → List ℕ) (cone : Cone) (tables 
           | inl less ↦ slack_below rank before v w (grind (arith, ints)) off ∙ sym less
           | inr more ↦ slack_above rank before v w (grind (arith, ints)) off ∙ sym more
         ])
+
+    pub told_behind : int_lt c.slack b.slack ≡ true → IsTold rank before cone tables given b c false
+    told_behind more =
+        let less : int_lt b.slack c.slack ≡ false = grind (arith, ints) in
+        subst (IsTold rank before cone tables given b c) less (told_by_slack (λ e. grind (arith, ints)))
 
     pub told_by_walks : (x y : Walk) → IsWalkOf cone tables given b x → IsWalkOf cone tables given c y → (told : Bool) → told ≡ comes_before rank before x y → IsTold rank before cone tables given b c told
     told_by_walks x y f g told e = λ v w k l.

@@ -9,23 +9,110 @@ ghost use Rattle.ranked_walks.specs.Searching.{room_by, part_by, again_kept, mad
 ghost use Rattle.ranked_walks.specs.Fitting.{IsFine, IsRoomy, IsFit, IsAgainFit};
 
 use crate::outs::best_free;
+use smallvec::SmallVec;
 use sta_units::Memory;
 use std::alloc::Global;
+use std::marker::Model;
 use timing_defs::Items;
 use worst_walks::{Cone, Entry, Launch, Walk, WalkOrder, row_at};
 
 /// An arc out of a node, with its delay in fs.
-#[derive(Clone, Copy, Drop)]
+#[derive(Clone, Copy, Default, Drop)]
 pub(crate) struct OutArc {
     pub(crate) to: u32,
     pub(crate) delay: i64,
 }
 
+/// The arcs out of a node, in order. Up to two stand in place, more in a block of their own. Contracts
+/// see the list.
+#[derive(Drop)]
+pub(crate) struct OutArcs {
+    arcs: SmallVec<OutArc, 2>,
+}
+
+impl Model for OutArcs {
+    ghost use Rattle.std.specs.Prelude.{List};
+    ghost use Rattle.ranked_walks.specs.declared.branches.OutArc.{OutArc};
+
+    ghost Value = { List OutArc };
+
+    ghost view = { λ outs. outs.arcs.items };
+}
+
+impl OutArcs {
+    /// No arcs. Takes no memory.
+    pub(crate) fn new(alloc: Global) -> OutArcs
+        ensures { result ≡ [] }
+    {
+        OutArcs {
+            arcs: SmallVec::new(alloc),
+        }
+    }
+
+    pub(crate) fn as_slice(&self) -> &[OutArc]
+        ensures { result.now ≡ self.now }
+    {
+        self.arcs.as_slice()
+    }
+
+    /// Adds an arc at the end.
+    pub(crate) fn push(&mut self, arc: OutArc) -> Result<(), Memory>
+        ensures { OnOk result (self.new ≡ self.old ++ arc ∷ []) }
+    {
+        match self.arcs.push(arc) {
+            Ok(()) => Ok(()),
+            Err(_) => Err(Memory),
+        }
+    }
+}
+
 /// The arcs out of each node of a cone, and for each end node the table of the best walks to it.
 #[derive(Drop)]
 pub(crate) struct Tables {
-    pub(crate) outs: Items<Items<OutArc>>,
+    pub(crate) outs: Items<OutArcs>,
     pub(crate) rows: Items<Items<Option<Entry>>>,
+}
+
+/// The nodes to which the walks of a class do not go on. Up to four stand in place, more in a block of their
+/// own. Contracts see the list.
+#[derive(Drop)]
+pub(crate) struct Barred {
+    nodes: SmallVec<u32, 4>,
+}
+
+impl Model for Barred {
+    ghost use Rattle.std.specs.Prelude.{List, ℕ};
+
+    ghost Value = { List ℕ };
+
+    ghost view = { λ barred. barred.nodes.items };
+}
+
+impl Barred {
+    /// No nodes. Takes no memory.
+    fn none(alloc: Global) -> Barred
+        ensures { result ≡ [] }
+    {
+        Barred {
+            nodes: SmallVec::new(alloc),
+        }
+    }
+
+    pub(crate) fn as_slice(&self) -> &[u32]
+        ensures { result.now ≡ self.now }
+    {
+        self.nodes.as_slice()
+    }
+
+    /// Adds a node at the end.
+    fn push(&mut self, node: u32) -> Result<(), Memory>
+        ensures { OnOk result (self.new ≡ self.old ++ node ∷ []) }
+    {
+        match self.nodes.push(node) {
+            Ok(()) => Ok(()),
+            Err(_) => Err(Memory),
+        }
+    }
 }
 
 /// The walks from a launch to an end node whose first `kept` nodes are those of the walk given as
@@ -41,7 +128,7 @@ pub(crate) struct Branch {
     pub(crate) source: usize,
     pub(crate) kept: usize,
     pub(crate) next: u32,
-    pub(crate) barred: Items<u32>,
+    pub(crate) barred: Barred,
 }
 
 /// A class of walks by the nodes that it keeps of a given walk, the arcs out of the last of which are
@@ -96,13 +183,13 @@ pub(crate) fn start_by(
             source: 0,
             kept: 0,
             next: launch.node,
-            barred: Items::new(alloc),
+            barred: Barred::none(alloc),
         }),
     }
 }
 
 /// The branch of a class whose best way on is this entry.
-fn branch_by(stem: Stem, barred: Items<u32>, entry: Option<Entry>) -> Option<Branch>
+fn branch_by(stem: Stem, barred: Barred, entry: Option<Entry>) -> Option<Branch>
     requires { IsFine stem.room entry }
     ensures { result ≡ branch_by stem.end stem.launch stem.source stem.kept stem.room barred entry }
 {
@@ -127,7 +214,7 @@ fn branch_at<O: WalkOrder>(
     order: &O,
     tables: &Tables,
     stem: Stem,
-    barred: Items<u32>,
+    barred: Barred,
 ) -> Option<Branch>
     requires cone { IsCone cone.now }
     requires order { count_of cone.now ≤ O.count order.now }
@@ -153,11 +240,11 @@ fn room_by(slack: i64, row: Option<Entry>) -> i64
     }
 }
 
-/// A list of one node.
-fn one_node(alloc: Global, node: u32) -> Result<Items<u32>, Memory>
+/// One node alone.
+fn one_node(alloc: Global, node: u32) -> Result<Barred, Memory>
     ensures { IfOk result (λ nodes. nodes ≡ node ∷ []) }
 {
-    let mut nodes = Items::new(alloc);
+    let mut nodes = Barred::none(alloc);
     nodes.push(node)?;
     Ok(nodes)
 }

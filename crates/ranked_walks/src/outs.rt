@@ -8,26 +8,25 @@ ghost use Rattle.worst_walks.specs.Tables.{row_in, ahead, through, IsBounded, Is
 ghost use Rattle.ranked_walks.specs.Branches.{is_barred};
 ghost use Rattle.ranked_walks.specs.Outs.{listed, outs_in, free_entry, best_free, AreListed, IsOut};
 
-use crate::branches::OutArc;
+use crate::branches::{OutArc, OutArcs};
 use sta_units::Memory;
 use std::alloc::Global;
-use timing_defs::Items;
 use worst_walks::{Cone, Entry, WalkArc, WalkOrder, arcs_at, row_at};
 
 /// That many nodes without arcs.
-fn no_outs(alloc: Global, count: usize) -> Result<Vec<Items<OutArc>>, Memory>
+fn no_outs(alloc: Global, count: usize) -> Result<Vec<OutArcs>, Memory>
     ensures { IfOk result (λ outs. outs.items ≡ replicate count []) }
 {
     let mut outs = Vec::new(alloc);
     for node in 0..count {
         let _ = node;
-        outs.push(Items::new(alloc)).map_err(|_| Memory)?;
+        outs.push(OutArcs::new(alloc)).map_err(|_| Memory)?;
     }
     Ok(outs)
 }
 
 /// Adds an arc to those out of a node.
-fn add_out(outs: &mut Vec<Items<OutArc>>, from: u32, arc: OutArc) -> Result<(), Memory>
+fn add_out(outs: &mut Vec<OutArcs>, from: u32, arc: OutArc) -> Result<(), Memory>
     requires { from < length outs.old.items }
     ensures { OnOk result (outs.new.items ≡ slice_set outs.old.items from (outs_in outs.old.items from ++ arc ∷ [])) }
 {
@@ -35,12 +34,7 @@ fn add_out(outs: &mut Vec<Items<OutArc>>, from: u32, arc: OutArc) -> Result<(), 
 }
 
 /// Adds the arcs into a node, each to those out of the node from which it leads.
-fn add_outs(
-    cone: &Cone,
-    outs: &mut Vec<Items<OutArc>>,
-    node: u32,
-    arcs: &[WalkArc],
-) -> Result<(), Memory>
+fn add_outs(cone: &Cone, outs: &mut Vec<OutArcs>, node: u32, arcs: &[WalkArc]) -> Result<(), Memory>
     requires arcs { All (IsArcInto cone.now node) arcs.now }
     requires outs { length outs.old.items ≡ count_of cone.now }
     ensures { OnOk result (outs.new.items ≡ listed node outs.old.items arcs.now) }
@@ -60,11 +54,7 @@ fn add_outs(
 
 /// The arcs out of each node that a walk can follow. Takes a step for each node and arc of the cone.
 #[tactic(auto, using(crate::proofs::OutLaws::listed_none, crate::proofs::OutLaws::listed_more))]
-pub(crate) fn arcs_out(
-    alloc: Global,
-    cone: &Cone,
-    marks: &[bool],
-) -> Result<Vec<Items<OutArc>>, Memory>
+pub(crate) fn arcs_out(alloc: Global, cone: &Cone, marks: &[bool]) -> Result<Vec<OutArcs>, Memory>
     requires cone { IsCone cone.now }
     requires marks { AreFirst cone.now marks.now }
     ensures { IfOk result (λ outs. AreListed cone.now (count_of cone.now) outs.items) }

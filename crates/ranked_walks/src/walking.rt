@@ -1,6 +1,6 @@
 //! The walks to which branches lead, and the first of them.
 
-ghost use Rattle.std.specs.Prelude.{ℕ, ◌≡◌, ◌++◌, ◌<◌, ◌≤◌, take, length, slice_get, IfOk, Some};
+ghost use Rattle.std.specs.Prelude.{ℕ, ◌≡◌, ◌++◌, ◌<◌, ◌≤◌, int_lt, take, length, slice_get, IfOk, Some};
 ghost use Rattle.std.specs.List.{AllByRecursion};
 ghost use Rattle.worst_walks.specs.Walks.{count_of, IsCone};
 ghost use Rattle.ranked_walks.specs.Branches.{kept_of};
@@ -71,7 +71,8 @@ pub(crate) fn walk_of<O: WalkOrder>(
 
 /// Whether the walk to which a branch leads comes before that of another. Lists the two only where
 /// their slacks tie.
-pub(crate) fn precedes<O: WalkOrder>(
+#[inline(never)]
+fn precedes<O: WalkOrder>(
     alloc: Global,
     cone: &Cone,
     order: &O,
@@ -93,6 +94,38 @@ pub(crate) fn precedes<O: WalkOrder>(
     let left = walk_of(alloc, cone, order, tables, given, one)?;
     let right = walk_of(alloc, cone, order, tables, given, other)?;
     comes_before(alloc, order, &left, &right)
+}
+
+/// Whether the slack of a branch is greater than that of another.
+fn is_behind(one: &Branch, other: &Branch) -> bool
+    ensures { result ≡ int_lt other.now.slack one.now.slack }
+{
+    other.slack < one.slack
+}
+
+/// Whether the walk to which a branch leads comes before that of another. Most branches are behind the
+/// first by their slacks alone: `precedes` is called, and not built in, so that the look over all
+/// branches stays short.
+fn is_ahead<O: WalkOrder>(
+    alloc: Global,
+    cone: &Cone,
+    order: &O,
+    tables: &Tables,
+    given: &[Walk],
+    one: &Branch,
+    other: &Branch,
+) -> Result<bool, Memory>
+    requires cone { IsCone cone.now }
+    requires order { count_of cone.now ≤ O.count order.now }
+    requires tables { AreTables (O.rank order.now) cone.now tables.now }
+    requires one { IsOpen (O.rank order.now) (O.before order.now) cone.now tables.now given.now one.now }
+    requires other { IsOpen (O.rank order.now) (O.before order.now) cone.now tables.now given.now other.now }
+    ensures { IfOk result (IsTold (O.rank order.now) (O.before order.now) cone.now tables.now given.now one.now other.now) }
+{
+    if is_behind(one, other) {
+        return Ok(false);
+    }
+    precedes(alloc, cone, order, tables, given, one, other)
 }
 
 /// The branch at a place.
@@ -124,7 +157,7 @@ pub(crate) fn first_open<O: WalkOrder>(
     for place in 1..branches.len() {
         let next = nth(branches, place);
         let first = nth(branches, at);
-        let told = precedes(alloc, cone, order, tables, given, next, first)?;
+        let told = is_ahead(alloc, cone, order, tables, given, next, first)?;
         if told {
             at = place;
         }
