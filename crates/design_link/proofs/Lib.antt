@@ -11,6 +11,7 @@ mod NodeLaws
 mod Orders
 mod RcPinLaws
 mod RootedLaws
+mod WalkLaws
 mod WordLaws
 mod Results
 mod TreeLaws

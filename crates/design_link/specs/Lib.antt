@@ -5,4 +5,5 @@ pub mod Documents
 pub mod Failing
 pub mod Nodes
 pub mod Rooted
+pub mod Walks
 pub mod Words

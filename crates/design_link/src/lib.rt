@@ -15,6 +15,7 @@ mod objects;
 mod pin_words;
 mod rc_pins;
 mod rooted;
+mod walks;
 
 pub use checks::{check_data, check_data_after, check_nets, check_nets_after};
 pub use linking::link;

@@ -133,7 +133,7 @@ fn are_pins_in(store: &Store, net: u32, ends: &NodeSet) -> bool
 }
 
 /// Whether a node is the pin of a name.
-fn is_pin(node: &RcNode, name: &Name) -> bool
+pub(crate) fn is_pin(node: &RcNode, name: &Name) -> bool
     ensures { result ≡ same_rc node.now (RcNode.Pin name.now) }
 {
     match node {

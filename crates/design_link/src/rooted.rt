@@ -5,6 +5,7 @@ ghost use Rattle.std.specs.List.{filter_map, flat_map};
 ghost use Rattle.timing_defs.specs.Documents.{is_net_rc};
 ghost use Rattle.design_link.specs.Rooted.{bare, bare_pin, bare_pins, is_rooted, rooted_by};
 
+use crate::walks::is_walk;
 use rc_tree::{RcFault, Tree};
 use sta_units::{Af, Memory};
 use std::alloc::Global;
@@ -88,6 +89,9 @@ pub(crate) fn is_rooted(alloc: Global, rc: &NetRc, root: &Name) -> Result<bool, 
     ensures { IfOk result (λ rooted. rooted ≡ is_rooted rc.now root.now) }
 {
     if rc.ress.len() == 0 {
+        return Ok(true);
+    }
+    if is_walk(rc, root) {
         return Ok(true);
     }
     let pins = bare_pins(alloc, rc, root)?;

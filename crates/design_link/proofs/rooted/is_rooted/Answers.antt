@@ -11,6 +11,9 @@ of-requires c = subst (IsMeasured c.args.rc.now c.args.root.now) (sym c.in_ok-pi
 pub returns-then-len-eq0 : goal.returns-then-len-eq0
 returns-then-len-eq0 c = few_rooted c.args.rc.now c.args.root.now (sym c.len.ensures ∙ c.if-len-eq0.true)
 
+pub returns-then-is_walk : goal.returns-then-is_walk
+returns-then-is_walk c = sym (c.is_walk.ensures c.if-is_walk.true)
+
 pub returns-in-Ok : goal.returns-in-Ok
 returns-in-Ok c = made_rooted c.args.rc.now c.args.root.now c.in_ok-pins.pins (some_lumped c.args.rc.now (λ e. c.if-len-eq0.false (c.len.ensures ∙ e))) c.in-Ok.ensures.fine
 
