@@ -1,6 +1,6 @@
 -- What the trial of a candidate tells.
 
-use Rattle.std.proofs.Common.{◌≡◌, ℕ, Bool, true, false, Option, None, Result, Ok, Err, IfOk, OnOk, refl, sym, ap, subst, ◌∙◌, inl, inr, true≢false}
+use Rattle.std.proofs.Common.{◌≡◌, ℕ, ◌-◌, Bool, true, false, Option, None, Result, Ok, Err, IfOk, OnOk, refl, sym, ap, subst, ◌∙◌, inl, inr, true≢false, arith}
 use Rattle.std.specs.Prelude.{◌⊎◌}
 use Rattle.sta_units.specs.declared.units.Memory.{Memory}
 use Rattle.sta_units.specs.declared.units.Fs.{Fs}
@@ -13,6 +13,7 @@ use Rattle.timing_defs.specs.declared.reports.Candidate.{Candidate}
 use Rattle.timing_defs.specs.Checks.{Refuses}
 use Rattle.timing_defs.specs.Cones.{IsCounted}
 use Rattle.timing_defs.specs.Advice.{candidate_eco}
+use Rattle.netlist_store.specs.Numbering.{Stored}
 use Rattle.eco_analysis.specs.Counting.{tells}
 use Rattle.sizing_advisor.specs.Trying.{IsTried}
 
@@ -33,3 +34,12 @@ module _ (d : Design) (c : Candidate) (eco : Eco) (e : eco ≡ candidate_eco c) 
   pub refused_counted : (x : Fault) (r : Result (Option Fs) Memory) (n : ℕ) → IsCounted d eco (tells x) n → OnOk r (tells x ≡ true) → OnOk r (IsCounted d (candidate_eco c) true n)
   refused_counted x (Ok value) n counted told = counted_with n (subst (λ (b : Bool). IsCounted d eco b n) told counted)
   refused_counted x (Err m) n counted told = tt
+
+-- the trial of a candidate over a store and a kind that are those of another base, counted from nothing
+pub trial_over : (s t : Stored) (k l : Kind) (c : Candidate) (value : Option Fs) (old new : ℕ) → s ≡ t → k ≡ l → old ≡ 0 → IsTried s.design k c value
+    → IsCounted s.design (candidate_eco c) true (new - old) → IsTried t.design l c value × IsCounted t.design (candidate_eco c) true new
+trial_over s t k l c value old new p q none tried counted = (
+  subst (λ (x : Stored). IsTried x.design l c value) p (subst (λ (x : Kind). IsTried s.design x c value) q tried),
+  subst (λ (x : Stored). IsCounted x.design (candidate_eco c) true new) p
+      (subst (λ (n : ℕ). IsCounted s.design (candidate_eco c) true n) (omega (arith, none)) counted),
+)

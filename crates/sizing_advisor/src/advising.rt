@@ -5,6 +5,7 @@ ghost use Rattle.timing_defs.specs.Advice.{candidate_eco, IsAdvice};
 ghost use Rattle.timing_defs.specs.Cones.{AreCounted};
 ghost use Rattle.sizing_advisor.specs.Trying.{IsBest};
 
+use crate::bases::Base;
 use crate::choices::{Best, as_advice, better};
 use crate::sharing::shared_trials;
 use crate::trials::{Tried, value_of};
@@ -18,27 +19,16 @@ use timing_defs::{Advice, Candidate, Items, Kind};
 
 /// The best of some candidates, tried one after another.
 fn best_in_turn<'a, H: Threads + Sync, G: Gate, L>(
-    rt: &H,
-    alloc: Global,
-    store: &Store,
-    analysis: &Analysis,
-    kind: Kind,
+    base: &Base<'_, H, G>,
     candidates: &'a [Candidate],
-    workers: u32,
-    gate: &G,
     steps: &mut Steps<L>,
 ) -> Result<Option<Best<'a>>, Memory>
-    requires analysis { store.now ≡ analysis.now.stored }
-    requires some { 1 ≤ workers }
-    requires most { workers ≤ 32 }
-    ensures best { IfOk result (λ best. IsBest store.now.design kind candidates.now best steps.old steps.new) }
+    ensures best { IfOk result (λ best. IsBest base.now.store.now.design base.now.kind candidates.now best steps.old steps.new) }
     ensures rises { steps.old ≤ steps.new }
 {
     let mut best = None;
     for candidate in candidates {
-        let value = value_of(
-            rt, alloc, store, analysis, kind, candidate, workers, gate, steps,
-        )?;
+        let value = value_of(base, candidate, steps)?;
         best = better(best, candidate, value);
     }
     Ok(best)
@@ -46,20 +36,14 @@ fn best_in_turn<'a, H: Threads + Sync, G: Gate, L>(
 
 /// The best of some candidates, whose trials are shared between threads.
 fn best_shared<'a, H: Threads + Sync, G: Gate, L>(
-    rt: &H,
-    alloc: Global,
-    store: &Store,
-    analysis: &Analysis,
-    kind: Kind,
+    base: &Base<'_, H, G>,
     candidates: &'a [Candidate],
-    gate: &G,
     steps: &mut Steps<L>,
 ) -> Result<Option<Best<'a>>, Memory>
-    requires { store.now ≡ analysis.now.stored }
-    ensures best { IfOk result (λ best. IsBest store.now.design kind candidates.now best steps.old steps.new) }
+    ensures best { IfOk result (λ best. IsBest base.now.store.now.design base.now.kind candidates.now best steps.old steps.new) }
     ensures rises { steps.old ≤ steps.new }
 {
-    let trials = shared_trials(rt, alloc, store, analysis, kind, candidates, gate)?;
+    let trials = shared_trials(base, candidates)?;
     let mut best = None;
     for (candidate, trial) in candidates.iter().zip(trials) {
         let Tried {
@@ -75,28 +59,17 @@ fn best_shared<'a, H: Threads + Sync, G: Gate, L>(
 /// The best of some candidates: where there are several, and several workers, their trials are shared between
 /// threads, and else each is tried with all workers.
 fn best_of<'a, H: Threads + Sync, G: Gate, L>(
-    rt: &H,
-    alloc: Global,
-    store: &Store,
-    analysis: &Analysis,
-    kind: Kind,
+    base: &Base<'_, H, G>,
     candidates: &'a [Candidate],
-    workers: u32,
-    gate: &G,
     steps: &mut Steps<L>,
 ) -> Result<Option<Best<'a>>, Memory>
-    requires analysis { store.now ≡ analysis.now.stored }
-    requires some { 1 ≤ workers }
-    requires most { workers ≤ 32 }
-    ensures best { IfOk result (λ best. IsBest store.now.design kind candidates.now best steps.old steps.new) }
+    ensures best { IfOk result (λ best. IsBest base.now.store.now.design base.now.kind candidates.now best steps.old steps.new) }
     ensures rises { steps.old ≤ steps.new }
 {
-    if workers < 2 || candidates.len() < 2 {
-        best_in_turn(
-            rt, alloc, store, analysis, kind, candidates, workers, gate, steps,
-        )
+    if base.workers < 2 || candidates.len() < 2 {
+        best_in_turn(base, candidates, steps)
     } else {
-        best_shared(rt, alloc, store, analysis, kind, candidates, gate, steps)
+        best_shared(base, candidates, steps)
     }
 }
 
@@ -125,16 +98,15 @@ pub fn advise<H: Threads + Sync, G: Gate, L>(
     ensures rises { steps.old ≤ steps.new }
     ensures counted { OnOk result (AreCounted store.now.design (map candidate_eco candidates.now) (steps.new - steps.old)) }
 {
-    let best = best_of(
+    let base = Base {
         rt,
         alloc,
         store,
         analysis,
         kind,
-        candidates.as_slice(),
         workers,
         gate,
-        steps,
-    )?;
+    };
+    let best = best_of(&base, candidates.as_slice(), steps)?;
     as_advice(alloc, best)
 }

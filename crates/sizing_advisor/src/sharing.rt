@@ -6,15 +6,14 @@ ghost use denote.Param.Send.{IsSync};
 ghost use Rattle.level_workers.specs.Mapped.{IsMap};
 ghost use Rattle.sizing_advisor.specs.Trying.{IsTrial};
 
+use crate::bases::Base;
 use crate::trials::{Tried, trial_of};
-use affected_cone::Analysis;
-use netlist_store::Store;
 use rayon::prelude::*;
 use sta_outside::Gate;
 use sta_units::Memory;
 use std::alloc::{AllocError, Global};
 use std::thread::Threads;
-use timing_defs::{Candidate, Items, Kind};
+use timing_defs::Candidate;
 
 /// The results of `f` for some items, in their order, unless one wants memory.
 fn collected<H: Threads + Sync, I: Sync, R: Send + Drop, F: Fn(&I) -> Result<R, Memory> + Sync>(
@@ -39,20 +38,14 @@ fn collected<H: Threads + Sync, I: Sync, R: Send + Drop, F: Fn(&I) -> Result<R, 
 
 /// The trials of some candidates, in their order, by as many threads as there are processors; each with one worker.
 pub(crate) fn shared_trials<H: Threads + Sync, G: Gate, L>(
-    rt: &H,
-    alloc: Global,
-    store: &Store,
-    analysis: &Analysis,
-    kind: Kind,
+    base: &Base<'_, H, G>,
     candidates: &[Candidate],
-    gate: &G,
 ) -> Result<Vec<Tried<L>>, Memory>
-    requires { store.now ≡ analysis.now.stored }
-    ensures { IfOk result (λ trials. IsMap (IsTrial store.now.design kind) candidates.now trials.items) }
+    ensures { IfOk result (λ trials. IsMap (IsTrial base.now.store.now.design base.now.kind) candidates.now trials.items) }
 {
     let trial = |candidate: &Candidate| -> Result<Tried<L>, Memory>
-        requires { IsSync H.row × IsSync G.row × (store.now ≡ analysis.now.stored) }
-        ensures { IfOk result (IsTrial store.entry.now.design kind candidate.now) }
-    { trial_of(rt, alloc, store, analysis, kind, candidate, 1, gate) };
-    collected(rt, alloc, candidates, &trial)?
+        requires { IsSync H.row × IsSync G.row }
+        ensures { IfOk result (IsTrial base.entry.now.store.now.design base.entry.now.kind candidate.now) }
+    { trial_of(base, candidate) };
+    collected(base.rt, base.alloc, candidates, &trial)?
 }

@@ -7,9 +7,9 @@ ghost use Rattle.timing_defs.specs.Reports.{IsWns};
 ghost use Rattle.eco_analysis.specs.Counting.{tells};
 ghost use Rattle.sizing_advisor.specs.Trying.{as_number, IsTried, IsTrial};
 
+use crate::bases::Base;
 use affected_cone::Analysis;
 use eco_analysis::after_eco;
-use netlist_store::Store;
 use sta_outside::Gate;
 use sta_units::{Fs, Memory, Steps};
 use std::alloc::Global;
@@ -55,28 +55,28 @@ fn value_refused(fault: Fault) -> Result<Option<Fs>, Memory>
 
 /// The worst slack of a kind after an ECO of one resize; none where that is refused.
 fn value_after<H: Threads + Sync, G: Gate, L>(
-    rt: &H,
-    alloc: Global,
-    store: &Store,
-    analysis: &Analysis,
-    kind: Kind,
+    base: &Base<'_, H, G>,
     candidate: &Candidate,
     eco: &Eco,
-    workers: u32,
-    gate: &G,
     steps: &mut Steps<L>,
 ) -> Result<Option<Fs>, Memory>
-    requires analysis { store.now ≡ analysis.now.stored }
-    requires eco { eco.now ≡ candidate_eco candidate.now }
-    requires some { 1 ≤ workers }
-    requires most { workers ≤ 32 }
-    ensures value { IfOk result (IsTried store.now.design kind candidate.now) }
+    requires { eco.now ≡ candidate_eco candidate.now }
+    ensures value { IfOk result (IsTried base.now.store.now.design base.now.kind candidate.now) }
     ensures rises { steps.old ≤ steps.new }
-    ensures counted { OnOk result (IsCounted store.now.design (candidate_eco candidate.now) true (steps.new - steps.old)) }
+    ensures counted { OnOk result (IsCounted base.now.store.now.design (candidate_eco candidate.now) true (steps.new - steps.old)) }
 {
-    match after_eco(rt, alloc, store, analysis, eco, workers, gate, steps) {
+    match after_eco(
+        base.rt,
+        base.alloc,
+        base.store,
+        base.analysis,
+        eco,
+        base.workers,
+        base.gate,
+        steps,
+    ) {
         Ok(edited) => {
-            let wns = wns_of(&edited.analysis, kind);
+            let wns = wns_of(&edited.analysis, base.kind);
             edited.discard();
             Ok(wns)
         }
@@ -89,27 +89,16 @@ fn discard(_eco: Eco) {}
 /// The value of a candidate: the worst slack of a kind, in fs, of the design that its resize makes; none
 /// where the resize is refused, or where no endpoint has a slack.
 pub(crate) fn value_of<H: Threads + Sync, G: Gate, L>(
-    rt: &H,
-    alloc: Global,
-    store: &Store,
-    analysis: &Analysis,
-    kind: Kind,
+    base: &Base<'_, H, G>,
     candidate: &Candidate,
-    workers: u32,
-    gate: &G,
     steps: &mut Steps<L>,
 ) -> Result<Option<Fs>, Memory>
-    requires analysis { store.now ≡ analysis.now.stored }
-    requires some { 1 ≤ workers }
-    requires most { workers ≤ 32 }
-    ensures value { IfOk result (IsTried store.now.design kind candidate.now) }
+    ensures value { IfOk result (IsTried base.now.store.now.design base.now.kind candidate.now) }
     ensures rises { steps.old ≤ steps.new }
-    ensures counted { OnOk result (IsCounted store.now.design (candidate_eco candidate.now) true (steps.new - steps.old)) }
+    ensures counted { OnOk result (IsCounted base.now.store.now.design (candidate_eco candidate.now) true (steps.new - steps.old)) }
 {
-    let eco = candidate_eco(alloc, candidate)?;
-    let value = value_after(
-        rt, alloc, store, analysis, kind, candidate, &eco, workers, gate, steps,
-    );
+    let eco = candidate_eco(base.alloc, candidate)?;
+    let value = value_after(base, candidate, &eco, steps);
     discard(eco);
     value
 }
@@ -121,25 +110,15 @@ pub(crate) struct Tried<L> {
     pub(crate) steps: Steps<L>,
 }
 
-/// The trial of a candidate, with a count of its own.
+/// The trial of a candidate by one worker, with a count of its own.
 pub(crate) fn trial_of<H: Threads + Sync, G: Gate, L>(
-    rt: &H,
-    alloc: Global,
-    store: &Store,
-    analysis: &Analysis,
-    kind: Kind,
+    base: &Base<'_, H, G>,
     candidate: &Candidate,
-    workers: u32,
-    gate: &G,
 ) -> Result<Tried<L>, Memory>
-    requires analysis { store.now ≡ analysis.now.stored }
-    requires some { 1 ≤ workers }
-    requires most { workers ≤ 32 }
-    ensures { IfOk result (IsTrial store.now.design kind candidate.now) }
+    ensures { IfOk result (IsTrial base.now.store.now.design base.now.kind candidate.now) }
 {
+    let alone = base.alone();
     let mut steps = Steps::none();
-    let value = value_of(
-        rt, alloc, store, analysis, kind, candidate, workers, gate, &mut steps,
-    )?;
+    let value = value_of(&alone, candidate, &mut steps)?;
     Ok(Tried { value, steps })
 }

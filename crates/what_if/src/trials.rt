@@ -10,6 +10,7 @@ ghost use Rattle.timing_defs.specs.Reports.{is_plain};
 ghost use Rattle.eco_analysis.specs.Counting.{tells};
 ghost use Rattle.what_if.specs.Layers.{Follows, IsRowOf};
 
+use crate::bases::Base;
 use crate::drafts::Draft;
 use affected_cone::Analysis;
 use netlist_store::Store;
@@ -33,19 +34,15 @@ fn tells(fault: &Fault) -> bool
 
 /// The answer to an ECO that is tried.
 fn tried<H: Threads + Sync, G: Gate>(
-    rt: &H,
+    base: &Base<'_, H, G>,
     draft: &mut Draft<'_>,
     eco: &Eco,
-    workers: u32,
-    gate: &G,
 ) -> Result<TrialAnswer, Memory>
-    requires eco { is_eco eco.now ≡ true }
-    requires some { 1 ≤ workers }
-    requires most { workers ≤ 32 }
+    requires { is_eco eco.now ≡ true }
     ensures { IfOk result (λ answer. Follows draft.old (Try eco.now) answer draft.new) }
 {
     let mut steps: Steps<Evaluated> = Steps::none();
-    match draft.try_eco(rt, eco, workers, gate, &mut steps) {
+    match draft.try_eco(base.rt, eco, base.workers, base.gate, &mut steps) {
         Ok(()) => Ok(TrialAnswer::Tried),
         Err(fault) => {
             if tells(&fault) {
@@ -100,21 +97,16 @@ fn told_row(alloc: Global, draft: &Draft<'_>, query: &Query) -> Result<TrialRow,
 
 /// The row of a trial.
 fn row_of<H: Threads + Sync, G: Gate>(
-    rt: &H,
-    alloc: Global,
+    base: &Base<'_, H, G>,
     draft: &mut Draft<'_>,
     trial: &Trial,
-    workers: u32,
-    gate: &G,
 ) -> Result<TrialRow, Memory>
-    requires trial { is_trial trial.now ≡ true }
-    requires some { 1 ≤ workers }
-    requires most { workers ≤ 32 }
+    requires { is_trial trial.now ≡ true }
     ensures { IfOk result (λ row. IsRowOf draft.old trial.now row draft.new) }
 {
     match trial {
         Trial::Try(eco) => {
-            let answer = tried(rt, draft, eco, workers, gate)?;
+            let answer = tried(base, draft, eco)?;
             Ok(TrialRow {
                 query: None,
                 answer,
@@ -124,28 +116,23 @@ fn row_of<H: Threads + Sync, G: Gate>(
             query: None,
             answer: dropped(draft),
         }),
-        Trial::Ask(query) => told_row(alloc, draft, query),
+        Trial::Ask(query) => told_row(base.alloc, draft, query),
     }
 }
 
 /// Adds the rows of all trials to none, on a draft over which nothing is tried yet.
 fn push_rows<H: Threads + Sync, G: Gate>(
-    rt: &H,
-    alloc: Global,
+    base: &Base<'_, H, G>,
     draft: &mut Draft<'_>,
     rows: &mut Items<TrialRow>,
     trials: &[Trial],
-    workers: u32,
-    gate: &G,
 ) -> Result<(), Memory>
     requires none { rows.old ≡ [] }
     requires trials { list_all is_trial trials.now ≡ true }
-    requires some { 1 ≤ workers }
-    requires most { workers ≤ 32 }
     ensures { OnOk result ((snapshot : Design) → draft.old ≡ snapshot ∷ [] → AreTrials snapshot [] trials.now rows.new) }
 {
     for trial in trials {
-        let row = row_of(rt, alloc, draft, trial, workers, gate)?;
+        let row = row_of(base, draft, trial)?;
         rows.push(row)?;
     }
     Ok(())
@@ -153,24 +140,16 @@ fn push_rows<H: Threads + Sync, G: Gate>(
 
 /// Adds the rows of all trials on a draft of a design to none.
 fn push_draft_rows<H: Threads + Sync, G: Gate>(
-    rt: &H,
-    alloc: Global,
-    store: &Store,
-    analysis: &Analysis,
+    base: &Base<'_, H, G>,
     rows: &mut Items<TrialRow>,
     trials: &[Trial],
-    workers: u32,
-    gate: &G,
 ) -> Result<(), Memory>
-    requires analysis { store.now ≡ analysis.now.stored }
     requires none { rows.old ≡ [] }
     requires trials { list_all is_trial trials.now ≡ true }
-    requires some { 1 ≤ workers }
-    requires most { workers ≤ 32 }
-    ensures { OnOk result (AreTrials store.now.design [] trials.now rows.new) }
+    ensures { OnOk result (AreTrials base.now.store.now.design [] trials.now rows.new) }
 {
-    let mut draft = Draft::over(alloc, store, analysis);
-    let done = push_rows(rt, alloc, &mut draft, rows, trials, workers, gate);
+    let mut draft = Draft::over(base.alloc, base.store, base.analysis);
+    let done = push_rows(base, &mut draft, rows, trials);
     draft.discard();
     done
 }
@@ -198,17 +177,16 @@ pub fn trial_rows<H: Threads + Sync, G: Gate>(
     requires most { workers ≤ 32 }
     ensures { IfOk result (λ rows. AreTrials store.now.design [] trials.now rows) }
 {
+    let base = Base {
+        rt,
+        alloc,
+        store,
+        analysis,
+        workers,
+        gate,
+    };
     match Items::with_room(alloc, trials.len()) {
-        Ok(mut rows) => match push_draft_rows(
-            rt,
-            alloc,
-            store,
-            analysis,
-            &mut rows,
-            trials.as_slice(),
-            workers,
-            gate,
-        ) {
+        Ok(mut rows) => match push_draft_rows(&base, &mut rows, trials.as_slice()) {
             Ok(()) => Ok(rows),
             Err(Memory) => {
                 discard_rows(rows);

@@ -11,7 +11,7 @@ loop-candidate-preserved g c =
     let so : before ++ c.candidate-item.result ∷ [] ≡ take (c.loop-candidate.candidate-index + 1) c.args.candidates.now =
     ap (λ (x : Candidate). before ++ x ∷ []) c.candidate-item.is
     ∙ sym (take_more c.args.candidates.now c.loop-candidate.candidate-index c.candidate-item.result c.loop-candidate-test.true) in
-    subst (λ (cs : List Candidate). IsBest c.args.store.now.design c.args.kind cs c.better-best.result c.args.steps.now c.value_of.new.steps) so
-    (best_with c.args.store.now.design c.args.kind before c.loop-candidate.best c.args.steps.now c.loop-candidate.steps c.loop-candidate.invariant
+    subst (λ (cs : List Candidate). IsBest c.args.base.now.store.now.design c.args.base.now.kind cs c.better-best.result c.args.steps.now c.value_of.new.steps) so
+    (best_with c.args.base.now.store.now.design c.args.base.now.kind before c.loop-candidate.best c.args.steps.now c.loop-candidate.steps c.loop-candidate.invariant
     c.candidate-item.result c.in_ok-value.value c.better-best.result c.value_of.new.steps c.in_ok-value.ensures.value c.better-best.ensures
     c.in_ok-value.ensures.rises c.in_ok-value.ensures.counted)

@@ -3,4 +3,4 @@ use Rattle.sizing_advisor.specs.Trying.{IsBest}
 use Rattle.sizing_advisor.proofs.advising.best_in_turn.Given as goal
 
 abbrev pub invariant-loop-candidate : goal.invariant-loop-candidate
-invariant-loop-candidate g l = IsBest l.store.design l.kind (take l.candidate-index l.candidates) l.best l.fn.steps l.steps
+invariant-loop-candidate g l = IsBest l.base.store.now.design l.base.kind (take l.candidate-index l.candidates) l.best l.fn.steps l.steps

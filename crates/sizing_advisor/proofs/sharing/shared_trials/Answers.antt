@@ -8,6 +8,6 @@ use Rattle.sizing_advisor.proofs.sharing.shared_trials.Goals as goal
 pub returns : goal.returns
 returns g c =
     ok_more c.in_ok-collected.field-0
-    (λ trials told. trials_told c.args.store.now.design c.args.kind _ c.args.candidates.now trials.items
-    (λ x t k. subst (λ (y : Candidate). IsTrial c.args.store.now.design c.args.kind y t) k.shows k.says.met) told)
+    (λ trials told. trials_told c.args.base.now.store.now.design c.args.base.now.kind _ c.args.candidates.now trials.items
+    (λ x t k. subst (λ (y : Candidate). IsTrial c.args.base.now.store.now.design c.args.base.now.kind y t) k.shows k.says.met) told)
     c.in_ok-collected.ensures

@@ -4,14 +4,14 @@ use Rattle.sizing_advisor.proofs.trials.value_after.Goals as goal
 
 pub returns-in-Ok-clause-counted : goal.returns-in-Ok-clause-counted
 returns-in-Ok-clause-counted g c =
-    counted_with c.args.store.now.design c.args.candidate.now c.args.eco.now c.requires.eco (c.after_eco.new.steps - c.args.steps.now) c.in-Ok.ensures.counted
+    counted_with c.args.base.now.store.now.design c.args.candidate.now c.args.eco.now c.requires (c.after_eco.new.steps - c.args.steps.now) c.in-Ok.ensures.counted
 
 pub returns-in-Err-clause-value : goal.returns-in-Err-clause-value
 returns-in-Err-clause-value g c =
-    refused_value c.args.store.now.design c.args.candidate.now c.args.eco.now c.requires.eco c.args.kind c.in-Err.fault c.value_refused.result
+    refused_value c.args.base.now.store.now.design c.args.candidate.now c.args.eco.now c.requires c.args.base.now.kind c.in-Err.fault c.value_refused.result
     c.in-Err.ensures.refused c.value_refused.ensures.none c.value_refused.ensures.told
 
 pub returns-in-Err-clause-counted : goal.returns-in-Err-clause-counted
 returns-in-Err-clause-counted g c =
-    refused_counted c.args.store.now.design c.args.candidate.now c.args.eco.now c.requires.eco c.in-Err.fault c.value_refused.result (c.after_eco.new.steps - c.args.steps.now)
+    refused_counted c.args.base.now.store.now.design c.args.candidate.now c.args.eco.now c.requires c.in-Err.fault c.value_refused.result (c.after_eco.new.steps - c.args.steps.now)
     c.in-Err.ensures.counted c.value_refused.ensures.told
