@@ -45,7 +45,7 @@ fn best_shared<'a, H: Threads + Sync, G: Gate, L>(
 {
     let trials = shared_trials(base, candidates)?;
     let mut best = None;
-    for (candidate, trial) in candidates.iter().zip(trials) {
+    for (candidate, trial) in candidates.iter().zip(trials.into_vec()) {
         let Tried {
             value,
             steps: counted,

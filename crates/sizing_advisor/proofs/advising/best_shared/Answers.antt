@@ -4,12 +4,12 @@ use Rattle.sizing_advisor.proofs.advising.best_shared.Goals as goal
 
 pub loop-candidate-init : goal.loop-candidate-init
 loop-candidate-init g c =
-    let long : c.in_ok-trials.trials.len ≡ length c.in_ok-trials.trials.items = search rules in
+    let long : c.into_vec.result.len ≡ length c.into_vec.result.items = search rules in
     far_begun c.args.base.now.store.now.design c.args.base.now.kind c.args.candidates.now c.args.steps.now c.into_iter-candidate-iterator.result.a.rest.now
-    c.into_iter-candidate-iterator.result.b.rest.items c.in_ok-trials.trials.items c.into_iter-candidate-iterator.result.b.rest.len c.in_ok-trials.ensures
+    c.into_iter-candidate-iterator.result.b.rest.items c.in_ok-trials.trials c.into_iter-candidate-iterator.result.b.rest.len c.in_ok-trials.ensures
     (ap (λ z. z.a.rest.now) c.into_iter-candidate-iterator.ensures.into_iter_gives ∙ ap (λ i. i.rest.now) c.zip-candidate-items.ensures.first ∙ c.iter.ensures.rest)
-    (ap (λ z. z.b.rest.items) c.into_iter-candidate-iterator.ensures.into_iter_gives ∙ c.zip-candidate-items.ensures.second.0)
-    (ap (λ z. z.b.rest.len) c.into_iter-candidate-iterator.ensures.into_iter_gives ∙ c.zip-candidate-items.ensures.second.1 ∙ long)
+    (ap (λ z. z.b.rest.items) c.into_iter-candidate-iterator.ensures.into_iter_gives ∙ c.zip-candidate-items.ensures.second.0 ∙ c.into_vec.ensures)
+    (ap (λ z. z.b.rest.len) c.into_iter-candidate-iterator.ensures.into_iter_gives ∙ c.zip-candidate-items.ensures.second.1 ∙ long ∙ ap length c.into_vec.ensures)
 
 pub loop-candidate-preserved : goal.loop-candidate-preserved
 loop-candidate-preserved g c =

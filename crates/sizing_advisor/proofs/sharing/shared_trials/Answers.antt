@@ -7,7 +7,7 @@ use Rattle.sizing_advisor.proofs.sharing.shared_trials.Goals as goal
 
 pub returns : goal.returns
 returns g c =
-    ok_more c.in_ok-collected.field-0
-    (λ trials told. trials_told c.args.base.now.store.now.design c.args.base.now.kind _ c.args.candidates.now trials.items
+    ok_more c.map_shared.result
+    (λ trials told. trials_told c.args.base.now.store.now.design c.args.base.now.kind _ c.args.candidates.now trials
     (λ x t k. subst (λ (y : Candidate). IsTrial c.args.base.now.store.now.design c.args.base.now.kind y t) k.shows k.says.met) told)
-    c.in_ok-collected.ensures
+    c.map_shared.ensures
