@@ -11,7 +11,8 @@ use Rattle.worst_walks.specs.declared.cones.WalkEnd.{WalkEnd}
 use Rattle.worst_walks.specs.Walks.{is_launched}
 use Rattle.through_paths.specs.Passing.{next_pass, pass_all, begun_at}
 
-pass_append : (nodes : List ℕ) (wanted : List (Option ℕ)) (s : ℕ) (ns ms : List ℕ) → pass_all nodes wanted s (ns ++ ms) ≡ pass_all nodes wanted (pass_all nodes wanted s ns) ms
+-- nodes behind others
+pub pass_append : (nodes : List ℕ) (wanted : List (Option ℕ)) (s : ℕ) (ns ms : List ℕ) → pass_all nodes wanted s (ns ++ ms) ≡ pass_all nodes wanted (pass_all nodes wanted s ns) ms
 pass_append nodes wanted s [] ms = refl
 pass_append nodes wanted s (n ∷ ns) ms = pass_append nodes wanted (next_pass nodes wanted s n) ns ms
 

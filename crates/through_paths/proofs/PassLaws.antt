@@ -24,15 +24,12 @@ use Rattle.through_walks.specs.declared.stops.Stop.{Stop}
 use Rattle.through_walks.specs.Through.{next_stop, passed, passes, stands_at}
 use Rattle.through_paths.specs.Passing.{is_wanted, next_pass, pass_all, AreBegun, IsStop, AreStops}
 use Rattle.through_paths.proofs.Greedy.{greedy, meets, all_by, alike_all, alike_length, AreAlike, Each}
+use Rattle.through_paths.proofs.BegunLaws.{pass_append}
 
 -- the same counts, as items met in order
 pass_by : (nodes : List ℕ) (wanted : List (Option ℕ)) (s : ℕ) (ns : List ℕ) → pass_all nodes wanted s ns ≡ all_by (λ w n. is_wanted nodes n w) wanted s ns
 pass_by nodes wanted s [] = refl
 pass_by nodes wanted s (n ∷ ns) = pass_by nodes wanted (next_pass nodes wanted s n) ns
-
-pass_append : (nodes : List ℕ) (wanted : List (Option ℕ)) (s : ℕ) (ns ms : List ℕ) → pass_all nodes wanted s (ns ++ ms) ≡ pass_all nodes wanted (pass_all nodes wanted s ns) ms
-pass_append nodes wanted s [] ms = refl
-pass_append nodes wanted s (n ∷ ns) ms = pass_append nodes wanted (next_pass nodes wanted s n) ns ms
 
 abbrev is_at : Stop → ℕ → Bool
 is_at stop n = (stop.rise == n) || (stop.fall == n)
