@@ -11,7 +11,7 @@ ghost use Rattle.netlist_store.specs.Applying.{IsApplied, IsRefused};
 ghost use Rattle.design_link.specs.After.{IsMadeOf};
 ghost use Rattle.affected_cone.specs.Analysed.{IsAnalysis};
 ghost use Rattle.eco_analysis.specs.Soundness.{IsRefusal};
-ghost use Rattle.eco_analysis.specs.Counting.{is_told};
+ghost use Rattle.eco_analysis.specs.Counting.{tells, is_told};
 
 use crate::analysing::analysed_edited;
 use crate::owners::{shared, tell_laws};
@@ -44,6 +44,13 @@ impl Edited {
         let Edited { store, analysis } = self;
         let _ = (store, analysis);
     }
+}
+
+/// Whether a fault tells of a design: each but want of memory.
+pub fn tells(fault: &Fault) -> bool
+    ensures { result ≡ tells fault.now }
+{
+    !matches!(fault, Fault::Memory)
 }
 
 /// The store after an ECO on an analysed one, and what it touched.

@@ -11,6 +11,6 @@ mod owners;
 mod soundness;
 
 pub use analysing::analysed;
-pub use editing::{Edited, after_eco, exclusion};
+pub use editing::{Edited, after_eco, exclusion, tells};
 pub use owners::{shared, tell_laws};
 pub use soundness::sound_graph;

@@ -9,7 +9,7 @@ ghost use Rattle.sizing_advisor.specs.Trying.{as_number, IsTried, IsTrial};
 
 use crate::bases::Base;
 use affected_cone::Analysis;
-use eco_analysis::after_eco;
+use eco_analysis::{after_eco, tells};
 use sta_outside::Gate;
 use sta_units::{Fs, Memory, Steps};
 use std::alloc::Global;
@@ -36,13 +36,6 @@ fn wns_of(analysis: &Analysis, kind: Kind) -> Option<Fs>
         Kind::Setup => totals.setup_wns,
         Kind::Hold => totals.hold_wns,
     }
-}
-
-/// Whether a fault tells of a design.
-fn tells(fault: &Fault) -> bool
-    ensures { result ≡ tells fault.now }
-{
-    !matches!(fault, Fault::Memory)
 }
 
 /// The value of a candidate that is refused: none, but for want of memory.

@@ -7,30 +7,23 @@ ghost use Rattle.timing_defs.specs.declared.reports.Trial.TheVariants.{Try, Drop
 ghost use Rattle.timing_defs.specs.Documents.{is_eco, is_trial};
 ghost use Rattle.timing_defs.specs.Drafts.{AreTrials};
 ghost use Rattle.timing_defs.specs.Reports.{is_plain};
-ghost use Rattle.eco_analysis.specs.Counting.{tells};
 ghost use Rattle.what_if.specs.Layers.{Follows, IsRowOf};
 
 use crate::bases::Base;
 use crate::drafts::Draft;
 use affected_cone::Analysis;
+use eco_analysis::tells;
 use netlist_store::Store;
 use sta_outside::Gate;
 use sta_units::{Again, Memory, Steps};
 use std::alloc::Global;
 use std::thread::Threads;
-use timing_defs::{Eco, Fault, Items, Query, QueryFault, Trial, TrialAnswer, TrialRow};
+use timing_defs::{Eco, Items, Query, QueryFault, Trial, TrialAnswer, TrialRow};
 
 /// The count of nodes that are evaluated for trials.
 struct Evaluated;
 
 fn discard_query(_query: Query) {}
-
-/// Whether a fault tells of a design.
-fn tells(fault: &Fault) -> bool
-    ensures { result ≡ tells fault.now }
-{
-    !matches!(fault, Fault::Memory)
-}
 
 /// The answer to an ECO that is tried.
 fn tried<H: Threads + Sync, G: Gate>(
