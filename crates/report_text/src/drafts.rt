@@ -8,12 +8,10 @@ use crate::pieces::{push, push_count, push_end};
 use crate::reports::push_plain;
 use crate::rows::{push_no, push_refused};
 use sta_units::Memory;
-use std::alloc::Global;
 use timing_defs::{Clock, Query, Report, TrialAnswer, TrialRow};
 
 /// A report of a plain question; nothing where there is no question.
 fn push_plainly_told(
-    alloc: Global,
     out: &mut Vec<u8>,
     clocks: &[Clock],
     query: &Option<Query>,
@@ -23,12 +21,11 @@ fn push_plainly_told(
 {
     match query {
         None => Ok(()),
-        Some(query) => push_plain(alloc, out, clocks, query, report),
+        Some(query) => push_plain(out, clocks, query, report),
     }
 }
 
 fn push_trial(
-    alloc: Global,
     out: &mut Vec<u8>,
     clocks: &[Clock],
     query: &Option<Query>,
@@ -42,46 +39,35 @@ fn push_trial(
         TrialAnswer::Dropped => push(out, b"dropped\n"),
         TrialAnswer::NoDraft => push(out, b"no_draft\n"),
         TrialAnswer::No(fault) => push_no(out, fault),
-        TrialAnswer::Told(report) => push_plainly_told(alloc, out, clocks, query, report),
+        TrialAnswer::Told(report) => push_plainly_told(out, clocks, query, report),
     }
 }
 
-fn push_trial_row(
-    alloc: Global,
-    out: &mut Vec<u8>,
-    clocks: &[Clock],
-    row: &TrialRow,
-) -> Result<(), Memory>
+fn push_trial_row(out: &mut Vec<u8>, clocks: &[Clock], row: &TrialRow) -> Result<(), Memory>
     ensures { OnOk result (out.new.items ≡ out.old.items ++ trial_row_text clocks.now row.now) }
 {
-    push_trial(alloc, out, clocks, &row.query, &row.answer)
+    push_trial(out, clocks, &row.query, &row.answer)
 }
 
 #[tactic(auto, using(std::proofs::lemmas::List::drop_more))]
-fn push_trial_rows(
-    alloc: Global,
-    out: &mut Vec<u8>,
-    clocks: &[Clock],
-    rows: &[TrialRow],
-) -> Result<(), Memory>
+fn push_trial_rows(out: &mut Vec<u8>, clocks: &[Clock], rows: &[TrialRow]) -> Result<(), Memory>
     ensures { OnOk result (out.new.items ≡ out.old.items ++ flat_map (trial_row_text clocks.now) rows.now) }
 {
     for row in rows {
-        push_trial_row(alloc, out, clocks, row)?;
+        push_trial_row(out, clocks, row)?;
     }
     Ok(())
 }
 
 /// The trials on a draft: how many, and the answer of each.
 pub(crate) fn push_drafted(
-    alloc: Global,
     out: &mut Vec<u8>,
     clocks: &[Clock],
     rows: &[TrialRow],
 ) -> Result<(), Memory>
     ensures { OnOk result (out.new.items ≡ out.old.items ++ (line (codes "what_if" ++ number (length rows.now)) ++ flat_map (trial_row_text clocks.now) rows.now)) }
 {
-    push_count(alloc, out, b"what_if", rows.len() as u64)?;
+    push_count(out, b"what_if", rows.len() as u64)?;
     push_end(out)?;
-    push_trial_rows(alloc, out, clocks, rows)
+    push_trial_rows(out, clocks, rows)
 }

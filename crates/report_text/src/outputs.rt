@@ -39,7 +39,7 @@ fn push_entries(alloc: Global, out: &mut Vec<u8>, entries: &[Entry]) -> Result<(
 fn push_journal(alloc: Global, out: &mut Vec<u8>, entries: &[Entry]) -> Result<(), Memory>
     ensures { OnOk result (out.new.items ≡ out.old.items ++ journal_text entries.now) }
 {
-    push_count(alloc, out, b"journal 1", entries.len() as u64)?;
+    push_count(out, b"journal 1", entries.len() as u64)?;
     push_end(out)?;
     push_entries(alloc, out, entries)
 }
@@ -61,7 +61,6 @@ fn push_block(
 
 /// The rows of a session behind their first line, by the session's number.
 fn push_session(
-    alloc: Global,
     out: &mut Vec<u8>,
     clocks: &[Clock],
     number: u64,
@@ -70,16 +69,15 @@ fn push_session(
     ensures { OnOk result (out.new.items ≡ out.old.items ++ session_text clocks.now number transcript.now) }
 {
     let rows = transcript.rows.as_slice();
-    push_count(alloc, out, b"session", number)?;
-    push_count(alloc, out, b" rows", rows.len() as u64)?;
+    push_count(out, b"session", number)?;
+    push_count(out, b" rows", rows.len() as u64)?;
     push_end(out)?;
-    push_rows(alloc, out, clocks, rows)
+    push_rows(out, clocks, rows)
 }
 
 /// The sessions with their numbers, from 1 on.
 #[tactic(auto, using(std::proofs::lemmas::List::drop_more))]
 fn push_sessions(
-    alloc: Global,
     out: &mut Vec<u8>,
     clocks: &[Clock],
     transcripts: &[Transcript],
@@ -89,32 +87,26 @@ fn push_sessions(
     let mut number = 0;
     for transcript in transcripts {
         number += 1;
-        push_session(alloc, out, clocks, number, transcript)?;
+        push_session(out, clocks, number, transcript)?;
     }
     Ok(())
 }
 
 /// The worst slack and the total negative slack of a kind, behind its word.
-fn push_totals(
-    alloc: Global,
-    out: &mut Vec<u8>,
-    kind: &[u8],
-    wns: Option<Fs>,
-    tns: Fs,
-) -> Result<(), Memory>
+fn push_totals(out: &mut Vec<u8>, kind: &[u8], wns: Option<Fs>, tns: Fs) -> Result<(), Memory>
     ensures { OnOk result (out.new.items ≡ out.old.items ++ (kind.now ++ word (time_text wns) ++ word (ps_text tns.0))) }
 {
     push(out, kind)?;
-    push_time(alloc, out, wns)?;
-    push_ps(alloc, out, tns)
+    push_time(out, wns)?;
+    push_ps(out, tns)
 }
 
-fn push_final(alloc: Global, out: &mut Vec<u8>, totals: &Totals) -> Result<(), Memory>
+fn push_final(out: &mut Vec<u8>, totals: &Totals) -> Result<(), Memory>
     ensures { OnOk result (out.new.items ≡ out.old.items ++ final_text totals.now) }
 {
-    push_count(alloc, out, b"final", totals.number)?;
-    push_totals(alloc, out, b" setup", totals.setup_wns, totals.setup_tns)?;
-    push_totals(alloc, out, b" hold", totals.hold_wns, totals.hold_tns)?;
+    push_count(out, b"final", totals.number)?;
+    push_totals(out, b" setup", totals.setup_wns, totals.setup_tns)?;
+    push_totals(out, b" hold", totals.hold_wns, totals.hold_tns)?;
     push_end(out)
 }
 
@@ -152,8 +144,8 @@ pub fn output_bytes(
 {
     let mut out = Vec::new(alloc);
     push_journal(alloc, &mut out, entries.as_slice())?;
-    push_sessions(alloc, &mut out, clocks.as_slice(), transcripts.as_slice())?;
-    push_final(alloc, &mut out, totals)?;
+    push_sessions(&mut out, clocks.as_slice(), transcripts.as_slice())?;
+    push_final(&mut out, totals)?;
     Ok(out)
 }
 
@@ -178,7 +170,7 @@ pub fn output_saved_bytes(
 {
     let mut out = Vec::new(alloc);
     push_block(alloc, &mut out, first, derates, entries)?;
-    push_sessions(alloc, &mut out, clocks.as_slice(), transcripts.as_slice())?;
-    push_final(alloc, &mut out, totals)?;
+    push_sessions(&mut out, clocks.as_slice(), transcripts.as_slice())?;
+    push_final(&mut out, totals)?;
     Ok(out)
 }

@@ -1,12 +1,12 @@
 //! Words, numbers and times, put behind the bytes that are there.
 
-ghost use Rattle.std.specs.Prelude.{◌≡◌, ◌++◌, ◌∷◌, [], OnOk};
+ghost use Rattle.std.specs.Prelude.{◌≡◌, ◌+◌, ◌<◌, ◌++◌, ◌∷◌, [], OnOk};
+ghost use Rattle.std.specs.Fmt.{decimal};
 ghost use Rattle.std.specs.List.{flat_map};
-ghost use Rattle.sta_units.specs.Picoseconds.{ps_text};
+ghost use Rattle.sta_units.specs.Picoseconds.{thousandths_text, ps_text};
 ghost use Rattle.timing_defs.specs.Output.{word, number, time_text, tran_text, kind_text};
 
-use sta_units::{Fs, Memory, print_ps};
-use std::alloc::Global;
+use sta_units::{Fs, Memory};
 use timing_defs::{Kind, Name, Tran};
 
 pub(crate) fn push(out: &mut Vec<u8>, text: &[u8]) -> Result<(), Memory>
@@ -16,18 +16,25 @@ pub(crate) fn push(out: &mut Vec<u8>, text: &[u8]) -> Result<(), Memory>
     Ok(())
 }
 
+/// One byte.
+fn push_byte(out: &mut Vec<u8>, byte: u8) -> Result<(), Memory>
+    ensures { OnOk result (out.new.items ≡ out.old.items ++ byte ∷ []) }
+{
+    out.push(byte).map_err(|_| Memory)
+}
+
 /// A line feed.
 pub(crate) fn push_end(out: &mut Vec<u8>) -> Result<(), Memory>
     ensures { OnOk result (out.new.items ≡ out.old.items ++ 10 ∷ []) }
 {
-    push(out, b"\n")
+    push_byte(out, b'\n')
 }
 
 /// A blank and a word.
 pub(crate) fn push_word(out: &mut Vec<u8>, text: &[u8]) -> Result<(), Memory>
     ensures { OnOk result (out.new.items ≡ out.old.items ++ word text.now) }
 {
-    push(out, b" ")?;
+    push_byte(out, b' ')?;
     push(out, text)
 }
 
@@ -42,42 +49,81 @@ pub(crate) fn push_names(out: &mut Vec<u8>, names: &[Name]) -> Result<(), Memory
     Ok(())
 }
 
+/// The digit of a number below 10.
+fn digit(n: u64) -> u8
+    requires { n < 10 }
+    ensures { result ≡ 48 + n }
+{
+    b'0' + n as u8
+}
+
+/// The digits of a number.
+#[tactic(auto, using(crate::proofs::Digits::one_digit, crate::proofs::Digits::more_digits))]
+pub(crate) fn push_digits(out: &mut Vec<u8>, n: u64) -> Result<(), Memory>
+    ensures { OnOk result (out.new.items ≡ out.old.items ++ decimal n) }
+{
+    if n < 10 {
+        return push_byte(out, digit(n));
+    }
+    push_digits(out, n / 10)?;
+    push_byte(out, digit(n % 10))
+}
+
 /// A blank and a number.
-pub(crate) fn push_number(alloc: Global, out: &mut Vec<u8>, n: u64) -> Result<(), Memory>
+pub(crate) fn push_number(out: &mut Vec<u8>, n: u64) -> Result<(), Memory>
     ensures { OnOk result (out.new.items ≡ out.old.items ++ number n) }
 {
-    let digits = n.to_string(alloc)?;
-    push_word(out, digits.as_bytes())
+    push_byte(out, b' ')?;
+    push_digits(out, n)
 }
 
 /// Words and the number behind them.
-pub(crate) fn push_count(
-    alloc: Global,
-    out: &mut Vec<u8>,
-    words: &[u8],
-    n: u64,
-) -> Result<(), Memory>
+pub(crate) fn push_count(out: &mut Vec<u8>, words: &[u8], n: u64) -> Result<(), Memory>
     ensures { OnOk result (out.new.items ≡ out.old.items ++ (words.now ++ number n)) }
 {
     push(out, words)?;
-    push_number(alloc, out, n)
+    push_number(out, n)
+}
+
+/// Thousandths as a number with three decimals.
+#[tactic(auto, using(crate::proofs::Digits::three_decimals))]
+fn push_thousandths(out: &mut Vec<u8>, count: u64) -> Result<(), Memory>
+    ensures { OnOk result (out.new.items ≡ out.old.items ++ thousandths_text count) }
+{
+    push_digits(out, count / 1000)?;
+    let tenths = digit(count / 100 % 10);
+    let hundredths = digit(count / 10 % 10);
+    let rest = digit(count % 10);
+    push(out, &[b'.', tenths, hundredths, rest])
+}
+
+/// A time in picoseconds with three decimals, behind a minus where it is negative.
+#[tactic(auto, unfolding(sta_units::specs::Picoseconds::ps_text))]
+fn push_picoseconds(out: &mut Vec<u8>, time: Fs) -> Result<(), Memory>
+    ensures { OnOk result (out.new.items ≡ out.old.items ++ ps_text time.0) }
+{
+    if time.0 < 0 {
+        push_byte(out, b'-')?;
+        return push_thousandths(out, time.0.unsigned_abs());
+    }
+    push_thousandths(out, time.0.unsigned_abs())
 }
 
 /// A blank and a time.
-pub(crate) fn push_ps(alloc: Global, out: &mut Vec<u8>, time: Fs) -> Result<(), Memory>
+pub(crate) fn push_ps(out: &mut Vec<u8>, time: Fs) -> Result<(), Memory>
     ensures { OnOk result (out.new.items ≡ out.old.items ++ word (ps_text time.0)) }
 {
-    let text = print_ps(alloc, time)?;
-    push_word(out, text.as_bytes())
+    push_byte(out, b' ')?;
+    push_picoseconds(out, time)
 }
 
 /// A blank and a time, or `none`.
-pub(crate) fn push_time(alloc: Global, out: &mut Vec<u8>, time: Option<Fs>) -> Result<(), Memory>
+pub(crate) fn push_time(out: &mut Vec<u8>, time: Option<Fs>) -> Result<(), Memory>
     ensures { OnOk result (out.new.items ≡ out.old.items ++ word (time_text time)) }
 {
     match time {
         None => push_word(out, b"none"),
-        Some(time) => push_ps(alloc, out, time),
+        Some(time) => push_ps(out, time),
     }
 }
 
@@ -86,8 +132,8 @@ pub(crate) fn push_tran(out: &mut Vec<u8>, tran: Tran) -> Result<(), Memory>
     ensures { OnOk result (out.new.items ≡ out.old.items ++ word (tran_text tran)) }
 {
     match tran {
-        Tran::Rise => push_word(out, b"rise"),
-        Tran::Fall => push_word(out, b"fall"),
+        Tran::Rise => push(out, b" rise"),
+        Tran::Fall => push(out, b" fall"),
     }
 }
 

@@ -11,7 +11,6 @@ use crate::pieces::{
     push, push_count, push_end, push_kind, push_number, push_ps, push_time, push_tran, push_word,
 };
 use sta_units::{Fs, Memory};
-use std::alloc::Global;
 use timing_defs::{
     Advice, Clock, EdgeTime, EndRow, Kind, Name, Path, PathNode, Query, Report, Tran,
 };
@@ -35,61 +34,51 @@ fn push_edge(out: &mut Vec<u8>, clocks: &[Clock], clock: u32, tran: Tran) -> Res
 }
 
 /// A launch edge and the time there.
-fn push_edge_time(
-    alloc: Global,
-    out: &mut Vec<u8>,
-    clocks: &[Clock],
-    time: &EdgeTime,
-) -> Result<(), Memory>
+fn push_edge_time(out: &mut Vec<u8>, clocks: &[Clock], time: &EdgeTime) -> Result<(), Memory>
     ensures { OnOk result (out.new.items ≡ out.old.items ++ edge_time_text clocks.now time.now) }
 {
     push_edge(out, clocks, time.clock, time.tran)?;
-    push_ps(alloc, out, time.time)
+    push_ps(out, time.time)
 }
 
 #[tactic(auto, using(std::proofs::lemmas::List::drop_more))]
-fn push_edge_times(
-    alloc: Global,
-    out: &mut Vec<u8>,
-    clocks: &[Clock],
-    times: &[EdgeTime],
-) -> Result<(), Memory>
+fn push_edge_times(out: &mut Vec<u8>, clocks: &[Clock], times: &[EdgeTime]) -> Result<(), Memory>
     ensures { OnOk result (out.new.items ≡ out.old.items ++ flat_map (edge_time_text clocks.now) times.now) }
 {
     for time in times {
-        push_edge_time(alloc, out, clocks, time)?;
+        push_edge_time(out, clocks, time)?;
     }
     Ok(())
 }
 
 /// The line of a node of a path: its pin, its transition and its arrival.
-fn push_path_node(alloc: Global, out: &mut Vec<u8>, node: &PathNode) -> Result<(), Memory>
+fn push_path_node(out: &mut Vec<u8>, node: &PathNode) -> Result<(), Memory>
     ensures { OnOk result (out.new.items ≡ out.old.items ++ path_node_text node.now) }
 {
     push(out, node.pin.as_bytes())?;
     push_tran(out, node.tran)?;
-    push_ps(alloc, out, node.time)?;
+    push_ps(out, node.time)?;
     push_end(out)
 }
 
 #[tactic(auto, using(std::proofs::lemmas::List::drop_more))]
-fn push_path_nodes(alloc: Global, out: &mut Vec<u8>, nodes: &[PathNode]) -> Result<(), Memory>
+fn push_path_nodes(out: &mut Vec<u8>, nodes: &[PathNode]) -> Result<(), Memory>
     ensures { OnOk result (out.new.items ≡ out.old.items ++ flat_map path_node_text nodes.now) }
 {
     for node in nodes {
-        push_path_node(alloc, out, node)?;
+        push_path_node(out, node)?;
     }
     Ok(())
 }
 
 /// The slack and the credit of a path.
-fn push_slack(alloc: Global, out: &mut Vec<u8>, slack: Fs, credit: Fs) -> Result<(), Memory>
+fn push_slack(out: &mut Vec<u8>, slack: Fs, credit: Fs) -> Result<(), Memory>
     ensures { OnOk result (out.new.items ≡ out.old.items ++ (codes " slack" ++ word (ps_text slack.0) ++ codes " credit" ++ word (ps_text credit.0))) }
 {
     push(out, b" slack")?;
-    push_ps(alloc, out, slack)?;
+    push_ps(out, slack)?;
     push(out, b" credit")?;
-    push_ps(alloc, out, credit)
+    push_ps(out, credit)
 }
 
 /// The launch and the capture edge of a path.
@@ -103,17 +92,12 @@ fn push_edges(out: &mut Vec<u8>, clocks: &[Clock], path: &Path) -> Result<(), Me
 }
 
 /// What the first line of a path says of the path itself.
-fn push_path_head(
-    alloc: Global,
-    out: &mut Vec<u8>,
-    clocks: &[Clock],
-    path: &Path,
-) -> Result<(), Memory>
+fn push_path_head(out: &mut Vec<u8>, clocks: &[Clock], path: &Path) -> Result<(), Memory>
     ensures { OnOk result (out.new.items ≡ out.old.items ++ path_head clocks.now path.now) }
 {
-    push_slack(alloc, out, path.slack, path.credit)?;
+    push_slack(out, path.slack, path.credit)?;
     push_edges(out, clocks, path)?;
-    push_count(alloc, out, b" nodes", path.nodes.len() as u64)
+    push_count(out, b" nodes", path.nodes.len() as u64)
 }
 
 fn push_end_of(out: &mut Vec<u8>, kind: Kind, pin: &Name) -> Result<(), Memory>
@@ -148,25 +132,18 @@ fn push_path_of(out: &mut Vec<u8>, query: &Query) -> Result<(), Memory>
     }
 }
 
-fn push_path(
-    alloc: Global,
-    out: &mut Vec<u8>,
-    clocks: &[Clock],
-    query: &Query,
-    path: &Path,
-) -> Result<(), Memory>
+fn push_path(out: &mut Vec<u8>, clocks: &[Clock], query: &Query, path: &Path) -> Result<(), Memory>
     ensures { OnOk result (out.new.items ≡ out.old.items ++ path_text clocks.now query.now path.now) }
 {
     push(out, b"path")?;
     push_path_of(out, query)?;
-    push_path_head(alloc, out, clocks, path)?;
+    push_path_head(out, clocks, path)?;
     push_end(out)?;
-    push_path_nodes(alloc, out, path.nodes.as_slice())
+    push_path_nodes(out, path.nodes.as_slice())
 }
 
 /// The path of least slack, or that there is none.
 fn push_shown(
-    alloc: Global,
     out: &mut Vec<u8>,
     clocks: &[Clock],
     query: &Query,
@@ -176,36 +153,36 @@ fn push_shown(
 {
     match path {
         None => push(out, b"path none\n"),
-        Some(path) => push_path(alloc, out, clocks, query, path),
+        Some(path) => push_path(out, clocks, query, path),
     }
 }
 
 /// The line of an endpoint: its pin and its slack.
-fn push_end_row(alloc: Global, out: &mut Vec<u8>, row: &EndRow) -> Result<(), Memory>
+fn push_end_row(out: &mut Vec<u8>, row: &EndRow) -> Result<(), Memory>
     ensures { OnOk result (out.new.items ≡ out.old.items ++ end_text row.now) }
 {
     push(out, row.pin.as_bytes())?;
-    push_ps(alloc, out, row.slack)?;
+    push_ps(out, row.slack)?;
     push_end(out)
 }
 
 #[tactic(auto, using(std::proofs::lemmas::List::drop_more))]
-fn push_end_rows(alloc: Global, out: &mut Vec<u8>, rows: &[EndRow]) -> Result<(), Memory>
+fn push_end_rows(out: &mut Vec<u8>, rows: &[EndRow]) -> Result<(), Memory>
     ensures { OnOk result (out.new.items ≡ out.old.items ++ flat_map end_text rows.now) }
 {
     for row in rows {
-        push_end_row(alloc, out, row)?;
+        push_end_row(out, row)?;
     }
     Ok(())
 }
 
 /// The worst endpoints: how many, and a line for each.
-fn push_ends(alloc: Global, out: &mut Vec<u8>, rows: &[EndRow]) -> Result<(), Memory>
+fn push_ends(out: &mut Vec<u8>, rows: &[EndRow]) -> Result<(), Memory>
     ensures { OnOk result (out.new.items ≡ out.old.items ++ (line (codes "worst" ++ number (length rows.now)) ++ flat_map end_text rows.now)) }
 {
-    push_count(alloc, out, b"worst", rows.len() as u64)?;
+    push_count(out, b"worst", rows.len() as u64)?;
     push_end(out)?;
-    push_end_rows(alloc, out, rows)
+    push_end_rows(out, rows)
 }
 
 /// The word of a question.
@@ -230,22 +207,16 @@ fn push_query_word(out: &mut Vec<u8>, query: &Query) -> Result<(), Memory>
 }
 
 /// The word of a question and one time, or `none`.
-fn push_value(
-    alloc: Global,
-    out: &mut Vec<u8>,
-    query: &Query,
-    time: Option<Fs>,
-) -> Result<(), Memory>
+fn push_value(out: &mut Vec<u8>, query: &Query, time: Option<Fs>) -> Result<(), Memory>
     ensures { OnOk result (out.new.items ≡ out.old.items ++ line (query_word query.now ++ word (time_text time))) }
 {
     push_query_word(out, query)?;
-    push_time(alloc, out, time)?;
+    push_time(out, time)?;
     push_end(out)
 }
 
 /// The word of a question, how many launch edges have a time, and these.
 fn push_times(
-    alloc: Global,
     out: &mut Vec<u8>,
     clocks: &[Clock],
     query: &Query,
@@ -254,14 +225,13 @@ fn push_times(
     ensures { OnOk result (out.new.items ≡ out.old.items ++ line (query_word query.now ++ number (length times.now) ++ flat_map (edge_time_text clocks.now) times.now)) }
 {
     push_query_word(out, query)?;
-    push_number(alloc, out, times.len() as u64)?;
-    push_edge_times(alloc, out, clocks, times)?;
+    push_number(out, times.len() as u64)?;
+    push_edge_times(out, clocks, times)?;
     push_end(out)
 }
 
 #[tactic(auto, using(std::proofs::lemmas::List::drop_more))]
 fn push_each_path(
-    alloc: Global,
     out: &mut Vec<u8>,
     clocks: &[Clock],
     query: &Query,
@@ -270,14 +240,13 @@ fn push_each_path(
     ensures { OnOk result (out.new.items ≡ out.old.items ++ flat_map (path_text clocks.now query.now) paths.now) }
 {
     for path in paths {
-        push_path(alloc, out, clocks, query, path)?;
+        push_path(out, clocks, query, path)?;
     }
     Ok(())
 }
 
 /// The worst paths of an endpoint: how many, and each.
 fn push_paths(
-    alloc: Global,
     out: &mut Vec<u8>,
     clocks: &[Clock],
     query: &Query,
@@ -285,34 +254,33 @@ fn push_paths(
 ) -> Result<(), Memory>
     ensures { OnOk result (out.new.items ≡ out.old.items ++ (line (codes "paths" ++ number (length paths.now)) ++ flat_map (path_text clocks.now query.now) paths.now)) }
 {
-    push_count(alloc, out, b"paths", paths.len() as u64)?;
+    push_count(out, b"paths", paths.len() as u64)?;
     push_end(out)?;
-    push_each_path(alloc, out, clocks, query, paths)
+    push_each_path(out, clocks, query, paths)
 }
 
-fn push_advice(alloc: Global, out: &mut Vec<u8>, advice: &Advice) -> Result<(), Memory>
+fn push_advice(out: &mut Vec<u8>, advice: &Advice) -> Result<(), Memory>
     ensures { OnOk result (out.new.items ≡ out.old.items ++ line (codes "advice" ++ word advice.now.inst ++ word advice.now.cell ++ word (ps_text advice.now.wns.0))) }
 {
     push(out, b"advice")?;
     push_word(out, advice.inst.as_bytes())?;
     push_word(out, advice.cell.as_bytes())?;
-    push_ps(alloc, out, advice.wns)?;
+    push_ps(out, advice.wns)?;
     push_end(out)
 }
 
 /// The advised resize with its worst slack, or that there is none.
-fn push_advised(alloc: Global, out: &mut Vec<u8>, advice: &Option<Advice>) -> Result<(), Memory>
+fn push_advised(out: &mut Vec<u8>, advice: &Option<Advice>) -> Result<(), Memory>
     ensures { OnOk result (out.new.items ≡ out.old.items ++ advice_text advice.now) }
 {
     match advice {
         None => push(out, b"advice none\n"),
-        Some(advice) => push_advice(alloc, out, advice),
+        Some(advice) => push_advice(out, advice),
     }
 }
 
 /// A report of a plain question; nothing of another report.
 pub(crate) fn push_plain(
-    alloc: Global,
     out: &mut Vec<u8>,
     clocks: &[Clock],
     query: &Query,
@@ -321,17 +289,16 @@ pub(crate) fn push_plain(
     ensures { OnOk result (out.new.items ≡ out.old.items ++ plain_text clocks.now query.now report.now) }
 {
     match report {
-        Report::Value(time) => push_value(alloc, out, query, *time),
-        Report::Times(times) => push_times(alloc, out, clocks, query, times.as_slice()),
-        Report::Shown(path) => push_shown(alloc, out, clocks, query, path),
-        Report::Ends(rows) => push_ends(alloc, out, rows.as_slice()),
+        Report::Value(time) => push_value(out, query, *time),
+        Report::Times(times) => push_times(out, clocks, query, times.as_slice()),
+        Report::Shown(path) => push_shown(out, clocks, query, path),
+        Report::Ends(rows) => push_ends(out, rows.as_slice()),
         Report::Paths(_) | Report::Drafted(_) | Report::Advised(_) => Ok(()),
     }
 }
 
 /// A report by its question.
 pub(crate) fn push_report(
-    alloc: Global,
     out: &mut Vec<u8>,
     clocks: &[Clock],
     query: &Query,
@@ -340,12 +307,12 @@ pub(crate) fn push_report(
     ensures { OnOk result (out.new.items ≡ out.old.items ++ report_text clocks.now query.now report.now) }
 {
     match report {
-        Report::Value(time) => push_value(alloc, out, query, *time),
-        Report::Times(times) => push_times(alloc, out, clocks, query, times.as_slice()),
-        Report::Shown(path) => push_shown(alloc, out, clocks, query, path),
-        Report::Ends(rows) => push_ends(alloc, out, rows.as_slice()),
-        Report::Paths(paths) => push_paths(alloc, out, clocks, query, paths.as_slice()),
-        Report::Drafted(rows) => push_drafted(alloc, out, clocks, rows.as_slice()),
-        Report::Advised(advice) => push_advised(alloc, out, advice),
+        Report::Value(time) => push_value(out, query, *time),
+        Report::Times(times) => push_times(out, clocks, query, times.as_slice()),
+        Report::Shown(path) => push_shown(out, clocks, query, path),
+        Report::Ends(rows) => push_ends(out, rows.as_slice()),
+        Report::Paths(paths) => push_paths(out, clocks, query, paths.as_slice()),
+        Report::Drafted(rows) => push_drafted(out, clocks, rows.as_slice()),
+        Report::Advised(advice) => push_advised(out, advice),
     }
 }

@@ -5,7 +5,7 @@ ghost use Rattle.std.specs.List.{flat_map};
 ghost use Rattle.timing_defs.specs.Output.{line, word, number, fault_text, query_fault_text, told_text, answer_text, row_text};
 
 use crate::faults::{push_fault, push_query_fault};
-use crate::pieces::{push, push_count, push_end, push_number};
+use crate::pieces::{push, push_count, push_digits, push_end, push_number};
 use crate::reports::push_report;
 use sta_units::Memory;
 use std::alloc::Global;
@@ -28,16 +28,15 @@ pub(crate) fn push_no(out: &mut Vec<u8>, fault: &QueryFault) -> Result<(), Memor
 }
 
 /// How many looks did not find the awaited version.
-fn push_not_yet(alloc: Global, out: &mut Vec<u8>, looks: usize) -> Result<(), Memory>
+fn push_not_yet(out: &mut Vec<u8>, looks: usize) -> Result<(), Memory>
     ensures { OnOk result (out.new.items ≡ out.old.items ++ line (codes "not_yet" ++ number looks)) }
 {
-    push_count(alloc, out, b"not_yet", looks as u64)?;
+    push_count(out, b"not_yet", looks as u64)?;
     push_end(out)
 }
 
 /// A report by its question; nothing where there is no question.
 fn push_told(
-    alloc: Global,
     out: &mut Vec<u8>,
     clocks: &[Clock],
     query: &Option<Query>,
@@ -47,12 +46,11 @@ fn push_told(
 {
     match query {
         None => Ok(()),
-        Some(query) => push_report(alloc, out, clocks, query, report),
+        Some(query) => push_report(out, clocks, query, report),
     }
 }
 
 fn push_answer(
-    alloc: Global,
     out: &mut Vec<u8>,
     clocks: &[Clock],
     query: &Option<Query>,
@@ -63,36 +61,30 @@ fn push_answer(
     match answer {
         Answer::Taken => push(out, b"taken\n"),
         Answer::Reached => push(out, b"reached\n"),
-        Answer::NotYet(looks) => push_not_yet(alloc, out, looks.len()),
+        Answer::NotYet(looks) => push_not_yet(out, looks.len()),
         Answer::Accepted => push(out, b"accepted\n"),
         Answer::Refused(fault) => push_refused(out, fault),
         Answer::No(fault) => push_no(out, fault),
-        Answer::Told(report) => push_told(alloc, out, clocks, query, report),
+        Answer::Told(report) => push_told(out, clocks, query, report),
     }
 }
 
 /// A row: the place of its command, the number of its version, and its answer.
-fn push_row(alloc: Global, out: &mut Vec<u8>, clocks: &[Clock], row: &Row) -> Result<(), Memory>
+fn push_row(out: &mut Vec<u8>, clocks: &[Clock], row: &Row) -> Result<(), Memory>
     ensures { OnOk result (out.new.items ≡ out.old.items ++ row_text clocks.now row.now) }
 {
-    let digits = row.command.to_string(alloc)?;
-    push(out, digits.as_bytes())?;
-    push_number(alloc, out, row.number)?;
+    push_digits(out, u64::from(row.command))?;
+    push_number(out, row.number)?;
     push(out, b" ")?;
-    push_answer(alloc, out, clocks, &row.query, &row.answer)
+    push_answer(out, clocks, &row.query, &row.answer)
 }
 
 #[tactic(auto, using(std::proofs::lemmas::List::drop_more))]
-pub(crate) fn push_rows(
-    alloc: Global,
-    out: &mut Vec<u8>,
-    clocks: &[Clock],
-    rows: &[Row],
-) -> Result<(), Memory>
+pub(crate) fn push_rows(out: &mut Vec<u8>, clocks: &[Clock], rows: &[Row]) -> Result<(), Memory>
     ensures { OnOk result (out.new.items ≡ out.old.items ++ flat_map (row_text clocks.now) rows.now) }
 {
     for row in rows {
-        push_row(alloc, out, clocks, row)?;
+        push_row(out, clocks, row)?;
     }
     Ok(())
 }
@@ -111,6 +103,6 @@ pub fn report_bytes(alloc: Global, row: &Row, clocks: &Items<Clock>) -> Result<V
     ensures { IfOk result (λ bytes. bytes.items ≡ row_text clocks.now row.now) }
 {
     let mut out = Vec::new(alloc);
-    push_row(alloc, &mut out, clocks.as_slice(), row)?;
+    push_row(&mut out, clocks.as_slice(), row)?;
     Ok(out)
 }
