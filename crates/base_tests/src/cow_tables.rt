@@ -101,7 +101,14 @@ fn write_all<R: Threads + Sync + Abort>(
 
 #[test]
 fn threads_fill_a_table_and_write_it(rt: HostRuntime) {
-    for (count, workers) in [(0, 4), (255, 1), (4_096, 4), (4_097, 2), (8_192, 3), (20_000, 4)] {
+    for (count, workers) in [
+        (0, 4),
+        (255, 1),
+        (4_096, 4),
+        (4_097, 2),
+        (8_192, 3),
+        (20_000, 4),
+    ] {
         let len = count as usize;
         let mut table = zeros(&rt, rt.alloc(), workers, len);
         assert_eq!(rt; table.len(), len);
