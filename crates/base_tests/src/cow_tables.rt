@@ -61,16 +61,33 @@ fn a_copy_of_3000_items_is_set_alone(rt: HostRuntime) {
     assert_counted(&rt, &copy, 1_000, 7);
 }
 
+/// Asserts that a table and its copy part: one gets another last item, the other one item more.
+fn assert_parted(rt: &impl Abort, alloc: Global, last: usize, count: usize, longer: usize) {
+    let mut original = counted(rt, alloc, count);
+    let mut copy = original.again(alloc).expect(rt, "memory");
+    copy.push(7).expect(rt, "memory");
+    assert!(rt; last < count);
+    original.set(last, 8).expect(rt, "memory");
+    assert_eq!(rt; (original.len(), copy.len()), (count, longer));
+    assert_counted(rt, &original, last, 8);
+    assert_counted(rt, &copy, count, 7);
+}
+
 #[test]
 fn copies_part_at_the_edges_of_chunks_and_pages(rt: HostRuntime) {
-    for count in [1, 63, 64, 65, 127, 128, 129, 4_095, 4_096, 4_097, 8_193] {
-        let mut original = counted(&rt, rt.alloc(), count);
-        let mut copy = original.again(rt.alloc()).expect(&rt, "memory");
-        copy.push(7).expect(&rt, "memory");
-        original.set(count - 1, 8).expect(&rt, "memory");
-        assert_eq!(rt; (original.len(), copy.len()), (count, count + 1));
-        assert_counted(&rt, &original, count - 1, 8);
-        assert_counted(&rt, &copy, count, 7);
+    for (last, count, longer) in [
+        (0, 1, 2),
+        (62, 63, 64),
+        (63, 64, 65),
+        (64, 65, 66),
+        (126, 127, 128),
+        (127, 128, 129),
+        (4_094, 4_095, 4_096),
+        (4_095, 4_096, 4_097),
+        (4_096, 4_097, 4_098),
+        (8_192, 8_193, 8_194),
+    ] {
+        assert_parted(&rt, rt.alloc(), last, count, longer);
     }
 }
 
