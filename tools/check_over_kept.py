@@ -126,4 +126,5 @@ def main():
     os.execv(kit / "bin" / "rattle", ["rattle", *check, *flags, "--incremental", str(memory), "--progress"])
 
 
-main()
+if __name__ == "__main__":
+    main()

@@ -1,0 +1,316 @@
+#!/usr/bin/env python3
+"""Tries the wrong bodies of crates on the functions that they change, over what this machine has proved before: try_edits.py CRATE..
+
+    tools/try_edits.py [--only WORD].. [--most N] [--callees] [--log FOLDER] CRATE..
+
+Each edit of bench/must-fail/CRATE and crates/CRATE/must-fail makes a body wrong, and the check has to refuse it. `rt must-fail` and bench/must_fail.sh prove a
+crate for that; this checks the changed functions alone, over the libraries that `rt ci` kept (as check_over_kept.py does). The functions of the crate
+that they call are taken by their contracts, which is all that a proof sees of them (--callees proves them too). Edits of different functions are tried
+in one check, at most N (20).
+
+First the unchanged functions are checked in the same way: where one does not pass, nothing is said of its edits. Then a line for each edit says
+  refused            a goal of the function is open with this body, or its proof does not fit it
+  refused by names   the proof only names what the edit took away: that says little of the contract
+  PASSES             the function meets its contract with this body: check the whole crate (bench/must_fail.sh), as a law of a type may refuse it elsewhere
+  does not compile   it never came to the prover
+  not tried          with the reason: it does not apply, changes no function, or the prover gave up
+--only takes edits whose file's name contains WORD. What the checks said is kept in FOLDER (out/try_edits). The status is 0 where all are refused.
+Nothing that this says counts as proved: that is for `rt ci`."""
+import argparse
+import os
+import pathlib
+import re
+import shutil
+import subprocess
+import sys
+import tempfile
+import time
+
+import check_over_kept as over
+
+TOP = pathlib.Path(__file__).resolve().parent.parent
+PARTS = ("src", "specs", "proofs")
+HEAD = re.compile(r"^(?P<room> *)(?:pub(?:\([^)]*\))? )?(?:const |unsafe )*fn (?P<name>\w+)", re.M)
+IMPL = re.compile(r"^impl(?:<[^>]*>)? (?P<words>[^{]*?)(?: where [^{]*)?\s*\{", re.M)
+# Of a line of a check: what was said of a function.
+SAID = re.compile(r"^fn (\S+): (.*)$", re.M)
+FAULT = re.compile(r"^(?:note: )?(?:\./)?(\S+?):(\d+):(?:\d+:)? (.*)$", re.M)
+NAMES_ONLY = re.compile(r"has no field|is not in scope|has no `|was not admitted|is no name")
+
+
+class Edit:
+    """A wrong body: the texts of the files that it changes, and the functions in which it does."""
+
+    def __init__(self, path, folder):
+        self.path, self.name, self.texts, self.functions = path, path.stem, {}, []
+        self.kind, self.why = "", ""
+        file, old = None, None
+        for line in path.read_text().splitlines():
+            if line.startswith("file: "):
+                file = line[6:].strip()
+            elif line.startswith("old: "):
+                old = line[5:]
+            elif line.startswith("new:"):
+                self.replace(folder, file, old, line[4:].removeprefix(" "))
+        if not self.kind and not self.functions:
+            self.kind, self.why = "not tried", "it changes no function"
+
+    def replace(self, folder, file, old, new):
+        """Changes one text, and notes the function around it."""
+        if file not in self.texts and (folder / file).is_file():
+            self.texts[file] = (folder / file).read_text()
+        text = self.texts.get(file, "")
+        if text.count(old) != 1:
+            self.kind, self.why = "not tried", f"its text stands in {file} {text.count(old)} times"
+            return
+        if file.startswith("src/"):
+            found = symbol_at(text, file, text.index(old) + len(old) - len(old.lstrip()))
+            self.functions += [found] * (found is not None and found not in self.functions)
+        self.texts[file] = text.replace(old, new)
+
+
+def module_of(file):
+    """The path of a file's module below its crate."""
+    parts = file.removeprefix("src/").removesuffix(".rt").split("/")
+    return [it for it in parts if it not in ("lib", "main", "mod")]
+
+
+def owner_at(text, at):
+    """How a check names the type or impl that a place stands in; none where it stands in no impl."""
+    found = None
+    for it in IMPL.finditer(text):
+        if it.start() < at < end_of(text, it.end() - 1):
+            found = re.sub(r"<.*?>(?=\s|$)|<.*>", "", it["words"])
+    if found is None:
+        return None
+    trait, _, kind = found.partition(" for ")
+    name = lambda words: words.strip().split("::")[-1].split(" ")[0]
+    return name(kind) + name(trait) if kind else name(found)
+
+
+def end_of(text, opens):
+    """Where the block that opens there ends: at the first line that closes at its own depth."""
+    start = text.rindex("\n", 0, opens) + 1 if "\n" in text[:opens] else 0
+    room = re.match(r" *", text[start:])[0]
+    closes = re.compile(rf"^{room}\}}", re.M).search(text, opens)
+    return closes.end() if closes else len(text)
+
+
+def symbol_at(text, file, at):
+    """The path below its crate of the function around a place, as a check names it; none where it stands in no function."""
+    heads = [it for it in HEAD.finditer(text) if it.start() <= at]
+    for it in reversed(heads):
+        body = re.compile(rf"^{it['room']}\{{|\{{$", re.M).search(text, it.end())
+        closes = re.compile(rf"^{it['room']}\}}", re.M).search(text, it.end())
+        if body and closes and at < closes.end():
+            owner = owner_at(text, it.start()) if it["room"] else None
+            return "::".join([*module_of(file), *([owner] if owner else []), it["name"]])
+    return None
+
+
+def functions_of(folder):
+    """The paths of all functions that a crate's sources write."""
+    found = []
+    for path in sorted((folder / "src").rglob("*.rt")):
+        text, file = path.read_text(), str(path.relative_to(folder))
+        found += [symbol_at(text, file, it.end()) for it in HEAD.finditer(text)]
+    return [it for it in dict.fromkeys(found) if it]
+
+
+class Room:
+    """A copy of a crate in which edits are written, and checked over the kept libraries."""
+
+    def __init__(self, crate, folder, log):
+        self.crate, self.folder, self.log, self.count = crate, folder, log, 0
+        self.own = TOP / "crates" / crate
+        for part in PARTS:
+            if (self.own / part).is_dir():
+                shutil.copytree(self.own / part, folder / part)
+        kit = pathlib.Path(os.path.realpath(shutil.which("rt"))).parent.parent
+        uses, kept = over.crates(), {}
+        for name in over.below(uses, crate):
+            to = TOP / "out" / "kept_libraries" / name
+            if over.library(name, to):
+                kept[name] = to
+        words, self.sources = over.words_of(kit, uses, crate, kept)
+        memory = TOP / "out" / "kept_libraries" / f"memory-{crate}"
+        memory.mkdir(parents=True, exist_ok=True)
+        self.words = [str(kit / "bin" / "rattle"), *words, "--incremental", str(memory)]
+
+    def assume(self, functions):
+        """Gives these functions a proof that is a hole, so that what calls them is checked over their contracts alone."""
+        for path in functions:
+            parts = path.split("::")
+            at = self.folder / "proofs" / "/".join(parts)
+            for name in ("Answers", "Invariants", "Proof"):
+                (at / f"{name}.antt").unlink(missing_ok=True)
+            at.mkdir(parents=True, exist_ok=True)
+            module = ".".join(["Rattle", self.crate, "proofs", *parts])
+            (at / "Proof.antt").write_text(f"use {module}.Statement.{{statement}}\n\npub {parts[-1]}_spec : {{M : Type 1}} → statement M\n{parts[-1]}_spec = ?\n")
+
+    def write(self, texts):
+        """Writes these texts, and the crate's own everywhere else in src, specs and proofs of lemmas."""
+        for file in getattr(self, "changed", ()):
+            shutil.copyfile(self.own / file, self.folder / file)
+        self.changed = list(texts)
+        for file, text in texts.items():
+            (self.folder / file).write_text(text)
+
+    def check(self, functions, label):
+        """What a check of these functions prints."""
+        asked = [it for path in functions for it in ("--only", path)]
+        began = time.monotonic()
+        ran = subprocess.run([*self.words, *asked, "--allow-holes"], cwd=self.folder, stdin=subprocess.DEVNULL, stdout=subprocess.PIPE, stderr=subprocess.STDOUT,
+                             encoding="utf-8", errors="replace", check=False)
+        self.count += 1
+        (self.log / f"{self.crate}-{self.count}-{label}.txt").write_text(ran.stdout)
+        print(f"{self.crate}: {label}: {len(functions)} functions in {time.monotonic() - began:.0f} s, status {ran.returncode}", file=sys.stderr, flush=True)
+        return ran.stdout
+
+
+def of_function(said, crate, path):
+    """What a check said of a function: its line, and what was said before it."""
+    before = []
+    for line in said.splitlines():
+        it = SAID.match(line)
+        if it and it[1] == f"{crate}::{path}":
+            return it[2], before
+        before = [] if it else [*before, line]
+    return None, []
+
+
+def passes(words):
+    """Whether a function's line says that its own proof is whole, over the contracts of what it calls."""
+    return words is not None and (words.startswith(("proved", "no holes")) or words.startswith("depends on a hole in"))
+
+
+def judge(edit, said, crate):
+    """Gives an edit its kind from what the check of its functions said."""
+    lines = [of_function(said, crate, path) for path in edit.functions]
+    if all(passes(words) for words, _ in lines):
+        edit.kind, edit.why = "PASSES", "; ".join(words for words, _ in lines)
+        return
+    words, before = next((words, before) for words, before in lines if not passes(words))
+    if words is None or words.startswith("could not tell"):
+        edit.kind, edit.why = "not tried", words or "the check printed no line for its function"
+        return
+    told = [it for it in before if FAULT.match(it) or it.startswith("note:")]
+    named = [it for it in told if "proofs/" in it and NAMES_ONLY.search(it)]
+    edit.kind = "refused by names" if told and len(named) == len(told) else "refused"
+    edit.why = next((it for it in told if it not in named), words)[:200]
+
+
+def rounds(edits, most):
+    """The edits in lists in which no function stands twice and no file is changed at one place twice."""
+    left = list(edits)
+    while left:
+        taken, now = set(), []
+        for edit in left:
+            if not taken & set(edit.functions) and len(now) < most:
+                now.append(edit)
+                taken |= set(edit.functions)
+        left = [it for it in left if it not in now]
+        yield now
+
+
+def merged(room, edits):
+    """The texts with all these edits in them."""
+    texts = {}
+    for edit in edits:
+        file, old = None, None
+        for line in edit.path.read_text().splitlines():
+            if line.startswith("file: "):
+                file = line[6:].strip()
+                texts.setdefault(file, (room.own / file).read_text())
+            elif line.startswith("old: "):
+                old = line[5:]
+            elif line.startswith("new:"):
+                texts[file] = texts[file].replace(old, line[4:].removeprefix(" "), 1)
+    return texts
+
+
+def try_round(room, edits, label):
+    """Tries edits of different functions in one check; those that do not compile are taken out, and it is made again."""
+    while edits:
+        texts = merged(room, edits)
+        room.write(texts)
+        said = room.check([path for it in edits for path in it.functions], label)
+        if re.search(r"^only=", said, re.M):
+            for edit in edits:
+                judge(edit, said, room.crate)
+            return
+        wrong = [it for it in edits if is_at_fault(it, said, texts)] or (edits if len(edits) == 1 else [])
+        if not wrong:
+            half = len(edits) // 2
+            try_round(room, edits[:half], label + "a")
+            try_round(room, edits[half:], label + "b")
+            return
+        for edit in wrong:
+            told = [it for it in said.splitlines() if "error" in it]
+            edit.kind, edit.why = "does not compile", (told or ["the check gave no reason"])[0][:200]
+        edits = [it for it in edits if it not in wrong]
+
+
+def is_at_fault(edit, said, texts):
+    """Whether an error of the front end stands in a function that the edit changes."""
+    for file, line, words in FAULT.findall(said):
+        if "error" in words and file in edit.texts and file.startswith("src/"):
+            at = sum(len(it) + 1 for it in texts[file].split("\n")[: int(line) - 1])
+            row = texts[file].split("\n")[int(line) - 1]
+            if symbol_at(texts[file], file, at + len(row) - len(row.lstrip())) in edit.functions:
+                return True
+    return False
+
+
+def edits_of(crate, words):
+    folder = TOP / "crates" / crate
+    files = sorted([*(TOP / "bench" / "must-fail" / crate).glob("*.edit"), *(folder / "must-fail").glob("*.edit")])
+    return [Edit(it, folder) for it in files if not words or any(word in it.stem for word in words)]
+
+
+def try_crate(crate, words, most, callees, log):
+    edits = edits_of(crate, words)
+    ready = [it for it in edits if not it.kind]
+    with tempfile.TemporaryDirectory(prefix="try-edits-") as folder:
+        room = Room(crate, pathlib.Path(folder), log)
+        if room.sources:
+            print(f"{crate}: taken as sources, since they are not kept: {' '.join(room.sources)}", file=sys.stderr)
+        asked = list(dict.fromkeys(path for it in ready for path in it.functions))
+        if not callees:
+            room.assume([it for it in functions_of(room.own) if it not in asked])
+        said = room.check(asked, "unchanged") if asked else ""
+        for edit in ready:
+            lost = [it for it in edit.functions if not passes(of_function(said, crate, it)[0])]
+            if lost:
+                edit.kind, edit.why = "not tried", f"the unchanged function does not pass this check: {lost[0]}"
+        for number, some in enumerate(rounds([it for it in ready if not it.kind], most), 1):
+            try_round(room, some, f"round{number}")
+    return edits
+
+
+def main():
+    parser = argparse.ArgumentParser(description=__doc__, formatter_class=argparse.RawDescriptionHelpFormatter)
+    parser.add_argument("crates", nargs="+", metavar="CRATE")
+    parser.add_argument("--only", action="append", default=[], metavar="WORD")
+    parser.add_argument("--most", type=int, default=20, metavar="N")
+    parser.add_argument("--callees", action="store_true")
+    parser.add_argument("--log", type=pathlib.Path, default=TOP / "out" / "try_edits", metavar="FOLDER")
+    given = parser.parse_args()
+    given.log.mkdir(parents=True, exist_ok=True)
+    unknown = [it for it in given.crates if it not in over.crates()]
+    if unknown:
+        parser.error(f"{unknown[0]} is no crate")
+    status = 0
+    for crate in given.crates:
+        edits = try_crate(crate, given.only, given.most, given.callees, given.log)
+        for edit in edits:
+            print(f"{edit.kind:<17} {crate}/{edit.name}  [{', '.join(edit.functions)}]  {edit.why}".rstrip(), flush=True)
+            status |= edit.kind != "refused"
+        count = lambda kind: sum(it.kind == kind for it in edits)
+        kinds = "refused", "refused by names", "PASSES", "does not compile", "not tried"
+        print(f"edits of {crate}: {len(edits)}: " + ", ".join(f"{count(it)} {it}" for it in kinds if count(it)), flush=True)
+    sys.exit(status)
+
+
+if __name__ == "__main__":
+    main()
