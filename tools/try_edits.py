@@ -1,20 +1,21 @@
 #!/usr/bin/env python3
 """Tries the wrong bodies of crates on the functions that they change, over what this machine has proved before: try_edits.py CRATE..
 
-    tools/try_edits.py [--only WORD].. [--most N] [--callees] [--log FOLDER] CRATE..
+    tools/try_edits.py [--only WORD].. [--most N] [--callees] [--proved] [--log FOLDER] CRATE..
 
 Each edit of bench/must-fail/CRATE and crates/CRATE/must-fail makes a body wrong, and the check has to refuse it. `rt must-fail` and bench/must_fail.sh prove a
 crate for that; this checks the changed functions alone, over the libraries that `rt ci` kept (as check_over_kept.py does). The functions of the crate
 that they call are taken by their contracts, which is all that a proof sees of them (--callees proves them too). Edits of different functions are tried
-in one check, at most N (20).
+in one check, at most N (40).
 
-First the unchanged functions are checked in the same way: where one does not pass, nothing is said of its edits. Then a line for each edit says
+First the unchanged functions are checked in the same way: where one does not pass, nothing is said of its edits. --proved leaves that out, for a crate
+that `rt ci` has proved of these very sources. Then a line for each edit says
   refused            a goal of the function is open with this body, or its proof does not fit it
   refused by names   the proof only names what the edit took away: that says little of the contract
   PASSES             the function meets its contract with this body: check the whole crate (bench/must_fail.sh), as a law of a type may refuse it elsewhere
   does not compile   it never came to the prover
   not tried          with the reason: it does not apply, changes no function, or the prover gave up
---only takes edits whose file's name contains WORD. What the checks said is kept in FOLDER (out/try_edits). The status is 0 where all are refused.
+An edit of a constant is tried on the functions that name it. --only takes edits whose file's name contains WORD. What the checks said is kept in FOLDER (out/try_edits). The status is 0 where all are refused.
 Nothing that this says counts as proved: that is for `rt ci`."""
 import argparse
 import os
@@ -30,6 +31,7 @@ import check_over_kept as over
 
 TOP = pathlib.Path(__file__).resolve().parent.parent
 PARTS = ("src", "specs", "proofs")
+CONSTANT = re.compile(r"^ *(?:pub(?:\([^)]*\))? )?const (\w+):")
 HEAD = re.compile(r"^(?P<room> *)(?:pub(?:\([^)]*\))? )?(?:const |unsafe )*fn (?P<name>\w+)", re.M)
 IMPL = re.compile(r"^impl(?:<[^>]*>)? (?P<words>[^{]*?)(?: where [^{]*)?\s*\{", re.M)
 # Of a line of a check: what was said of a function.
@@ -64,8 +66,10 @@ class Edit:
             self.kind, self.why = "not tried", f"its text stands in {file} {text.count(old)} times"
             return
         if file.startswith("src/"):
-            found = symbol_at(text, file, text.index(old) + len(old) - len(old.lstrip()))
-            self.functions += [found] * (found is not None and found not in self.functions)
+            found = symbol_at(text, file, text.index(old) + len(old) - len(old.lstrip()), homes_of(folder))
+            constant = CONSTANT.match(old)
+            more = [found] if found else users_of(folder, constant[1]) if constant else []
+            self.functions += [it for it in more if it not in self.functions]
         self.texts[file] = text.replace(old, new)
 
 
@@ -75,17 +79,27 @@ def module_of(file):
     return [it for it in parts if it not in ("lib", "main", "mod")]
 
 
+def homes_of(folder):
+    """The module of each type of a crate, where a check finds its methods wherever they are written."""
+    homes = {}
+    for path in sorted((folder / "src").rglob("*.rt")):
+        for name in re.findall(r"^(?:pub(?:\([^)]*\))? )?(?:struct|enum) (\w+)", path.read_text(), re.M):
+            homes[name] = module_of(str(path.relative_to(folder)))
+    return homes
+
+
 def owner_at(text, at):
-    """How a check names the type or impl that a place stands in; none where it stands in no impl."""
+    """The type whose impl a place stands in, and the trait that it is of, if any; none where it stands in no impl."""
     found = None
     for it in IMPL.finditer(text):
         if it.start() < at < end_of(text, it.end() - 1):
-            found = re.sub(r"<.*?>(?=\s|$)|<.*>", "", it["words"])
+            found = it["words"]
     if found is None:
         return None
-    trait, _, kind = found.partition(" for ")
-    name = lambda words: words.strip().split("::")[-1].split(" ")[0]
-    return name(kind) + name(trait) if kind else name(found)
+    trait, _, kind = found.rpartition(" for ")
+    # A trait's name is told with what it is of, as `FromMemory`, and a type's without.
+    told = "".join(re.sub(r"\w+::", "", it) for it in re.findall(r"(?<!')\b[\w:]+", trait))
+    return re.split(r"[^\w:]", kind.strip())[0].split("::")[-1], told
 
 
 def end_of(text, opens):
@@ -96,7 +110,7 @@ def end_of(text, opens):
     return closes.end() if closes else len(text)
 
 
-def symbol_at(text, file, at):
+def symbol_at(text, file, at, homes):
     """The path below its crate of the function around a place, as a check names it; none where it stands in no function."""
     heads = [it for it in HEAD.finditer(text) if it.start() <= at]
     for it in reversed(heads):
@@ -104,24 +118,42 @@ def symbol_at(text, file, at):
         closes = re.compile(rf"^{it['room']}\}}", re.M).search(text, it.end())
         if body and closes and at < closes.end():
             owner = owner_at(text, it.start()) if it["room"] else None
-            return "::".join([*module_of(file), *([owner] if owner else []), it["name"]])
+            if not owner:
+                return "::".join([*module_of(file), it["name"]])
+            module = module_of(file) if owner[1] else homes.get(owner[0], module_of(file))
+            return "::".join([*module, "".join(owner), it["name"]])
     return None
+
+
+def symbols_at(folder, pattern):
+    """The paths of the functions around each place of a crate's sources where a pattern is."""
+    found, homes = [], homes_of(folder)
+    for path in sorted((folder / "src").rglob("*.rt")):
+        text, file = path.read_text(), str(path.relative_to(folder))
+        found += [symbol_at(text, file, it.end(), homes) for it in pattern.finditer(text)]
+    return [it for it in dict.fromkeys(found) if it]
 
 
 def functions_of(folder):
     """The paths of all functions that a crate's sources write."""
-    found = []
-    for path in sorted((folder / "src").rglob("*.rt")):
-        text, file = path.read_text(), str(path.relative_to(folder))
-        found += [symbol_at(text, file, it.end()) for it in HEAD.finditer(text)]
-    return [it for it in dict.fromkeys(found) if it]
+    return symbols_at(folder, HEAD)
+
+
+def in_cycles(folder):
+    """The paths of the functions that call each other in a ring, whose proof is one of all of them."""
+    return symbols_at(folder, re.compile(rf"#\[cycle\(\w+\)\]\n(?:.*\n)?? *(?:pub(?:\([^)]*\))? )?fn \w+"))
+
+
+def users_of(folder, constant):
+    """The paths of the functions that name a constant."""
+    return symbols_at(folder, re.compile(rf"\b{constant}\b"))
 
 
 class Room:
     """A copy of a crate in which edits are written, and checked over the kept libraries."""
 
     def __init__(self, crate, folder, log):
-        self.crate, self.folder, self.log, self.count = crate, folder, log, 0
+        self.crate, self.folder, self.log, self.count, self.assumed = crate, folder, log, 0, set()
         self.own = TOP / "crates" / crate
         for part in PARTS:
             if (self.own / part).is_dir():
@@ -147,6 +179,7 @@ class Room:
             at.mkdir(parents=True, exist_ok=True)
             module = ".".join(["Rattle", self.crate, "proofs", *parts])
             (at / "Proof.antt").write_text(f"use {module}.Statement.{{statement}}\n\npub {parts[-1]}_spec : {{M : Type 1}} → statement M\n{parts[-1]}_spec = ?\n")
+            self.assumed.add(f"{module}.Proof.{parts[-1]}_spec")
 
     def write(self, texts):
         """Writes these texts, and the crate's own everywhere else in src, specs and proofs of lemmas."""
@@ -179,18 +212,20 @@ def of_function(said, crate, path):
     return None, []
 
 
-def passes(words):
+def passes(words, assumed):
     """Whether a function's line says that its own proof is whole, over the contracts of what it calls."""
-    return words is not None and (words.startswith(("proved", "no holes")) or words.startswith("depends on a hole in"))
+    if words is None or not words.startswith("depends on a hole in"):
+        return words is not None and words.startswith(("proved", "no holes"))
+    return set(re.findall(r"`([^`]+)`", words)) <= assumed
 
 
-def judge(edit, said, crate):
+def judge(edit, said, crate, assumed):
     """Gives an edit its kind from what the check of its functions said."""
     lines = [of_function(said, crate, path) for path in edit.functions]
-    if all(passes(words) for words, _ in lines):
+    if all(passes(words, assumed) for words, _ in lines):
         edit.kind, edit.why = "PASSES", "; ".join(words for words, _ in lines)
         return
-    words, before = next((words, before) for words, before in lines if not passes(words))
+    words, before = next((words, before) for words, before in lines if not passes(words, assumed))
     if words is None or words.startswith("could not tell"):
         edit.kind, edit.why = "not tried", words or "the check printed no line for its function"
         return
@@ -237,9 +272,10 @@ def try_round(room, edits, label):
         said = room.check([path for it in edits for path in it.functions], label)
         if re.search(r"^only=", said, re.M):
             for edit in edits:
-                judge(edit, said, room.crate)
+                judge(edit, said, room.crate, room.assumed)
             return
-        wrong = [it for it in edits if is_at_fault(it, said, texts)] or (edits if len(edits) == 1 else [])
+        homes = homes_of(room.own)
+        wrong = [it for it in edits if is_at_fault(it, said, texts, homes)] or (edits if len(edits) == 1 else [])
         if not wrong:
             half = len(edits) // 2
             try_round(room, edits[:half], label + "a")
@@ -251,13 +287,13 @@ def try_round(room, edits, label):
         edits = [it for it in edits if it not in wrong]
 
 
-def is_at_fault(edit, said, texts):
+def is_at_fault(edit, said, texts, homes):
     """Whether an error of the front end stands in a function that the edit changes."""
     for file, line, words in FAULT.findall(said):
         if "error" in words and file in edit.texts and file.startswith("src/"):
             at = sum(len(it) + 1 for it in texts[file].split("\n")[: int(line) - 1])
             row = texts[file].split("\n")[int(line) - 1]
-            if symbol_at(texts[file], file, at + len(row) - len(row.lstrip())) in edit.functions:
+            if symbol_at(texts[file], file, at + len(row) - len(row.lstrip()), homes) in edit.functions:
                 return True
     return False
 
@@ -268,7 +304,7 @@ def edits_of(crate, words):
     return [Edit(it, folder) for it in files if not words or any(word in it.stem for word in words)]
 
 
-def try_crate(crate, words, most, callees, log):
+def try_crate(crate, words, most, callees, proved, log):
     edits = edits_of(crate, words)
     ready = [it for it in edits if not it.kind]
     with tempfile.TemporaryDirectory(prefix="try-edits-") as folder:
@@ -277,10 +313,10 @@ def try_crate(crate, words, most, callees, log):
             print(f"{crate}: taken as sources, since they are not kept: {' '.join(room.sources)}", file=sys.stderr)
         asked = list(dict.fromkeys(path for it in ready for path in it.functions))
         if not callees:
-            room.assume([it for it in functions_of(room.own) if it not in asked])
-        said = room.check(asked, "unchanged") if asked else ""
-        for edit in ready:
-            lost = [it for it in edit.functions if not passes(of_function(said, crate, it)[0])]
+            room.assume([it for it in functions_of(room.own) if it not in asked + in_cycles(room.own)])
+        said = room.check(asked, "unchanged") if asked and not proved else ""
+        for edit in [] if proved else ready:
+            lost = [it for it in edit.functions if not passes(of_function(said, crate, it)[0], room.assumed)]
             if lost:
                 edit.kind, edit.why = "not tried", f"the unchanged function does not pass this check: {lost[0]}"
         for number, some in enumerate(rounds([it for it in ready if not it.kind], most), 1):
@@ -292,8 +328,9 @@ def main():
     parser = argparse.ArgumentParser(description=__doc__, formatter_class=argparse.RawDescriptionHelpFormatter)
     parser.add_argument("crates", nargs="+", metavar="CRATE")
     parser.add_argument("--only", action="append", default=[], metavar="WORD")
-    parser.add_argument("--most", type=int, default=20, metavar="N")
+    parser.add_argument("--most", type=int, default=40, metavar="N")
     parser.add_argument("--callees", action="store_true")
+    parser.add_argument("--proved", action="store_true")
     parser.add_argument("--log", type=pathlib.Path, default=TOP / "out" / "try_edits", metavar="FOLDER")
     given = parser.parse_args()
     given.log.mkdir(parents=True, exist_ok=True)
@@ -302,7 +339,7 @@ def main():
         parser.error(f"{unknown[0]} is no crate")
     status = 0
     for crate in given.crates:
-        edits = try_crate(crate, given.only, given.most, given.callees, given.log)
+        edits = try_crate(crate, given.only, given.most, given.callees, given.proved, given.log)
         for edit in edits:
             print(f"{edit.kind:<17} {crate}/{edit.name}  [{', '.join(edit.functions)}]  {edit.why}".rstrip(), flush=True)
             status |= edit.kind != "refused"

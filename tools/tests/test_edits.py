@@ -1,0 +1,94 @@
+"""The tool that tries wrong bodies: which function an edit changes, which edits go together, and what a check's lines mean."""
+import pathlib
+import shutil
+import tempfile
+import unittest
+
+import try_edits
+
+STORES = """const MOST: usize = 3;
+
+/// A store.
+#[derive(Drop)]
+pub struct Store {
+    rows: Items<u32>,
+}
+
+impl From<Memory> for Store {
+    fn from(_: Memory) -> Store {
+        Store { rows: none() }
+    }
+}
+"""
+EDITS = """impl<'a> Store {
+    /// The first row.
+    fn first(&self) -> Option<&u32>
+        requires { length self.now.rows ≤ 3 }
+        ensures { result ≡ first self.now.rows }
+    {
+        self.rows.first()
+    }
+}
+
+#[cycle(halves)]
+pub(crate) fn sum(rows: &[u32]) -> u32
+    ensures { result ≡ sum rows.now }
+{
+    match rows {
+        [] => MOST - 3,
+        _ => sum(&rows[1..]),
+    }
+}
+"""
+SAID = """note: src/edits.rt:7: an ensures (`value`)
+fn small::stores::Store::first: not proved; 1 goal
+fn small::edits::sum: depends on a hole in `Rattle.small.proofs.stores.Store.first.Proof.first_spec`
+only=2 holes=1
+"""
+
+
+class Tries(unittest.TestCase):
+    def setUp(self):
+        self.folder = pathlib.Path(tempfile.mkdtemp())
+        self.addCleanup(shutil.rmtree, self.folder)
+        (self.folder / "src").mkdir()
+        (self.folder / "src" / "stores.rt").write_text(STORES)
+        (self.folder / "src" / "edits.rt").write_text(EDITS)
+
+    def edit(self, old, new, file="src/edits.rt"):
+        path = self.folder / "some.edit"
+        path.write_text(f"file: {file}\nold: {old}\nnew: {new}\n")
+        return try_edits.Edit(path, self.folder)
+
+    def test_a_method_stands_under_the_module_of_its_type(self):
+        edit = self.edit("        self.rows.first()", "        None")
+        self.assertEqual((edit.functions, edit.kind), (["stores::Store::first"], ""))
+        self.assertIn("        None\n", edit.texts["src/edits.rt"])
+
+    def test_a_method_of_a_trait_stands_under_its_own_module(self):
+        self.assertEqual(self.edit("rows: none()", "rows: all()", "src/stores.rt").functions, ["stores::StoreFromMemory::from"])
+
+    def test_an_edit_of_a_constant_is_one_of_the_functions_that_name_it(self):
+        self.assertEqual(self.edit("const MOST: usize = 3;", "const MOST: usize = 4;", "src/stores.rt").functions, ["edits::sum"])
+
+    def test_edits_that_cannot_be_tried(self):
+        self.assertEqual(self.edit("nowhere", "").why, "its text stands in src/edits.rt 0 times")
+        self.assertEqual(self.edit("    rows: Items<u32>,", "    rows: u32,", "src/stores.rt").why, "it changes no function")
+
+    def test_functions_of_a_crate(self):
+        self.assertEqual(try_edits.functions_of(self.folder), ["stores::Store::first", "edits::sum", "stores::StoreFromMemory::from"])
+        self.assertEqual(try_edits.in_cycles(self.folder), ["edits::sum"])
+
+    def test_no_two_edits_of_one_function_are_tried_together(self):
+        first, again, other = self.edit("self.rows.first()", "None"), self.edit("self.rows.first()", "Some(0)"), self.edit("[] => MOST - 3", "[] => 1")
+        self.assertEqual(list(try_edits.rounds([first, again, other], 9)), [[first, other], [again]])
+
+    def test_what_a_check_says(self):
+        open_goal, whole = self.edit("self.rows.first()", "None"), self.edit("[] => MOST - 3", "[] => 1")
+        assumed = {"Rattle.small.proofs.stores.Store.first.Proof.first_spec"}
+        for edit in (open_goal, whole):
+            try_edits.judge(edit, SAID, "small", assumed)
+        self.assertEqual((open_goal.kind, open_goal.why), ("refused", "note: src/edits.rt:7: an ensures (`value`)"))
+        self.assertEqual(whole.kind, "PASSES")
+        try_edits.judge(whole, SAID, "small", set())
+        self.assertEqual(whole.kind, "refused")
