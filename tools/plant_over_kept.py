@@ -1,12 +1,16 @@
 #!/usr/bin/env python3
 """Plants wrong bodies in crates over what this machine has proved before: plant_over_kept.py [--max N] [--minutes N] CRATE..
+                                                                                    plant_over_kept.py --bare [CRATE..]
 
 `rt plant` puts wrong bodies under the clauses of a crate's public functions, and lists those that the clauses let through (`rt plant --help`). It wants
 the crates below built in this checkout, and else proves them all. This lays the libraries that `rt ci` kept into their out/ first, so that it begins at
 once; the crate itself is proved once more, so begin with small ones. At most N plants (40) in N minutes (3) behind that proof, by one process.
 
 Printed are the rows of `rt plant` (the plants that pass, and the functions without a clause), and at the end a table: of each crate its functions, the
-plants that were tried, and what they came to. It is no verdict on a crate. The status is 0 where each crate was planted in."""
+plants that were tried, and what they came to. It is no verdict on a crate. The status is 0 where each crate was planted in.
+
+--bare proves nothing: it lists the functions, private ones too, that give a value or take `&mut` and have no `ensures`, of these crates or of all. The
+methods of traits are left out, whose clauses are the trait's."""
 import argparse
 import functools
 import importlib.machinery
@@ -71,6 +75,22 @@ def plant(crate, most, minutes):
     return tool.main("--max", str(most), "--minutes", str(minutes), "--jobs", "1")
 
 
+def bare(crates):
+    """Prints the functions without a clause on what they give."""
+    bodies = load(pathlib.Path(os.path.realpath(shutil.which("rt"))).parent / "rt-plant-bodies")
+    count = 0
+    for crate in crates:
+        folder = TOP / "crates" / crate
+        source = bodies.Source(str(folder))
+        source.read("src/main.rt" if (folder / "src" / "main.rt").is_file() else "src/lib.rt")
+        written = [it for it in source.functions if it.has_body]
+        count += len(written)
+        for it in written:
+            if not it.has_ensures and not it.in_trait and (it.ret or it.mutates):
+                print(f"{crate}: {it.shown}")
+    print(f"of {count} functions with a body in {len(crates)} crates")
+
+
 def counts_of(said):
     """The counts of the last line of `rt plant`; none where it did not come to it."""
     last = LAST.search(said)
@@ -83,7 +103,8 @@ def counts_of(said):
 
 def main():
     parser = argparse.ArgumentParser(description=__doc__, formatter_class=argparse.RawDescriptionHelpFormatter)
-    parser.add_argument("crates", nargs="+", metavar="CRATE")
+    parser.add_argument("crates", nargs="*", metavar="CRATE")
+    parser.add_argument("--bare", action="store_true")
     parser.add_argument("--max", type=int, default=40, metavar="N")
     parser.add_argument("--minutes", type=int, default=3, metavar="N")
     parser.add_argument("--here", action="store_true", help=argparse.SUPPRESS)
@@ -91,6 +112,11 @@ def main():
     unknown = [it for it in given.crates if it not in over.crates()]
     if unknown:
         parser.error(f"{unknown[0]} is no crate")
+    if given.bare:
+        bare(given.crates or list(over.crates()))
+        return
+    if not given.crates:
+        parser.error("name a crate")
     if given.here:
         sys.exit(plant(given.crates[0], given.max, given.minutes))
     rows, status = [], 0

@@ -201,15 +201,9 @@ class Room:
         return ran.stdout
 
 
-def of_function(said, crate, path):
-    """What a check said of a function: its line, and what was said before it."""
-    before = []
-    for line in said.splitlines():
-        it = SAID.match(line)
-        if it and it[1] == f"{crate}::{path}":
-            return it[2], before
-        before = [] if it else [*before, line]
-    return None, []
+def line_of(said, crate, path):
+    """What a check's line says of a function; none where it has no line."""
+    return next((words for symbol, words in SAID.findall(said) if symbol == f"{crate}::{path}"), None)
 
 
 def passes(words, assumed):
@@ -221,18 +215,20 @@ def passes(words, assumed):
 
 def judge(edit, said, crate, assumed):
     """Gives an edit its kind from what the check of its functions said."""
-    lines = [of_function(said, crate, path) for path in edit.functions]
-    if all(passes(words, assumed) for words, _ in lines):
-        edit.kind, edit.why = "PASSES", "; ".join(words for words, _ in lines)
+    lines = [(path, line_of(said, crate, path)) for path in edit.functions]
+    if all(passes(words, assumed) for _, words in lines):
+        edit.kind, edit.why = "PASSES", "; ".join(words for _, words in lines)
         return
-    words, before = next((words, before) for words, before in lines if not passes(words, assumed))
+    path, words = next((path, words) for path, words in lines if not passes(words, assumed))
     if words is None or words.startswith("could not tell"):
         edit.kind, edit.why = "not tried", words or "the check printed no line for its function"
         return
-    told = [it for it in before if FAULT.match(it) or it.startswith("note:")]
-    named = [it for it in told if "proofs/" in it and NAMES_ONLY.search(it)]
-    edit.kind = "refused by names" if told and len(named) == len(told) else "refused"
-    edit.why = next((it for it in told if it not in named), words)[:200]
+    goals = [*re.findall(r"did not prove ([^;]*)", words), *re.findall(r"it stands on (.*?), which", words)]
+    goals = [it.rpartition(".")[2] for part in goals for it in re.findall(r"`([^`]+)`", part)]
+    own = re.compile(rf"^(?:\./)?proofs/{path.replace('::', '/')}/\S+: error: (.*)$", re.M)
+    faults = own.findall(said)
+    edit.kind = "refused by names" if faults and all(NAMES_ONLY.search(it) for it in faults) and "did not prove" not in words else "refused"
+    edit.why = "goals: " + ", ".join(dict.fromkeys(goals)) if goals else words[:200]
 
 
 def rounds(edits, most):
@@ -316,7 +312,7 @@ def try_crate(crate, words, most, callees, proved, log):
             room.assume([it for it in functions_of(room.own) if it not in asked + in_cycles(room.own)])
         said = room.check(asked, "unchanged") if asked and not proved else ""
         for edit in [] if proved else ready:
-            lost = [it for it in edit.functions if not passes(of_function(said, crate, it)[0], room.assumed)]
+            lost = [it for it in edit.functions if not passes(line_of(said, crate, it), room.assumed)]
             if lost:
                 edit.kind, edit.why = "not tried", f"the unchanged function does not pass this check: {lost[0]}"
         for number, some in enumerate(rounds([it for it in ready if not it.kind], most), 1):

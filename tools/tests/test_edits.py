@@ -40,11 +40,13 @@ pub(crate) fn sum(rows: &[u32]) -> u32
     }
 }
 """
-SAID = """note: src/edits.rt:7: an ensures (`value`)
-fn small::stores::Store::first: not proved; 1 goal
+SAID = """./proofs/edits/sum/Answers.antt:3:7: error: `returns`: the record has no field `in-Some`
+note: src/edits.rt:7:9: it is not proved that what the function ensures holds when it returns (`returns`)
+fn small::stores::Store::first: no proof: expected answers in ./proofs/stores/Store/first/Answers.antt; `search` did not prove `returns`
 fn small::edits::sum: depends on a hole in `Rattle.small.proofs.stores.Store.first.Proof.first_spec`
 only=2 holes=1
 """
+NAMED = SAID.replace("sum: depends on a hole in", "sum: not proved; it stands on `Rattle.small.proofs.edits.sum.Answers.returns`, which antt refuses; over")
 
 
 class Tries(unittest.TestCase):
@@ -88,7 +90,9 @@ class Tries(unittest.TestCase):
         assumed = {"Rattle.small.proofs.stores.Store.first.Proof.first_spec"}
         for edit in (open_goal, whole):
             try_edits.judge(edit, SAID, "small", assumed)
-        self.assertEqual((open_goal.kind, open_goal.why), ("refused", "note: src/edits.rt:7: an ensures (`value`)"))
+        self.assertEqual((open_goal.kind, open_goal.why), ("refused", "goals: returns"))
         self.assertEqual(whole.kind, "PASSES")
-        try_edits.judge(whole, SAID, "small", set())
+        try_edits.judge(whole, SAID.partition("\n")[2], "small", set())
         self.assertEqual(whole.kind, "refused")
+        try_edits.judge(whole, NAMED, "small", assumed)
+        self.assertEqual((whole.kind, whole.why), ("refused by names", "goals: returns"))
