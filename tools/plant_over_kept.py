@@ -1,6 +1,8 @@
 #!/usr/bin/env python3
-"""Plants wrong bodies in crates over what this machine has proved before: plant_over_kept.py [--max N] [--minutes N] CRATE..
-                                                                                    plant_over_kept.py --bare [CRATE..]
+"""Plants wrong bodies in crates over what this machine has proved before.
+
+    tools/plant_over_kept.py [--max N] [--minutes N] CRATE..
+    tools/plant_over_kept.py --bare [CRATE..]
 
 `rt plant` puts wrong bodies under the clauses of a crate's public functions, and lists those that the clauses let through (`rt plant --help`). It wants
 the crates below built in this checkout, and else proves them all. This lays the libraries that `rt ci` kept into their out/ first, so that it begins at

@@ -193,12 +193,12 @@ class Room:
         """What a check of these functions prints."""
         asked = [it for path in functions for it in ("--only", path)]
         began = time.monotonic()
-        ran = subprocess.run([*self.words, *asked, "--allow-holes"], cwd=self.folder, stdin=subprocess.DEVNULL, stdout=subprocess.PIPE, stderr=subprocess.STDOUT,
-                             encoding="utf-8", errors="replace", check=False)
         self.count += 1
-        (self.log / f"{self.crate}-{self.count}-{label}.txt").write_text(ran.stdout)
+        log = self.log / f"{self.crate}-{self.count}-{label}.txt"
+        with open(log, "w", encoding="utf-8") as out:
+            ran = subprocess.run([*self.words, *asked, "--allow-holes"], cwd=self.folder, stdin=subprocess.DEVNULL, stdout=out, stderr=subprocess.STDOUT, check=False)
         print(f"{self.crate}: {label}: {len(functions)} functions in {time.monotonic() - began:.0f} s, status {ran.returncode}", file=sys.stderr, flush=True)
-        return ran.stdout
+        return log.read_text(encoding="utf-8", errors="replace")
 
 
 def line_of(said, crate, path):
