@@ -1,11 +1,12 @@
 #!/usr/bin/env python3
 """Tries the wrong bodies of crates on the functions that they change, over what this machine has proved before: try_edits.py CRATE..
 
-    tools/try_edits.py [--only WORD].. [--most N] [--callees] [--proved] [--log FOLDER] CRATE..
+    tools/try_edits.py [--only WORD].. [--most N] [--callees] [--proved] [--names FILE] [--log FOLDER] CRATE..
 
 Each edit of bench/must-fail/CRATE and crates/CRATE/must-fail makes a body wrong, and the check has to refuse it. `rt must-fail` and bench/must_fail.sh prove a
 crate for that; this checks the changed functions alone, over the libraries that `rt ci` kept (as check_over_kept.py does). The functions of the crate
-that they call are taken by their contracts, which is all that a proof sees of them (--callees proves them too). Edits of different functions are tried
+that they call are taken by their contracts, which is all that a proof sees of them (--callees proves them too); with a log of `rt ci` (--names) also those
+that no source writes. Edits of different functions are tried
 in one check, at most N (40).
 
 First the unchanged functions are checked in the same way: where one does not pass, nothing is said of its edits. --proved leaves that out, for a crate
@@ -144,6 +145,12 @@ def in_cycles(folder):
     return symbols_at(folder, re.compile(rf"#\[cycle\(\w+\)\]\n(?:.*\n)?? *(?:pub(?:\([^)]*\))? )?fn \w+"))
 
 
+def made_functions(crate, log):
+    """The paths of the functions that no source writes, as what gives up a type's values, in a log of `rt ci` that has proved them."""
+    said = SAID.findall(log.read_text(errors="replace")) if log else []
+    return [symbol.partition("::")[2] for symbol, _ in said if symbol.startswith(f"{crate}::") and symbol.endswith("+Destruct::drop")]
+
+
 def users_of(folder, constant):
     """The paths of the functions that name a constant."""
     return symbols_at(folder, re.compile(rf"\b{constant}\b"))
@@ -228,7 +235,9 @@ def judge(edit, said, crate, assumed):
     own = re.compile(rf"^(?:\./)?proofs/{path.replace('::', '/')}/\S+: error: (.*)$", re.M)
     faults = own.findall(said)
     edit.kind = "refused by names" if faults and all(NAMES_ONLY.search(it) for it in faults) and "did not prove" not in words else "refused"
-    edit.why = "goals: " + ", ".join(dict.fromkeys(goals)) if goals else words[:200]
+    edit.why = "goals: " + ", ".join(dict.fromkeys(goals))
+    if not goals:
+        edit.kind, edit.why = "not tried", f"no goal of its own is open: {words[:200]}"
 
 
 def rounds(edits, most):
@@ -300,7 +309,7 @@ def edits_of(crate, words):
     return [Edit(it, folder) for it in files if not words or any(word in it.stem for word in words)]
 
 
-def try_crate(crate, words, most, callees, proved, log):
+def try_crate(crate, words, most, callees, proved, names, log):
     edits = edits_of(crate, words)
     ready = [it for it in edits if not it.kind]
     with tempfile.TemporaryDirectory(prefix="try-edits-") as folder:
@@ -309,7 +318,8 @@ def try_crate(crate, words, most, callees, proved, log):
             print(f"{crate}: taken as sources, since they are not kept: {' '.join(room.sources)}", file=sys.stderr)
         asked = list(dict.fromkeys(path for it in ready for path in it.functions))
         if not callees:
-            room.assume([it for it in functions_of(room.own) if it not in asked + in_cycles(room.own)])
+            found = functions_of(room.own) + made_functions(crate, names)
+            room.assume([it for it in found if it not in asked + in_cycles(room.own)])
         said = room.check(asked, "unchanged") if asked and not proved else ""
         for edit in [] if proved else ready:
             lost = [it for it in edit.functions if not passes(line_of(said, crate, it), room.assumed)]
@@ -327,6 +337,7 @@ def main():
     parser.add_argument("--most", type=int, default=40, metavar="N")
     parser.add_argument("--callees", action="store_true")
     parser.add_argument("--proved", action="store_true")
+    parser.add_argument("--names", type=pathlib.Path, metavar="FILE")
     parser.add_argument("--log", type=pathlib.Path, default=TOP / "out" / "try_edits", metavar="FOLDER")
     given = parser.parse_args()
     given.log.mkdir(parents=True, exist_ok=True)
@@ -335,7 +346,7 @@ def main():
         parser.error(f"{unknown[0]} is no crate")
     status = 0
     for crate in given.crates:
-        edits = try_crate(crate, given.only, given.most, given.callees, given.proved, given.log)
+        edits = try_crate(crate, given.only, given.most, given.callees, given.proved, given.names, given.log)
         for edit in edits:
             print(f"{edit.kind:<17} {crate}/{edit.name}  [{', '.join(edit.functions)}]  {edit.why}".rstrip(), flush=True)
             status |= edit.kind != "refused"

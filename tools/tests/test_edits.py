@@ -93,6 +93,6 @@ class Tries(unittest.TestCase):
         self.assertEqual((open_goal.kind, open_goal.why), ("refused", "goals: returns"))
         self.assertEqual(whole.kind, "PASSES")
         try_edits.judge(whole, SAID.partition("\n")[2], "small", set())
-        self.assertEqual(whole.kind, "refused")
+        self.assertEqual(whole.kind, "not tried")
         try_edits.judge(whole, NAMED, "small", assumed)
         self.assertEqual((whole.kind, whole.why), ("refused by names", "goals: returns"))
