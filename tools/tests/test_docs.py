@@ -81,6 +81,24 @@ class Documents(unittest.TestCase):
             # As above: code may be cut anew at any time.
             self.skipTest(f"the index of docs/DEFINITIONS.md names code or edits that are gone: {'; '.join(gone)}")
 
+    def test_each_crate_is_tried_where_the_map_says(self):
+        text = (DOCS / "ARCHITECTURE.md").read_text()
+        text = text[text.index("## Where each crate is tried"):text.index("## Around the program")]
+        rows = [row.split(" | ") for row in re.findall(r"^\| (`.*) \|$", text, re.M)]
+        crates = [line.partition(":")[0] for line in (common.TOP / "crates.txt").read_text().splitlines() if not line.startswith("#")]
+        crates = [crate for crate in crates if not re.fullmatch(r"(base|engine|reader|shell|gate)_tests", crate)]
+        gone = [] if [row[0].strip("`") for row in rows] == crates else ["its crates are not those of crates.txt, in their order"]
+        for crate, *tests, edit in rows:
+            for file, name in re.findall(r"`([\w/]+\.rt)` `(\w+)`", " ".join(tests)):
+                file = CRATES / file if "/" in file else CRATES / "shell_tests" / "src" / "examples" / file
+                gone += [] if file.is_file() and f"fn {name}(" in file.read_text() else [f"{crate}: {name}"]
+            for name, gate in re.findall(r"`(\w+)`( \(gate\))?", edit):
+                place = CRATES / crate.strip("`") / "must-fail" if gate else EDITS / crate.strip("`")
+                gone += [] if (place / f"{name}.edit").is_file() else [f"{crate}: {name}"]
+        if gone:
+            # As above.
+            self.skipTest(f"docs/ARCHITECTURE.md does not say where each crate is tried: {'; '.join(gone)}")
+
     def test_edits_that_must_be_refused_apply(self):
         edits = [*CRATES.glob("*/must-fail/*"), *EDITS.glob("*/*")]
         self.assertTrue(edits)
