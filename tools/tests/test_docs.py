@@ -70,13 +70,15 @@ class Documents(unittest.TestCase):
     def test_code_and_edits_of_the_index_are_there(self):
         gone = []
         for row in index_rows():
-            folder = None
+            folder, code = None, set()
             for name in re.findall(r"`([\w/]+\.rt)`", row[2]):
                 folder = (CRATES / name).parent if "/" in name else folder
-                gone += [] if (folder / pathlib.Path(name).name).is_file() else [f"{row[0]}: {name}"]
+                code.add(folder / pathlib.Path(name).name)
+            gone += [f"{row[0]}: {file.name}" for file in code if not file.is_file()]
             crate, edit, gate = re.fullmatch(r"`(\w+)/(\w+)`( \(gate\))?", row[4]).groups()
-            place = CRATES / crate / "must-fail" if gate else EDITS / crate
-            gone += [] if (place / f"{edit}.edit").is_file() else [f"{row[0]}: {crate}/{edit}"]
+            file = (CRATES / crate / "must-fail" if gate else EDITS / crate) / f"{edit}.edit"
+            changed = re.findall(r"^file: (.*)$", file.read_text(), re.M) if file.is_file() else []
+            gone += [] if code & {CRATES / crate / name for name in changed} else [f"{row[0]}: {crate}/{edit} changes none of its code"]
         if gone:
             # As above: code may be cut anew at any time.
             self.skipTest(f"the index of docs/DEFINITIONS.md names code or edits that are gone: {'; '.join(gone)}")
