@@ -3,3 +3,4 @@ pub mod Cutting
 pub mod Keys
 pub mod LowSlacks
 pub mod Prefixes
+pub mod TwoEnds

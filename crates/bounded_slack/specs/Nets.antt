@@ -1,7 +1,7 @@
 -- The timing arcs in front of an end node as a search asks for them, node by node, and the least slack
 -- of the walks to the end node (graph-based analysis as a longest path; path slack as in OpenTimer).
 
-use Rattle.std.specs.Prelude.{◌≡◌, ℕ, ◌^◌, ◌<◌, ◌≤◌, ◌==◌, ℤ, ◌-ℤ◌, ◌≤ℤ◌, unsigned_abs, int_lt, if◌then◌else◌, List, [], ◌∷◌, All, Option, Some, None}
+use Rattle.std.specs.Prelude.{◌≡◌, ℕ, ◌^◌, ◌<◌, ◌≤◌, ◌==◌, ℤ, ◌-ℤ◌, ◌≤ℤ◌, unsigned_abs, int_lt, if◌then◌else◌, List, [], ◌∷◌, All, ◌⊎◌, Option, Some, None}
 use Rattle.sta_units.specs.Numbers.{Within}
 use Rattle.worst_walks.specs.declared.cones.WalkArc.{WalkArc}
 use Rattle.worst_walks.specs.Walks.{walk_sum, delay_in, AreApart}
@@ -74,6 +74,12 @@ IsLeastSlack net (Some s) = IsSlack net s × ((t : ℤ) → IsSlack net t → s 
 abbrev pub IsAtMost : Option ℤ → ℤ → Type 0
 IsAtMost None v = ⊥
 IsAtMost (Some x) v = x ≤ℤ v
+
+-- the least slack of all walks to two end nodes; None: there is no walk to either
+pub record IsLeastOfTwo (one other : Net) (least : Option ℤ) : Type 0 where
+  pub its : (s : ℤ) → least ≡ Some s → IsSlack one s ⊎ IsSlack other s
+  pub all_one : (s : ℤ) → IsSlack one s → IsAtMost least s
+  pub all_other : (s : ℤ) → IsSlack other s → IsAtMost least s
 
 -- an arc into the node leads from a lower level and a lower place, with a delay within the limit
 abbrev pub IsArcInto : Net → ℕ → WalkArc → Type 0

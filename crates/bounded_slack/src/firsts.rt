@@ -26,7 +26,7 @@ pub(crate) fn at_end<F: Fan>(fan: &F) -> Held
 }
 
 /// Whether a room is the lesser of two; none is the greatest.
-fn is_less(one: Option<i64>, other: Option<i64>) -> bool {
+pub(crate) fn is_less(one: Option<i64>, other: Option<i64>) -> bool {
     match (one, other) {
         (None, _) => false,
         (Some(_), None) => true,

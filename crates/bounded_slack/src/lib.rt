@@ -3,6 +3,7 @@
 //! visits few nodes where the bound is near, and asks for nodes, arcs and offers only there.
 #![tactic(auto)]
 
+mod either_ends;
 mod fans;
 mod firsts;
 mod reached;
@@ -10,6 +11,7 @@ mod rooms;
 mod searching;
 mod steps;
 
+pub use either_ends::least_of_two;
 pub use fans::Fan;
-pub use rooms::{least_of_rows, least_room};
+pub use rooms::least_room;
 pub use searching::least_slack;

@@ -1,16 +1,12 @@
 //! Bounds from arrivals on launch edges.
 
-ghost use Rattle.std.specs.Prelude.{◌≡◌, ◌-ℤ◌, All, IfOk, None, Some};
+ghost use Rattle.std.specs.Prelude.{◌≡◌, ◌-ℤ◌, All, None, Some};
 ghost use Rattle.sta_units.specs.Numbers.{Within};
 ghost use Rattle.timing_defs.specs.declared.edge_times.EdgeTime.{EdgeTime};
-ghost use Rattle.bounded_slack.specs.Nets.{IsLeastSlack};
-ghost use Rattle.bounded_slack.specs.Rows.{signed, signed_on, room_on, least_room, IsLowOffer, IsByRows};
+ghost use Rattle.bounded_slack.specs.Rows.{signed, signed_on, room_on, least_room, IsLowOffer};
 
-use crate::fans::Fan;
-use crate::searching::least_slack;
 use crate::steps::lesser;
-use sta_units::{Fs, Memory};
-use std::alloc::Global;
+use sta_units::Fs;
 use timing_defs::{EdgeTime, EdgeTimes, Kind, LaunchEdge};
 
 /// A lowest offer less a time, that of hold tests negated.
@@ -53,13 +49,4 @@ pub fn least_room(kind: Kind, lows: &[EdgeTime], times: &EdgeTimes) -> Option<i6
         least = lesser(least, room_on(kind, times, low));
     }
     least
-}
-
-/// The least slack of the walks to an end node whose bounds are those by the arrivals of its nodes, as
-/// `least_slack` has it.
-pub fn least_of_rows<F: Fan>(alloc: Global, fan: &F) -> Result<Option<i64>, Memory>
-    requires { IsByRows (F.net fan.now) }
-    ensures { IfOk result (IsLeastSlack (F.net fan.now)) }
-{
-    least_slack(alloc, fan)
 }

@@ -2,7 +2,7 @@
 
 use crate::drawn_nets::{bounds_of, drawn_arcs, drawn_offers, least_by_pass};
 use crate::written_nets::{Written, is_written};
-use bounded_slack::least_slack;
+use bounded_slack::{least_of_two, least_slack};
 use std::alloc::Global;
 use std::process::Abort;
 use timing_defs::Items;
@@ -54,6 +54,30 @@ fn assert_drawn(
     assert_least(rt, alloc, arcs, offers, bounds.as_slice(), want);
 }
 
+/// Asserts the least slack of the walks to either of the nodes 1 and 2, which may stand in either order.
+fn assert_least_of_two(
+    rt: &impl Abort,
+    alloc: Global,
+    arcs: &[Items<WalkArc>],
+    offers: &[Option<i64>],
+    bounds: &[Option<i64>],
+    want: Option<i64>,
+) {
+    let one = Written {
+        end: 1,
+        arcs,
+        offers,
+        bounds,
+    };
+    let other = Written { end: 2, ..one };
+    assert!(rt; is_written(&one));
+    assert!(rt; is_written(&other));
+    let found = least_of_two(alloc, &one, &other).expect(rt, "memory");
+    assert_eq!(rt; found, want);
+    let turned = least_of_two(alloc, &other, &one).expect(rt, "memory");
+    assert_eq!(rt; turned, want);
+}
+
 /// Two ways from node 3 to node 0: by node 1 and by node 2. Each list has the arcs into a node.
 fn diamond(rt: &impl Abort, alloc: Global, by_one: i64, by_two: i64) -> [Items<WalkArc>; 4] {
     [
@@ -72,6 +96,21 @@ fn the_greatest_sum_gives_the_least_slack(rt: HostRuntime) {
     assert_least(&rt, rt.alloc(), &arcs, &offers, &near, Some(9));
     let far = [Some(-90), Some(-70), Some(-60), Some(-50)];
     assert_least(&rt, rt.alloc(), &arcs, &offers, &far, Some(9));
+}
+
+/// The last bounds have the worse of the two ends searched last.
+#[test]
+fn the_worse_of_two_ends_counts(rt: HostRuntime) {
+    let arcs = diamond(&rt, rt.alloc(), 9, 6);
+    let offers = [None, None, None, Some(20)];
+    let near = [Some(9), Some(11), Some(14), Some(20)];
+    assert_least_of_two(&rt, rt.alloc(), &arcs, &offers, &near, Some(11));
+    let far = [Some(-90), Some(-70), Some(-60), Some(-50)];
+    assert_least_of_two(&rt, rt.alloc(), &arcs, &offers, &far, Some(11));
+    let turned = [Some(-24), Some(11), Some(-20), Some(20)];
+    assert_least_of_two(&rt, rt.alloc(), &arcs, &offers, &turned, Some(11));
+    let none = [None, None, None, None];
+    assert_least_of_two(&rt, rt.alloc(), &arcs, &none, &none, None);
 }
 
 /// Node 1 lies on a walk and launches one, of the slack 5 - 2.

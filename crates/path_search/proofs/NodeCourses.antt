@@ -1,4 +1,4 @@
--- The walks by numbers to an end node are the courses of paths to it: the least slack of the one is that of the others.
+-- The walks by numbers to an end node are the courses of paths to it: the slacks of the ones stand for those of the others.
 
 use Rattle.std.proofs.Common.{◌≡◌, ℕ, ℤ, ◌+ℤ◌, ◌-ℤ◌, ◌≤ℤ◌, pos, Bool, true, false, List, [], ◌∷◌, map, Option, Some, None, refl, sym, ap, subst, ◌∙◌, inl, inr, arith}
 use Rattle.std.specs.Prelude.{◌==◌, ◌||◌, int_lt, if◌then◌else◌, Contains, option_map, option_and_then}
@@ -26,9 +26,10 @@ use Rattle.timing_defs.proofs.Members.{some_is}
 use Rattle.pin_graph.proofs.JoinLaws.{then_back, mapped_back, unless_some}
 use Rattle.timing_defs.proofs.SameNames.{same_is, same_self}
 use Rattle.worst_walks.specs.Walks.{walk_sum}
+use Rattle.bounded_slack.specs.Nets.{IsAtMost}
 use Rattle.path_cones.specs.Delays.{arc_numbered, followed_delay, signed as turned}
 use Rattle.path_search.specs.Launches.{IsCourse, IsLaunched, IsLaunchSlack, IsReached, IsTail, launch_slacks, signed}
-use Rattle.path_search.specs.NodeSlacks.{IsCourseTo, IsReachedAt, IsNodeSlack, lesser_slack, IsNumberSlack, IsLeastNumber}
+use Rattle.path_search.specs.NodeSlacks.{IsCourseTo, IsReachedAt, IsUnder, IsEitherSlack, StandFor, IsNumberSlack}
 use Rattle.path_search.specs.Offers.{IsOffer}
 use Rattle.path_search.specs.PinCones.{name_told}
 use Rattle.path_search.specs.Runs.{IsTimed}
@@ -39,6 +40,10 @@ use Rattle.path_search.proofs.NumberNames.{name_here, IsNodeNumber}
 use Rattle.path_search.proofs.ConeTails.{IsStep, signed_plus, signed_none, stays}
 use Rattle.path_search.proofs.ConeCourses.{launched_once, lower, lowest, no_items, nothing_in, unshifted, shifted}
 use Rattle.path_search.proofs.FanCones.{turned_same, network_here, inside, delay_named}
+
+at_most_more : (least : Option ℤ) (w t : ℤ) → IsAtMost least w → w ≤ℤ t → IsAtMost least t
+at_most_more None w t h low = absurd h
+at_most_more (Some s) w t h low = lowest s w t h low
 
 -- the number of a node before another
 pub record IsBefore (kind : Kind) (look : ℕ → ℕ → Option ℤ) (Near : ℕ → Type 0) (name : ℕ → Named) (n : Named) (b : ℕ) (delay : ℤ) : Type 0 where
@@ -183,18 +188,15 @@ module _ (d : Design) (kind : Kind) (look : ℕ → ℕ → Option ℤ) (Near : 
               low = lower o first (signed kind rest) t low is;
             }
 
-    -- the least slack of the walks is that of the node
-    pub node_slack_told : (o : Option ℤ) → IsLeastNumber look offer e o → IsNodeSlack d kind (name e) o
-    node_slack_told None empty = λ edge launch time post rest c.
-        no_items (launch_slacks d kind launch edge (time +ℤ rest) (name e)) (λ slack within.
-        let v = below edge launch time post rest c slack.0 slack.1 within in empty v.slack v.walk)
-    node_slack_told (Some s) (found, least) = (
-      reached s found,
-      λ edge launch time post rest c test t within.
-          (let v = below edge launch time post rest c test t within in lowest s v.slack t (least v.slack v.walk) v.low),
-    )
+    under : (least : Option ℤ) → ((s : ℤ) → IsNumberSlack look offer e s → IsAtMost least s) → IsUnder d kind (name e) least
+    under least all edge launch time post rest c test t within =
+        let v = below edge launch time post rest c test t within in at_most_more least v.slack t (all v.slack v.walk) v.low
 
--- a pin's slack is the lesser of those of its nodes
+    -- the slacks of the walks stand for those of the paths to the node
+    pub slacks_told : StandFor (IsNumberSlack look offer e) d kind (name e)
+    slacks_told = record { forth = reached; under = under }
+
+-- a pin's slack is the least of those of its two nodes
 module _ (d : Design) (kind : Kind) (pin : List ℕ) where
   -- the course of a node is one of the pin
   course_up : (tran : Tran) (edge : ℕ × Tran) (launch : Named) (time : ℤ) (post : List Named) (rest : ℤ)
@@ -226,17 +228,11 @@ module _ (d : Design) (kind : Kind) (pin : List ℕ) where
   }
 
   module _ (edge : ℕ × Tran) (launch : Named) (time : ℤ) (post : List Named) (rest : ℤ) (c : IsCourse d kind pin edge launch time post rest) where
-    none_at : (tran : Tran) → IsNodeSlack d kind (pin, tran) None → (last_of launch post).1 ≡ tran
-        → launch_slacks d kind launch edge (time +ℤ rest) (last_of launch post) ≡ []
-    none_at tran none f =
+    under_at : (tran : Tran) (least : Option ℤ) → IsUnder d kind (pin, tran) least → (last_of launch post).1 ≡ tran
+        → (test : Test) (t : ℤ) → Contains (launch_slacks d kind launch edge (time +ℤ rest) (last_of launch post)) (test, t) → IsAtMost least t
+    under_at tran least under f test t within =
         let down = course_down edge launch time post rest c tran f in
-        ap (launch_slacks d kind launch edge (time +ℤ rest)) down.ends ∙ none edge launch time post rest down
-
-    low_at : (tran : Tran) (s : ℤ) → IsNodeSlack d kind (pin, tran) (Some s) → (last_of launch post).1 ≡ tran
-        → (test : Test) (t : ℤ) → Contains (launch_slacks d kind launch edge (time +ℤ rest) (last_of launch post)) (test, t) → s ≤ℤ t
-    low_at tran s some f test t within =
-        let down = course_down edge launch time post rest c tran f in
-        some.1 edge launch time post rest down test t
+        under edge launch time post rest down test t
         (subst (λ (n : Named). Contains (launch_slacks d kind launch edge (time +ℤ rest) n) (test, t)) down.ends within)
 
     -- what is known of each node, of the last of a course
@@ -247,47 +243,20 @@ module _ (d : Design) (kind : Kind) (pin : List ℕ) where
         by Rise f = rise f
         by Fall f = fall f
 
-    -- of a node without slack nothing is below another's
-    past : (tran : Tran) (s : ℤ) → IsNodeSlack d kind (pin, tran) None → (last_of launch post).1 ≡ tran
-        → (test : Test) (t : ℤ) → Contains (launch_slacks d kind launch edge (time +ℤ rest) (last_of launch post)) (test, t) → s ≤ℤ t
-    past tran s none f test t within =
-        absurd (nothing_in (launch_slacks d kind launch edge (time +ℤ rest) (last_of launch post)) (test, t) within (none_at tran none f))
+    -- what is at most the slacks of both nodes is at most those of the pin
+    under_pin : (least : Option ℤ) → IsUnder d kind (pin, Rise) least → IsUnder d kind (pin, Fall) least
+        → (test : Test) (t : ℤ) → Contains (launch_slacks d kind launch edge (time +ℤ rest) (last_of launch post)) (test, t) → IsAtMost least t
+    under_pin least rise fall test t within =
+        either (IsAtMost least t) (λ f. under_at Rise least rise f test t within) (λ f. under_at Fall least fall f test t within)
 
-  pub pin_slack_told : (a b : Option ℤ) → IsNodeSlack d kind (pin, Rise) a → IsNodeSlack d kind (pin, Fall) b → IsLaunchSlack d kind pin (lesser_slack a b)
-  pin_slack_told None None rise fall = λ edge launch time post rest c.
-      either edge launch time post rest c (launch_slacks d kind launch edge (time +ℤ rest) (last_of launch post) ≡ [])
-      (none_at edge launch time post rest c Rise rise) (none_at edge launch time post rest c Fall fall)
-  pin_slack_told None (Some y) rise fall = (
-    reached_up Fall y fall.0,
-    λ edge launch time post rest c test t within.
-        either edge launch time post rest c (y ≤ℤ t)
-        (λ f. past edge launch time post rest c Rise y rise f test t within) (λ f. low_at edge launch time post rest c Fall y fall f test t within),
+  pub pin_slack_told : (least : Option ℤ) → IsEitherSlack d kind (pin, Rise) (pin, Fall) least → IsLaunchSlack d kind pin least
+  pin_slack_told None h = λ edge launch time post rest c.
+      no_items (launch_slacks d kind launch edge (time +ℤ rest) (last_of launch post)) (λ slack within.
+      under_pin edge launch time post rest c None h.under_one h.under_other slack.0 slack.1 within)
+  pin_slack_told (Some s) h = (
+    elim (h.its s refl) [ inl r ↦ reached_up Rise s r | inr r ↦ reached_up Fall s r ],
+    λ edge launch time post rest c test t within. under_pin edge launch time post rest c (Some s) h.under_one h.under_other test t within,
   )
-  pin_slack_told (Some x) None rise fall = (
-    reached_up Rise x rise.0,
-    λ edge launch time post rest c test t within.
-        either edge launch time post rest c (x ≤ℤ t)
-        (λ f. low_at edge launch time post rest c Rise x rise f test t within) (λ f. past edge launch time post rest c Fall x fall f test t within),
-  )
-  pin_slack_told (Some x) (Some y) rise fall = by (int_lt y x) refl
-    where
-      by : (less : Bool) → int_lt y x ≡ less → IsLaunchSlack d kind pin (if less then Some y else Some x)
-      by true f =
-          let low = lt-true y x f in
-          let down : y ≤ℤ x = omega (arith, ints, low) in (
-            reached_up Fall y fall.0,
-            λ edge launch time post rest c test t within.
-                either edge launch time post rest c (y ≤ℤ t)
-                (λ g. lowest y x t down (low_at edge launch time post rest c Rise x rise g test t within)) (λ g. low_at edge launch time post rest c Fall y fall g test t within),
-          )
-      by false f =
-          let low = lt-false y x f in
-          let down : x ≤ℤ y = omega (arith, ints, low) in (
-            reached_up Rise x rise.0,
-            λ edge launch time post rest c test t within.
-                either edge launch time post rest c (x ≤ℤ t)
-                (λ g. low_at edge launch time post rest c Rise x rise g test t within) (λ g. lowest x y t down (low_at edge launch time post rest c Fall y fall g test t within)),
-          )
 
 -- the graph's numbers, with the delays of the arcs that are followed
 module _ (g : Graphed) (num : IsNumbered g.stored) (linked : IsLinked g.stored.design) (is : IsGraph g) (t : IsTimed g.stored.design) (kind : Kind) where
@@ -348,12 +317,12 @@ module _ (g : Graphed) (num : IsNumbered g.stored) (linked : IsLinked g.stored.d
   pub numbers_told : AreNumbers g.stored.design kind look_in Near_in (name_told g.stored)
   numbers_told = record { forth = steps_forth; back = steps_back }
 
-  -- the least of the walks to a number, with what each node offers for it, is the slack of its node
-  pub least_told : (offer : ℕ → Option ℤ) (e : ℕ) (end : Node) → node_at g.stored e ≡ Some end → ((n : ℕ) → IsNodeOffer g.stored kind n (named end) (offer n))
-      → (o : Option ℤ) → IsLeastNumber look_in offer e o → IsNodeSlack g.stored.design kind (named end) o
-  least_told offer e end its offers o least =
-      subst (λ (n : Named). IsNodeSlack g.stored.design kind n o) (name_here g.stored e end its)
-      (node_slack_told g.stored.design kind look_in Near_in (name_told g.stored) numbers_told e offer (record { node = end; its = its }) none some o least)
+  -- the walks to a number, with what each node offers for it, stand for the paths to its node
+  pub slacks_of_node : (offer : ℕ → Option ℤ) (e : ℕ) (end : Node) → node_at g.stored e ≡ Some end → ((n : ℕ) → IsNodeOffer g.stored kind n (named end) (offer n))
+      → StandFor (IsNumberSlack look_in offer e) g.stored.design kind (named end)
+  slacks_of_node offer e end its offers =
+      subst (λ (n : Named). StandFor (IsNumberSlack look_in offer e) g.stored.design kind n) (name_here g.stored e end its)
+      (slacks_told g.stored.design kind look_in Near_in (name_told g.stored) numbers_told e offer (record { node = end; its = its }) none some)
     where
       to : named end ≡ name_told g.stored e
       to = sym (name_here g.stored e end its)

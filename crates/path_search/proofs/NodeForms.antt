@@ -1,10 +1,11 @@
 -- What is told of the graph in front of an end node, as functions have it.
 
-use Rattle.std.proofs.Common.{◌≡◌, ℕ, ◌^◌, ◌<◌, true, ℤ, List, Option, None, Some, Result, Ok, Err, IfOk, refl, sym, ap, subst, ◌∙◌}
+use Rattle.std.proofs.Common.{◌≡◌, ℕ, ◌^◌, ◌<◌, true, ℤ, List, ◌⊎◌, inl, inr, Option, None, Some, Result, Ok, Err, IfOk, refl, sym, ap, subst, ◌∙◌}
 use Rattle.std.specs.Prelude.{All, option_and_then}
 use Rattle.sta_units.specs.Numbers.{Within}
 use Rattle.sta_units.specs.declared.units.Memory.{Memory}
 use Rattle.timing_defs.specs.declared.edge_times.EdgeTime.{EdgeTime}
+use Rattle.timing_defs.specs.declared.design.Design.{Design}
 use Rattle.timing_defs.specs.declared.kinds.Kind.{Kind}
 use Rattle.timing_defs.specs.declared.kinds.Tran.TheVariants.{Rise, Fall}
 use Rattle.timing_defs.specs.declared.rows.NodeRow.{NodeRow}
@@ -22,17 +23,18 @@ use Rattle.arc_delays.specs.declared.tables.ArcDelay.{ArcDelay}
 use Rattle.arc_delays.specs.Delays.{AreDelays}
 use Rattle.path_cones.specs.Following.{arcs_followed}
 use Rattle.pessimism_credit.specs.declared.rows.TreeRow.{TreeRow}
-use Rattle.bounded_slack.specs.Nets.{IsLeastSlack}
+use Rattle.bounded_slack.specs.Nets.{Net, IsNet, IsSlack, IsLeastOfTwo}
 use Rattle.bounded_slack.specs.Rows.{IsByRows, IsLowOffer, least_room, signed_on}
 use Rattle.path_search.specs.declared.cones.EndNodes.{EndNodes}
 use Rattle.path_search.specs.declared.ends.EndTest.{EndTest}
 use Rattle.path_search.specs.declared.launches.LaunchNode.{LaunchNode}
 use Rattle.path_search.specs.Lows.{lows_told}
 use Rattle.path_search.specs.NodeNets.{arcs_there, launch_told, net_told, offer_told, signed_arrival, fan_net, FanValue, IsFanNet, IsFanOf}
-use Rattle.path_search.specs.NodeSlacks.{IsNodeSlack, lesser_slack}
+use Rattle.path_search.specs.NodeSlacks.{IsEitherSlack, StandFor}
 use Rattle.path_search.specs.PinCones.{AreEndNodes, IsNamedNode}
 use Rattle.path_search.specs.Runs.{IsTimed}
 use Rattle.path_search.specs.Slacks.{IsReadyTest, MayLaunch, least_slack}
+use Rattle.bounded_slack.proofs.Bounds.{net_of_rows}
 use Rattle.path_search.proofs.EndLaws.{ready_tests, rows_fine}
 use Rattle.path_search.proofs.Endings.{slack_over}
 use Rattle.path_search.proofs.NodeCourses.{pin_slack_told}
@@ -104,31 +106,55 @@ module _ (s : Stored) (g : Graphed) (rows : List NodeRow) (delays : List (List A
       by_rows g g_num g_linked is g_time g_fine kind delays g_delays tree h.sources.clocks tests g_ready end
       (subst (λ (z : Stored). end < node_bound z) (sym same) h.below) fits high
 
-  pub found_as : (o : Option ℤ) → IsLeastSlack (net_told g kind tree tests end) o → (node : Node) → node_at s end ≡ Some node → IsNodeSlack s.design kind (named node) o
-  found_as o least node its =
-      subst (λ (z : Stored). IsNodeSlack z.design kind (named node) o) same
-      (node_found g g_num g_linked is g_time g_fine kind delays g_delays tree h.sources.clocks tests g_ready end node ((λ i. node_at (same i) end) ∙ its) h.its_tests o least)
+  pub found_as : (node : Node) → node_at s end ≡ Some node → StandFor (IsSlack (net_told g kind tree tests end)) s.design kind (named node)
+  found_as node its =
+      subst (λ (z : Stored). StandFor (IsSlack (net_told g kind tree tests end)) z.design kind (named node)) same
+      (node_found g g_num g_linked is g_time g_fine kind delays g_delays tree h.sources.clocks tests g_ready end node ((λ i. node_at (same i) end) ∙ its) h.its_tests)
 
 -- the same of a net that is told so
 module _ (s : Stored) (g : Graphed) (rows : List NodeRow) (delays : List (List ArcDelay)) (tree : List TreeRow) (kind : Kind) (end : ℕ) (fan : FanValue)
     (h : IsFanNet s g rows delays tree kind end fan) (num : IsNumbered s) (linked : IsLinked s.design) (is : IsGraph g) where
-  pub net_rows : node_bound g.stored < 2 ^ 32 → level_at g end < 2 ^ 22 → IsByRows (fan_net fan)
+  net_rows : node_bound g.stored < 2 ^ 32 → level_at g end < 2 ^ 22 → IsByRows (fan_net fan)
   net_rows fits high = subst (λ (v : FanValue). IsByRows (fan_net v)) (sym h.is) (rows_as s g rows delays tree kind end h.tests h.lows h.told num linked is fits high)
 
-  pub net_found : (r : Result (Option ℤ) Memory) → IfOk r (IsLeastSlack (fan_net fan))
-      → IfOk r (λ o. (node : Node) → node_at s end ≡ Some node → IsNodeSlack s.design kind (named node) o)
-  net_found (Err e) least = tt
-  net_found (Ok o) least = found_as s g rows delays tree kind end h.tests h.lows h.told num linked is o (subst (λ (v : FanValue). IsLeastSlack (fan_net v) o) h.is least)
+  net_found : (node : Node) → node_at s end ≡ Some node → StandFor (IsSlack (fan_net fan)) s.design kind (named node)
+  net_found node its =
+      subst (λ (v : FanValue). StandFor (IsSlack (fan_net v)) s.design kind (named node)) (sym h.is) (found_as s g rows delays tree kind end h.tests h.lows h.told num linked is node its)
 
--- a pin's slack is the lesser of those of its nodes
+-- the least slack of the walks to two nodes is that of the paths to them
+either_found : (d : Design) (kind : Kind) (one other : Net) (first second : Named) → StandFor (IsSlack one) d kind first → StandFor (IsSlack other) d kind second
+    → (least : Option ℤ) → IsLeastOfTwo one other least → IsEitherSlack d kind first second least
+either_found d kind one other first second a b least h = record {
+  its = λ s e. elim (h.its s e) [ inl w ↦ inl (a.forth s w) | inr w ↦ inr (b.forth s w) ];
+  under_one = a.under least h.all_one;
+  under_other = b.under least h.all_other;
+}
+
+module _ (s : Stored) (g : Graphed) (rows : List NodeRow) (delays : List (List ArcDelay)) (tree : List TreeRow) (kind : Kind) where
+  pub net_bounded : (end : ℕ) (r : Result FanValue Memory) → IfOk r (IsFanNet s g rows delays tree kind end) → IsNumbered s → IsLinked s.design → IsGraph g
+      → node_bound g.stored < 2 ^ 32 → level_at g end < 2 ^ 22 → IfOk r (λ fan. IsNet (fan_net fan))
+  net_bounded end (Err e) h num linked is fits high = tt
+  net_bounded end (Ok fan) h num linked is fits high = net_of_rows (fan_net fan) (net_rows s g rows delays tree kind end fan h num linked is fits high)
+
+  pub both_found : (rise_end fall_end : ℕ) (one other : FanValue) → IsFanNet s g rows delays tree kind rise_end one → IsFanNet s g rows delays tree kind fall_end other
+      → IsNumbered s → IsLinked s.design → IsGraph g → (r : Result (Option ℤ) Memory) → IfOk r (IsLeastOfTwo (fan_net one) (fan_net other))
+      → IfOk r (λ slack. (rise fall : Node) → node_at s rise_end ≡ Some rise → node_at s fall_end ≡ Some fall → IsEitherSlack s.design kind (named rise) (named fall) slack)
+  both_found rise_end fall_end one other a b num linked is (Err e) h = tt
+  both_found rise_end fall_end one other a b num linked is (Ok slack) h = λ rise fall e f.
+      either_found s.design kind (fan_net one) (fan_net other) (named rise) (named fall)
+      (net_found s g rows delays tree kind rise_end one a num linked is rise e) (net_found s g rows delays tree kind fall_end other b num linked is fall f) slack h
+
+-- a pin's slack is the least of those of its two nodes
 pub pin_as : (g : Graphed) (s : Stored) → g.stored ≡ s → IsNumbered s → IsLinked s.design → IsGraph g → (kind : Kind) (pin : List ℕ) (ends : EndNodes) → AreEndNodes s pin ends
-    → (rise fall : Option ℤ) → ((node : Node) → node_at s ends.rise ≡ Some node → IsNodeSlack s.design kind (named node) rise)
-    → ((node : Node) → node_at s ends.fall ≡ Some node → IsNodeSlack s.design kind (named node) fall) → IsPinSlack s.design kind pin (lesser_slack rise fall)
-pin_as g s same num linked is kind pin ends at rise fall first second =
+    → (least : Option ℤ)
+    → ((rise fall : Node) → node_at s ends.rise ≡ Some rise → node_at s ends.fall ≡ Some fall → IsEitherSlack s.design kind (named rise) (named fall) least)
+    → IsPinSlack s.design kind pin least
+pin_as g s same num linked is kind pin ends at least found =
     let t : IsTimed s.design =
     subst (λ (z : Stored). IsTimed z.design) same
     (timed g (subst (λ (z : Stored). IsNumbered z) (sym same) num) (subst (λ (z : Stored). IsLinked z.design) (sym same) linked) is) in
-    slack_over s.design t kind pin (lesser_slack rise fall)
-    (pin_slack_told s.design kind pin rise fall
-    (subst (λ (n : Named). IsNodeSlack s.design kind n rise) at.rise.is (first at.rise.node at.rise.its))
-    (subst (λ (n : Named). IsNodeSlack s.design kind n fall) at.fall.is (second at.fall.node at.fall.its)))
+    slack_over s.design t kind pin least
+    (pin_slack_told s.design kind pin least
+    (subst (λ (n : Named). IsEitherSlack s.design kind n (pin, Fall) least) at.rise.is
+    (subst (λ (n : Named). IsEitherSlack s.design kind (named at.rise.node) n least) at.fall.is
+    (found at.rise.node at.fall.node at.rise.its at.fall.its))))

@@ -43,7 +43,7 @@ use Rattle.path_search.specs.declared.launches.LaunchNode.{LaunchNode}
 use Rattle.path_search.specs.Launches.{edge_of_launch, signed}
 use Rattle.path_search.specs.Lows.{low_over, low_told, lows_told}
 use Rattle.path_search.specs.NodeNets.{arcs_there, launch_told, net_told, offer_told, signed_arrival}
-use Rattle.path_search.specs.NodeSlacks.{IsLeastNumber, IsNodeSlack, IsNumberSlack}
+use Rattle.path_search.specs.NodeSlacks.{StandFor, IsNumberSlack}
 use Rattle.path_search.specs.Runs.{IsTimed}
 use Rattle.path_search.specs.Slacks.{AreEndTestsOf, IsLaunchNode, IsNodeOffer, IsReadyLaunch, IsReadyTest, MayLaunch, edge_of_node, least_slack}
 use Rattle.path_search.specs.Trees.{IsClockTree}
@@ -51,7 +51,7 @@ use Rattle.path_search.proofs.EndLaws.{ready_launch, ready_tests}
 use Rattle.path_search.proofs.FanCones.{inside}
 use Rattle.path_search.proofs.LaunchLaws.{launched_in, times_are}
 use Rattle.path_search.proofs.LowOffers.{offered_low}
-use Rattle.path_search.proofs.NodeCourses.{least_told}
+use Rattle.path_search.proofs.NodeCourses.{slacks_of_node}
 use Rattle.path_search.proofs.NodeLaunches.{launch_is, low_bound, offer_bound, offer_low, outer_found, told_sound}
 use Rattle.path_search.proofs.OfferLaws.{its_edge, no_launch, offer_is}
 use Rattle.path_search.proofs.NodeNames.{named_back}
@@ -349,10 +349,11 @@ module _ (g : Graphed) (num : IsNumbered g.stored) (linked : IsLinked g.stored.d
             let adds = walk_same (λ a b. delay_in (arcs_there g kind b) a) (λ a b. followed_delay g kind a b) end w.first w.more look_same ∙ w.adds in
             (w.first ∷ w.more, (λ k. minus_some (offer k) (adds k)) ∙ ap Some w.is)
 
-        least_forth : (o : Option ℤ) → IsLeastSlack (net_told g kind rows tests end) o → IsLeastNumber (λ a b. followed_delay g kind a b) (offer_told g kind rows tests) end o
-        least_forth None none = λ s w. none s (slack_back s w)
-        least_forth (Some s) (found, least) = (slack_forth s found, λ u w. least u (slack_back u w))
-
-        -- the least slack that a search finds is the node's
-        pub node_found : (o : Option ℤ) → IsLeastSlack (net_told g kind rows tests end) o → IsNodeSlack g.stored.design kind (named node) o
-        node_found o least = least_told g num linked is t kind (offer_told g kind rows tests) end node its offers_are o (least_forth o least)
+        -- the walks that a search finds stand for the paths to the node
+        pub node_found : StandFor (IsSlack (net_told g kind rows tests end)) g.stored.design kind (named node)
+        node_found =
+            let numbers = slacks_of_node g num linked is t kind (offer_told g kind rows tests) end node its offers_are in
+            record {
+              forth = λ s w. numbers.forth s (slack_forth s w);
+              under = λ least all. numbers.under least (λ s w. all s (slack_back s w));
+            }

@@ -6,17 +6,19 @@ ghost use Rattle.timing_defs.specs.Netlist.{Node};
 ghost use Rattle.timing_defs.specs.Tests.{data_split};
 ghost use Rattle.netlist_store.specs.Numbering.{is_number};
 ghost use Rattle.pin_graph.specs.Nodes.{node_at, node_bound, pin_under};
-ghost use Rattle.path_search.specs.NodeNets.{IsFanNet};
-ghost use Rattle.path_search.specs.NodeSlacks.{IsNodeSlack};
+ghost use Rattle.bounded_slack.specs.Nets.{IsNet};
+ghost use Rattle.path_search.specs.NodeNets.{IsFanNet, fan_net};
+ghost use Rattle.path_search.specs.NodeSlacks.{IsEitherSlack};
 ghost use Rattle.path_search.specs.Sources.{AreSources};
 
+use crate::cones::EndNodes;
 use crate::ends::{EndTest, end_tests};
 use crate::launches::launch_node;
 use crate::lows::lows_of;
 use crate::sources::Sources;
 use crate::test_slacks::least_slack;
 use arc_delays::Delayed;
-use bounded_slack::{Fan, least_of_rows, least_room};
+use bounded_slack::{Fan, least_of_two, least_room};
 use path_cones::arcs_into;
 use pin_graph::Graph;
 use sta_units::Memory;
@@ -166,18 +168,18 @@ fn bounded(graph: &Graph)
     let _ = graph.count();
 }
 
-/// The slack of an end node for a kind of tests, in fs: the least over all paths to it that are tested;
-/// none where there is no such path. Fails for want of memory, and where the end node's level is `2^22` or
-/// more, above that of a sound design.
-pub(crate) fn node_slack<A: Rows + Delayed>(
+/// What a search in front of an end node asks for, bounded by arrivals. Fails for want of memory, and where
+/// the end node's level is `2^22` or more, above that of a sound design.
+fn end_fan<'a, A: Rows + Delayed>(
     alloc: Global,
-    sources: &Sources<'_, A>,
+    sources: &'a Sources<'a, A>,
     end: u32,
-) -> Result<Option<i64>, Memory>
+) -> Result<NodeFan<'a, A>, Memory>
     requires sources { AreSources sources.now.store.now sources.now.graph.now (A.rows sources.now.arrivals.now) (A.delays sources.now.arrivals.now) sources.now.tree.now }
     requires end { end < node_bound sources.now.store.now }
     requires there { is_number sources.now.store.now.pins (pin_under end) ≡ true }
-    ensures { IfOk result (λ slack. (node : Node) → node_at sources.now.store.now end ≡ Some node → IsNodeSlack sources.now.store.now.design sources.now.kind (named node) slack) }
+    ensures net { IfOk result (IsFanNet sources.now.store.now sources.now.graph.now (A.rows sources.now.arrivals.now) (A.delays sources.now.arrivals.now) sources.now.tree.now sources.now.kind end) }
+    ensures bounded { IfOk result (λ fan. IsNet (fan_net fan)) }
 {
     sources.store.laws();
     sources.graph.laws();
@@ -185,6 +187,27 @@ pub(crate) fn node_slack<A: Rows + Delayed>(
     if sources.graph.level(end) >= 1 << 22 {
         return Err(Memory);
     }
-    let fan = node_fan(alloc, sources, end)?;
-    least_of_rows(alloc, &fan)
+    node_fan(alloc, sources, end)
+}
+
+/// The slack of two end nodes for a kind of tests, in fs: the least over all paths to either that are
+/// tested; none where there is no such path. Of a node whose arrivals leave no room for a lesser slack than
+/// the other's nothing is searched. Fails for want of memory, and where a level is `2^22` or more.
+pub(crate) fn either_slack<A: Rows + Delayed>(
+    alloc: Global,
+    sources: &Sources<'_, A>,
+    ends: EndNodes,
+) -> Result<Option<i64>, Memory>
+    requires sources { AreSources sources.now.store.now sources.now.graph.now (A.rows sources.now.arrivals.now) (A.delays sources.now.arrivals.now) sources.now.tree.now }
+    requires rise { ends.rise < node_bound sources.now.store.now }
+    requires rise_there { is_number sources.now.store.now.pins (pin_under ends.rise) ≡ true }
+    requires fall { ends.fall < node_bound sources.now.store.now }
+    requires fall_there { is_number sources.now.store.now.pins (pin_under ends.fall) ≡ true }
+    ensures { IfOk result (λ slack. (rise fall : Node) → node_at sources.now.store.now ends.rise ≡ Some rise → node_at sources.now.store.now ends.fall ≡ Some fall → IsEitherSlack sources.now.store.now.design sources.now.kind (named rise) (named fall) slack) }
+{
+    sources.store.laws();
+    sources.graph.laws();
+    let rise = end_fan(alloc, sources, ends.rise)?;
+    let fall = end_fan(alloc, sources, ends.fall)?;
+    least_of_two(alloc, &rise, &fall)
 }

@@ -7,7 +7,7 @@ ghost use Rattle.timing_defs.specs.Reports.{endpoints};
 ghost use Rattle.timing_defs.specs.Netlist.{Node};
 ghost use Rattle.timing_defs.specs.Paths.{named, IsSlack, IsShown};
 ghost use Rattle.pin_graph.specs.Nodes.{node_at};
-ghost use Rattle.path_search.specs.NodeSlacks.{lesser_slack, IsNodeSlack};
+ghost use Rattle.path_search.specs.NodeSlacks.{IsEitherSlack};
 ghost use Rattle.arc_delays.specs.Delays.{AreDelays};
 ghost use Rattle.pin_graph.specs.RowTables.{AreRows};
 ghost use Rattle.path_search.specs.Sources.{AreSources};
@@ -19,7 +19,7 @@ ghost use Rattle.path_search.specs.WalkPaths.{AreWalkPaths};
 ghost use Rattle.path_search.specs.WalkPlaces.{AreWalkPlaces};
 
 use crate::cones::{EndNodes, PinCone, end_nodes, pin_cone};
-use crate::node_fans::node_slack;
+use crate::node_fans::either_slack;
 use crate::orders::ByName;
 use crate::shown::path_of;
 use crate::sources::Sources;
@@ -82,40 +82,26 @@ pub fn walk_place_laws(store: &Store, graph: &Graph, kind: Kind, endpoint: &Name
     let _ = search;
 }
 
-/// That the lesser of the slacks of a pin's nodes is the pin's; the call does nothing.
+/// That the least slack of a pin's two nodes is the pin's; the call does nothing.
 fn slack_law(
     store: &Store,
     graph: &Graph,
     kind: Kind,
     endpoint: &Name,
     ends: EndNodes,
-    rise: Option<i64>,
-    fall: Option<i64>,
+    slack: Option<i64>,
 )
     requires graph { graph.now.stored ≡ store.now }
     requires ends { AreEndNodes store.now endpoint.now ends }
-    requires rise { (node : Node) → node_at store.now ends.rise ≡ Some node → IsNodeSlack store.now.design kind (named node) rise }
-    requires fall { (node : Node) → node_at store.now ends.fall ≡ Some node → IsNodeSlack store.now.design kind (named node) fall }
-    ensures { IsSlack store.now.design kind endpoint.now (lesser_slack rise fall) }
+    requires slack { (rise fall : Node) → node_at store.now ends.rise ≡ Some rise → node_at store.now ends.fall ≡ Some fall → IsEitherSlack store.now.design kind (named rise) (named fall) slack }
+    ensures { IsSlack store.now.design kind endpoint.now slack }
 {
     store.laws();
     graph.laws();
     let _ = kind;
     let _ = endpoint;
     let _ = ends;
-    let _ = rise;
-    let _ = fall;
-}
-
-/// The lesser of two slacks, where there are two.
-fn lesser(one: Option<i64>, other: Option<i64>) -> Option<i64>
-    ensures { result ≡ lesser_slack one other }
-{
-    match (one, other) {
-        (None, second) => second,
-        (Some(x), None) => Some(x),
-        (Some(x), Some(y)) => if y < x { Some(y) } else { Some(x) },
-    }
+    let _ = slack;
 }
 
 /// A slack in fs.
@@ -139,18 +125,16 @@ fn pin_slack<A: Rows + Delayed>(
     requires ends { AreEndNodes sources.now.store.now endpoint.now ends }
     ensures { IfOk result (λ slack. IsSlack sources.now.store.now.design sources.now.kind endpoint.now (option_map (λ s. s.0) slack)) }
 {
-    let rise = node_slack(alloc, sources, ends.rise)?;
-    let fall = node_slack(alloc, sources, ends.fall)?;
+    let slack = either_slack(alloc, sources, ends)?;
     slack_law(
         sources.store,
         sources.graph,
         sources.kind,
         endpoint,
         ends,
-        rise,
-        fall,
+        slack,
     );
-    Ok(in_fs(lesser(rise, fall)))
+    Ok(in_fs(slack))
 }
 
 /// The worst walk of a cone, in the order of the names of pins.

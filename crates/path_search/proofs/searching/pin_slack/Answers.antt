@@ -1,7 +1,7 @@
-use Rattle.std.proofs.Common.{sym, subst, ◌∙◌}
+use Rattle.std.proofs.Common.{sym, subst}
 use Rattle.timing_defs.specs.Paths.{IsSlack}
 use Rattle.path_search.proofs.searching.pin_slack.Goals as goal
 
 pub returns : goal.returns
 returns g c =
-    subst (IsSlack c.args.sources.now.store.now.design c.args.sources.now.kind c.args.endpoint.now) (sym (c.in_fs.ensures ∙ c.lesser.ensures)) c.slack_law.ensures
+    subst (IsSlack c.args.sources.now.store.now.design c.args.sources.now.kind c.args.endpoint.now) (sym c.in_fs.ensures) c.slack_law.ensures
