@@ -50,13 +50,13 @@ fn tran_of(node: u32) -> Tran
 }
 
 /// A node of a path.
-fn path_node(store: &Store, node: u32, time: i64) -> Result<PathNode, Memory>
+fn path_node(alloc: Global, store: &Store, node: u32, time: i64) -> Result<PathNode, Memory>
     requires { is_number store.now.pins (pin_under node) ≡ true }
     ensures name { IfOk result (λ made. name_part made ≡ name_told store.now node) }
     ensures time { IfOk result (λ made. time_part made ≡ time) }
 {
     store.laws();
-    let pin = store.pin_name(node / 2).clone()?;
+    let pin = store.pin_name(node / 2).copied(alloc)?;
     Ok(PathNode {
         pin,
         tran: tran_of(node),
@@ -84,7 +84,8 @@ fn arrival_at<A: Rows>(
     }
 }
 
-/// The nodes of the clock network before a launch node, with their arrivals on the launch edge.
+/// The nodes of the clock network before a launch node, with their arrivals on the launch edge, and room for
+/// so many more.
 fn network_nodes<A: Rows>(
     alloc: Global,
     store: &Store,
@@ -92,6 +93,7 @@ fn network_nodes<A: Rows>(
     split: Split,
     counted: &Counted,
     nodes: &[u32],
+    more: usize,
 ) -> Result<Items<PathNode>, Memory>
     requires rows { AreRows store.now (A.rows arrivals.now) }
     requires nodes { All (λ n. n < node_bound store.now) nodes.now }
@@ -99,10 +101,10 @@ fn network_nodes<A: Rows>(
     ensures names { IfOk result (λ made. map name_part made ≡ map (name_told store.now) nodes.now) }
     ensures times { IfOk result (λ made. map time_part made ≡ map (time_numbered store.now split (counted_edge counted.now)) nodes.now) }
 {
-    let mut path = Items::with_room(alloc, nodes.len())?;
+    let mut path = Items::with_room(alloc, nodes.len().saturating_add(more))?;
     for node in nodes {
         let time = arrival_at(store, arrivals, split, counted, *node);
-        let made = path_node(store, *node, time)?;
+        let made = path_node(alloc, store, *node, time)?;
         path.push(made)?;
     }
     Ok(path)
@@ -161,6 +163,7 @@ fn time_after(cone: &Cone, kind: Kind, from: u32, to: u32, time: i64) -> i64
 
 /// Adds the node at a place of a cone to a path.
 fn add_node(
+    alloc: Global,
     store: &Store,
     nodes: &[u32],
     place: u32,
@@ -172,13 +175,14 @@ fn add_node(
     ensures names { OnOk result (map name_part path.new ≡ map name_part path.old ++ place_name store.now nodes.now place ∷ []) }
     ensures times { OnOk result (map time_part path.new ≡ map time_part path.old ++ time ∷ []) }
 {
-    let made = path_node(store, nodes[place as usize], time)?;
+    let made = path_node(alloc, store, nodes[place as usize], time)?;
     path.push(made)?;
     Ok(())
 }
 
 /// Adds the nodes of a walk after its first, with the times along its arcs.
 fn add_rest(
+    alloc: Global,
     store: &Store,
     search: &PinCone,
     kind: Kind,
@@ -199,7 +203,7 @@ fn add_rest(
     for next in rest {
         time = time_after(&search.cone, kind, at, *next, time);
         at = *next;
-        add_node(store, search.nodes.as_slice(), at, time, path)?;
+        add_node(alloc, store, search.nodes.as_slice(), at, time, path)?;
     }
     Ok(())
 }
@@ -259,10 +263,12 @@ fn nodes_of<A: Rows + Delayed>(
         split,
         counted,
         before.as_slice(),
+        rest.len().saturating_add(1),
     )?;
     let nodes = search.nodes.as_slice();
-    add_node(sources.store, nodes, first, counted.time.0, &mut path)?;
+    add_node(alloc, sources.store, nodes, first, counted.time.0, &mut path)?;
     add_rest(
+        alloc,
         sources.store,
         search,
         sources.kind,
