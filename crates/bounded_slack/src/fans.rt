@@ -37,9 +37,10 @@ pub trait Fan {
         requires { node < count_of (net self.now) }
         ensures { IfOk result (λ arcs. arcs ≡ arcs_into (net self.now) node) };
 
-    /// What a launch at a node offers: a walk from it with the delay sum `s` has the slack `offer - s`.
-    /// None where no walk begins at the node. The one error is want of memory.
-    fn offer(&self, alloc: Global, node: u32) -> Result<Option<i64>, Memory>
-        requires { node < count_of (net self.now) }
+    /// What a launch at a node offers, to which these arcs lead: a walk from it with the delay sum `s` has
+    /// the slack `offer - s`. None where no walk begins at the node. The one error is want of memory.
+    fn offer(&self, alloc: Global, node: u32, arcs: &[WalkArc]) -> Result<Option<i64>, Memory>
+        requires node { node < count_of (net self.now) }
+        requires arcs { arcs.now ≡ arcs_into (net self.now) node }
         ensures { IfOk result (λ offer. offer ≡ offer_of (net self.now) node) };
 }

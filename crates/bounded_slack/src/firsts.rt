@@ -66,6 +66,17 @@ fn back<F: Fan>(alloc: Global, fan: &F, held: Held) -> Result<Option<Held>, Memo
     Ok(best)
 }
 
+/// The slack of the walk from a node that is held; none where nothing is offered there.
+fn own_slack<F: Fan>(alloc: Global, fan: &F, held: Held) -> Result<Option<i64>, Memory>
+    requires net { IsShape (F.net fan.now) }
+    requires held { IsHeld (F.net fan.now) held }
+    ensures { IfOk result (IsKnown (F.net fan.now)) }
+{
+    let arcs = fan.arcs_into(alloc, held.node)?;
+    let offer = fan.offer(alloc, held.node, arcs.as_slice())?;
+    Ok(minus(offer, held))
+}
+
 /// The slack of the walk that goes back from the end node by the arcs of least room; none where what it
 /// ends at offers nothing.
 pub(crate) fn first_slack<F: Fan>(alloc: Global, fan: &F) -> Result<Option<i64>, Memory>
@@ -78,6 +89,5 @@ pub(crate) fn first_slack<F: Fan>(alloc: Global, fan: &F) -> Result<Option<i64>,
         at = held;
         next = back(alloc, fan, held)?;
     }
-    let offer = fan.offer(alloc, at.node)?;
-    Ok(minus(offer, at))
+    own_slack(alloc, fan, at)
 }

@@ -48,27 +48,28 @@ fn settle<F: Fan>(
     if is_shut(least, room(fan, held)) {
         return Ok(least);
     }
-    let offer = fan.offer(alloc, held.node)?;
+    let arcs = fan.arcs_into(alloc, held.node)?;
+    let offer = fan.offer(alloc, held.node, arcs.as_slice())?;
     let found = lesser(least, minus(offer, held));
-    spread(alloc, fan, reached, found, held)?;
+    spread(fan, reached, found, held, arcs.as_slice())?;
     Ok(found)
 }
 
 /// Follows the arcs into a node.
 fn spread<F: Fan>(
-    alloc: Global,
     fan: &F,
     reached: &mut Reached,
     least: Option<i64>,
     held: Held,
+    arcs: &[WalkArc],
 ) -> Result<(), Memory>
     requires net { IsNet (F.net fan.now) }
     requires held { IsHeld (F.net fan.now) held }
+    requires arcs { arcs.now ≡ arcs_into (F.net fan.now) held.node }
     requires still { IsSpread (F.net fan.now) (sum_at reached.old) least held (IsStill (F.net fan.now) held.sum (arcs_into (F.net fan.now) held.node)) }
     ensures { OnOk result (IsSpread (F.net fan.now) (sum_at reached.new) least held IsNever) }
 {
-    let arcs = fan.arcs_into(alloc, held.node)?;
-    for arc in arcs.as_slice() {
+    for arc in arcs {
         follow(fan, reached, least, held, *arc)?;
     }
     Ok(())

@@ -53,7 +53,7 @@ impl Fan for Written<'_> {
         Items::from_slice(alloc, arcs_at(self, node))
     }
 
-    fn offer(&self, _alloc: Global, node: u32) -> Result<Option<i64>, Memory> {
+    fn offer(&self, _alloc: Global, node: u32, _arcs: &[WalkArc]) -> Result<Option<i64>, Memory> {
         Ok(value_at(self.offers, node))
     }
 }

@@ -1,7 +1,8 @@
 -- What is told of the graph in front of an end node, as functions have it.
 
-use Rattle.std.proofs.Common.{◌≡◌, ℕ, ◌^◌, ◌<◌, true, ℤ, List, ◌⊎◌, inl, inr, Option, None, Some, Result, Ok, Err, IfOk, refl, sym, ap, subst, ◌∙◌}
-use Rattle.std.specs.Prelude.{All, option_and_then}
+use Rattle.std.proofs.Common.{◌≡◌, ℕ, ◌^◌, ◌<◌, ◌≤◌, Bool, true, false, ℤ, List, [], ◌∷◌, length, arith, ◌⊎◌, inl, inr, Option, None, Some, Result, Ok, Err, IfOk, refl, sym, ap, subst, ◌∙◌}
+use Rattle.std.specs.Prelude.{All, if◌then◌else◌, nat_lt, option_and_then}
+use Rattle.std.specs.List.{filter_map}
 use Rattle.sta_units.specs.Numbers.{Within}
 use Rattle.sta_units.specs.declared.units.Memory.{Memory}
 use Rattle.timing_defs.specs.declared.edge_times.EdgeTime.{EdgeTime}
@@ -15,13 +16,16 @@ use Rattle.timing_defs.specs.Rows.{times_in}
 use Rattle.timing_defs.specs.Tests.{data_split}
 use Rattle.netlist_store.specs.Linked.{IsLinked}
 use Rattle.netlist_store.specs.Numbering.{Stored, IsNumbered}
+use Rattle.pin_graph.specs.declared.arcs.GraphArc.{GraphArc}
 use Rattle.pin_graph.specs.Nodes.{node_at, node_bound}
-use Rattle.pin_graph.specs.Graphs.{Graphed, IsGraph, level_at}
+use Rattle.pin_graph.specs.Graphs.{Graphed, IsGraph, fan_at, level_at, network_at}
 use Rattle.pin_graph.specs.RowTables.{AreRowsFine, row_numbered}
 use Rattle.timing_defs.proofs.Members.{some_is}
 use Rattle.arc_delays.specs.declared.tables.ArcDelay.{ArcDelay}
 use Rattle.arc_delays.specs.Delays.{AreDelays}
-use Rattle.path_cones.specs.Following.{arcs_followed}
+use Rattle.worst_walks.specs.declared.cones.WalkArc.{WalkArc}
+use Rattle.path_cones.specs.Following.{arcs_followed, numbered_arc}
+use Rattle.path_cones.specs.Reaching.{followed}
 use Rattle.pessimism_credit.specs.declared.rows.TreeRow.{TreeRow}
 use Rattle.bounded_slack.specs.Nets.{Net, IsNet, IsSlack, IsLeastOfTwo}
 use Rattle.bounded_slack.specs.Rows.{IsByRows, IsLowOffer, least_room, signed_on}
@@ -37,6 +41,7 @@ use Rattle.path_search.specs.Slacks.{IsReadyTest, MayLaunch, least_slack}
 use Rattle.bounded_slack.proofs.Bounds.{net_of_rows}
 use Rattle.path_search.proofs.EndLaws.{ready_tests, rows_fine}
 use Rattle.path_search.proofs.Endings.{slack_over}
+use Rattle.path_search.proofs.Forms.{passed_over}
 use Rattle.path_search.proofs.NodeCourses.{pin_slack_told}
 use Rattle.path_search.proofs.NodeLaunches.{launch_is}
 use Rattle.path_search.proofs.NodeSearches.{by_rows, node_found, lows_fit, times_fine, there}
@@ -100,6 +105,26 @@ module _ (s : Stored) (g : Graphed) (rows : List NodeRow) (delays : List (List A
   pub offer_none : (n : ℕ) → MayLaunch g (data_split kind) n None → None ≡ offer_told g kind tree tests n
   offer_none n may =
       ap (λ (x : Option LaunchNode). option_and_then (λ k. least_slack g.stored.design kind tree k tests) x) (launch_is g g_num g_linked is g_time kind n g_fine None may)
+
+  nothing_either : (b : Bool) → ◌≡◌ {A = List WalkArc} (if b then [] else []) []
+  nothing_either true = refl
+  nothing_either false = refl
+
+  -- a node to which a walk can follow an arc offers nothing
+  pub offer_passed : (n : ℕ) (arcs : List WalkArc) → arcs ≡ arcs_there g kind n → (arcs ≡ [] → ⊥) → None ≡ offer_told g kind tree tests n
+  offer_passed n arcs are some = by (network_at g n) refl (fan_at g.ins n) refl
+    where
+      empty : followed g n ≡ [] → arcs ≡ []
+      empty e =
+          are ∙ ap (λ (xs : List GraphArc). if nat_lt n (node_bound g.stored) then filter_map (numbered_arc g.stored kind) xs else []) e
+          ∙ nothing_either (nat_lt n (node_bound g.stored))
+
+      by : (network : Bool) → network_at g n ≡ network → (fan : List GraphArc) → fan_at g.ins n ≡ fan → None ≡ offer_told g kind tree tests n
+      by true on fan e = absurd (some (empty (ap (λ (b : Bool). if b then [] else fan_at g.ins n) on)))
+      by false off [] e = absurd (some (empty (ap (λ (b : Bool). if b then [] else fan_at g.ins n) off ∙ e)))
+      by false off (a ∷ more) e =
+          offer_none n
+          (passed_over g s same num linked is n off (fan_at g.ins n) refl (subst (λ (xs : List GraphArc). 1 ≤ length xs) (sym e) (omega (arith))) (data_split kind))
 
   pub rows_as : node_bound g.stored < 2 ^ 32 → level_at g end < 2 ^ 22 → IsByRows (net_told g kind tree tests end)
   rows_as fits high =

@@ -100,10 +100,13 @@ impl<A: Rows + Delayed> Fan for NodeFan<'_, A> {
         )
     }
 
-    fn offer(&self, alloc: Global, node: u32) -> Result<Option<i64>, Memory> {
+    fn offer(&self, alloc: Global, node: u32, arcs: &[WalkArc]) -> Result<Option<i64>, Memory> {
         let sources = self.sources;
         sources.store.laws();
         sources.graph.laws();
+        if !arcs.is_empty() {
+            return Ok(None);
+        }
         let launch = launch_node(
             alloc,
             sources.store,

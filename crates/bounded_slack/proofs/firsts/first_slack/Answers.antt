@@ -1,7 +1,6 @@
-use Rattle.std.proofs.Common.{◌<◌, Some, sym, ap, subst, ◌∙◌}
-use Rattle.bounded_slack.specs.Nets.{minus_some, IsLow}
+use Rattle.std.proofs.Common.{◌<◌, sym, subst}
 use Rattle.bounded_slack.specs.Cuts.{height_of, IsBehind}
-use Rattle.bounded_slack.proofs.Cutting.{low_sum, height_falls, known_at}
+use Rattle.bounded_slack.proofs.Cutting.{height_falls}
 use Rattle.bounded_slack.proofs.firsts.first_slack.Goals as goal
 
 pub at_end-at-requires : goal.at_end-at-requires
@@ -34,16 +33,8 @@ loop-next-preserved g c =
     let behind = subst (IsBehind (g.F.Fan.net c.args.fan.now) c.loop-next.at) c.in-Some.is c.loop-next.invariant.next in
     record { at = behind.0; next = c.in_ok-next-2.ensures }
 
-pub offer-requires : goal.offer-requires
-offer-requires g c = c.loop-next.invariant.at.low
+pub own_slack-requires-clause-net : goal.own_slack-requires-clause-net
+own_slack-requires-clause-net g c = c.requires
 
-pub minus-requires-clause-low : goal.minus-requires-clause-low
-minus-requires-clause-low g c = subst IsLow (sym c.in_ok-offer.ensures) (c.requires.offers c.loop-next.at.node c.loop-next.invariant.at.low)
-
-pub minus-requires-clause-sum : goal.minus-requires-clause-sum
-minus-requires-clause-sum g c = low_sum (g.F.Fan.net c.args.fan.now) c.loop-next.at c.requires c.loop-next.invariant.at
-
-pub returns : goal.returns
-returns g c =
-    known_at (g.F.Fan.net c.args.fan.now) c.loop-next.at c.minus.result c.loop-next.invariant.at
-    (c.minus.ensures ∙ ap (λ o. minus_some o (Some c.loop-next.at.sum)) c.in_ok-offer.ensures)
+pub own_slack-requires-clause-held : goal.own_slack-requires-clause-held
+own_slack-requires-clause-held g c = c.loop-next.invariant.at

@@ -16,8 +16,14 @@ returns-then-is_shut g c =
     settled_shut net (sum_at c.args.reached.now) c.args.least c.args.held c.requires.net
     (shut_is net c.args.least c.args.held c.room.result c.is_shut.result true c.room.ensures c.is_shut.ensures c.if-is_shut.true) c.requires.searching
 
-pub offer-requires : goal.offer-requires
-offer-requires g c = c.requires.searching.front.0.low
+pub arcs_into-requires : goal.arcs_into-requires
+arcs_into-requires g c = c.requires.searching.front.0.low
+
+pub offer-requires-clause-node : goal.offer-requires-clause-node
+offer-requires-clause-node g c = c.requires.searching.front.0.low
+
+pub offer-requires-clause-arcs : goal.offer-requires-clause-arcs
+offer-requires-clause-arcs g c = c.as_slice.ensures ∙ c.in_ok-arcs.ensures
 
 pub minus-requires-clause-low : goal.minus-requires-clause-low
 minus-requires-clause-low g c = subst IsLow (sym c.in_ok-offer.ensures) (c.requires.net.shape.offers c.args.held.node c.requires.searching.front.0.low)
@@ -30,6 +36,9 @@ spread-requires-clause-net g c = c.requires.net
 
 pub spread-requires-clause-held : goal.spread-requires-clause-held
 spread-requires-clause-held g c = c.requires.searching.front.0
+
+pub spread-requires-clause-arcs : goal.spread-requires-clause-arcs
+spread-requires-clause-arcs g c = c.as_slice-2.ensures ∙ c.in_ok-arcs.ensures
 
 pub spread-requires-clause-still : goal.spread-requires-clause-still
 spread-requires-clause-still g c =

@@ -3,12 +3,18 @@ use Rattle.std.specs.Prelude.{All, IfSome}
 use Rattle.timing_defs.specs.Tests.{data_split}
 use Rattle.path_search.specs.declared.ends.EndTest.{EndTest}
 use Rattle.path_search.specs.declared.launches.LaunchNode.{LaunchNode}
-use Rattle.path_search.specs.NodeNets.{offer_told, FanValue}
+use Rattle.path_search.specs.NodeNets.{arcs_there, offer_told, FanValue}
 use Rattle.path_search.specs.Slacks.{IsReadyTest, MayLaunch, least_slack}
 use Rattle.path_search.proofs.EndLaws.{rows_fine}
-use Rattle.path_search.proofs.NodeForms.{offer_none, offer_some}
+use Rattle.path_search.proofs.NodeForms.{offer_none, offer_passed, offer_some}
 use Rattle.path_search.proofs.OfferForms.{launch_placed, tests_ready, tests_placed}
 use Rattle.path_search.proofs.node_fans.NodeFanFan.offer.Goals as goal
+
+pub returns-else-is_empty : goal.returns-else-is_empty
+returns-else-is_empty g c =
+    offer_passed _ _ _ _ _ _ _ _ _ c.self.invariant c.laws.ensures.numbered c.laws.ensures.linked c.laws-2.ensures c.args.node c.args.arcs.now
+    (c.requires.arcs ∙ ap (λ (v : FanValue). arcs_there v.0 v.1 c.args.node) (sym c.self.view_is)) (λ none. true≢false (c.is_empty.ensures.1 none ∙ c.if-is_empty.false))
+    ∙ ap (λ (v : FanValue). offer_told v.0 v.1 v.2 v.3 c.args.node) c.self.view_is
 
 pub launch_node-requires-clause-range : goal.launch_node-requires-clause-range
 launch_node-requires-clause-range g c = rows_fine c.self.inside.sources.now.store.now.design c.self.invariant.sources.none
