@@ -156,6 +156,18 @@ def users_of(folder, constant):
     return symbols_at(folder, re.compile(rf"\b{constant}\b"))
 
 
+def write_hole(folder, crate, path):
+    """Gives a function of a crate in this folder a proof that is a hole; gives the name that a check calls it by."""
+    parts = path.split("::")
+    at = folder / "proofs" / "/".join(parts)
+    for name in ("Answers", "Invariants", "Proof"):
+        (at / f"{name}.antt").unlink(missing_ok=True)
+    at.mkdir(parents=True, exist_ok=True)
+    module = ".".join(["Rattle", crate, "proofs", *parts])
+    (at / "Proof.antt").write_text(f"use {module}.Statement.{{statement}}\n\npub {parts[-1]}_spec : {{M : Type 1}} → statement M\n{parts[-1]}_spec = ?\n")
+    return f"{module}.Proof.{parts[-1]}_spec"
+
+
 class Room:
     """A copy of a crate in which edits are written, and checked over the kept libraries."""
 
@@ -178,15 +190,7 @@ class Room:
 
     def assume(self, functions):
         """Gives these functions a proof that is a hole, so that what calls them is checked over their contracts alone."""
-        for path in functions:
-            parts = path.split("::")
-            at = self.folder / "proofs" / "/".join(parts)
-            for name in ("Answers", "Invariants", "Proof"):
-                (at / f"{name}.antt").unlink(missing_ok=True)
-            at.mkdir(parents=True, exist_ok=True)
-            module = ".".join(["Rattle", self.crate, "proofs", *parts])
-            (at / "Proof.antt").write_text(f"use {module}.Statement.{{statement}}\n\npub {parts[-1]}_spec : {{M : Type 1}} → statement M\n{parts[-1]}_spec = ?\n")
-            self.assumed.add(f"{module}.Proof.{parts[-1]}_spec")
+        self.assumed |= {write_hole(self.folder, self.crate, path) for path in functions}
 
     def write(self, texts):
         """Writes these texts, and the crate's own everywhere else in src, specs and proofs of lemmas."""

@@ -96,3 +96,13 @@ class Tries(unittest.TestCase):
         self.assertEqual(whole.kind, "not tried")
         try_edits.judge(whole, NAMED, "small", assumed)
         self.assertEqual((whole.kind, whole.why), ("refused by names", "goals: returns"))
+
+    def test_a_function_that_is_taken_by_its_contract(self):
+        own = self.folder / "proofs" / "edits" / "sum"
+        own.mkdir(parents=True)
+        (own / "Answers.antt").write_text("")
+        name = try_edits.write_hole(self.folder, "small", "edits::sum")
+        self.assertEqual(name, "Rattle.small.proofs.edits.sum.Proof.sum_spec")
+        self.assertEqual([it.name for it in own.iterdir()], ["Proof.antt"])
+        self.assertTrue(try_edits.passes(f"depends on a hole in `{name}`", {name}))
+        self.assertFalse(try_edits.passes(f"depends on a hole in `{name}`", set()))
