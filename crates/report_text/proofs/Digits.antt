@@ -1,6 +1,6 @@
 -- Numbers by their digits.
 
-use Rattle.std.proofs.Common.{◌≡◌, ℕ, suc, ◌+◌, ◌<◌, ◌≤◌, ◌^◌, ◌/◌, ◌%◌, List, [], ◌∷◌, ◌++◌, sym, ap, ◌∙◌, arith}
+use Rattle.std.proofs.Common.{◌≡◌, ℕ, suc, ◌+◌, ◌<◌, ◌≤◌, ◌^◌, ◌/◌, ◌%◌, List, [], ◌∷◌, ◌++◌, refl, sym, ap, ◌∙◌, arith}
 use Rattle.std.specs.Fmt.{decimal}
 use Rattle.std.proofs.Math.Nat.{mod-lt}
 use Rattle.std.proofs.lemmas.Fmt.{decimal_digit, decimal_step}
@@ -28,3 +28,31 @@ three_decimals n a b c xs ys zs e f g whole there =
     there ∙ ap (λ ds. ds ++ (46 ∷ (a ∷ (b ∷ (c ∷ []))))) whole
     ∙ append_assoc xs (decimal (n / 1000)) (46 ∷ (a ∷ (b ∷ (c ∷ []))))
     ∙ ap (λ ds. xs ++ (decimal (n / 1000) ++ ds)) (sym (decimals a b c (decimal (n / 100 % 10)) (decimal (n / 10 % 10)) (decimal (n % 10)) (digit_of (n / 100) a e) (digit_of (n / 10) b f) (digit_of n c g)))
+
+tens : (n : ℕ) → 10 ≤ n → n < 2 ^ 64 → (d : ℕ) → d ≡ 48 + n % 10 → decimal n ≡ decimal (n / 10) ++ (d ∷ [])
+tens n low fits d e = decimal_step n low fits ∙ ap (λ c. decimal (n / 10) ++ (c ∷ [])) (sym e)
+
+thousands : (w a b c : ℕ) → 1000 ≤ w → w < 2 ^ 64 → a ≡ 48 + w / 10 / 10 % 10 → b ≡ 48 + w / 10 % 10 → c ≡ 48 + w % 10
+    → decimal w ≡ decimal (w / 10 / 10 / 10) ++ (a ∷ (b ∷ (c ∷ [])))
+thousands w a b c low fits e f g =
+    tens w (omega arith) fits c g
+    ∙ ap (λ ds. ds ++ (c ∷ [])) (tens (w / 10) (omega arith) (omega arith) b f)
+    ∙ append_assoc (decimal (w / 10 / 10)) (b ∷ []) (c ∷ [])
+    ∙ ap (λ ds. ds ++ (b ∷ (c ∷ []))) (tens (w / 10 / 10) (omega arith) (omega arith) a e)
+    ∙ append_assoc (decimal (w / 10 / 10 / 10)) (a ∷ []) (b ∷ (c ∷ []))
+
+pub seven_bytes : (n a b c d e f : ℕ) (xs ys zs : List ℕ) → 10 ^ 6 ≤ n → n < 2 ^ 64
+    → a ≡ 48 + n / 1000 / 10 / 10 % 10 → b ≡ 48 + n / 1000 / 10 % 10 → c ≡ 48 + n / 1000 % 10
+    → d ≡ 48 + n / 100 % 10 → e ≡ 48 + n / 10 % 10 → f ≡ 48 + n % 10
+    → ys ≡ xs ++ decimal (n / 1000 / 10 / 10 / 10) → zs ≡ ys ++ (a ∷ (b ∷ (c ∷ (46 ∷ (d ∷ (e ∷ (f ∷ []))))))) → zs ≡ xs ++ thousandths_text n
+seven_bytes n a b c d e f xs ys zs low fits ha hb hc hd he hf whole there =
+    let ws = decimal (n / 1000 / 10 / 10 / 10) in
+    let tail : List ℕ = 46 ∷ (d ∷ (e ∷ (f ∷ []))) in
+    let wholes : decimal (n / 1000) ≡ ws ++ (a ∷ (b ∷ (c ∷ []))) = thousands (n / 1000) a b c (omega arith) (omega arith) ha hb hc in
+    three_decimals n d e f xs (xs ++ decimal (n / 1000)) zs hd he hf refl
+    (there
+    ∙ ap (λ ds. ds ++ (a ∷ (b ∷ (c ∷ tail)))) whole
+    ∙ append_assoc xs ws (a ∷ (b ∷ (c ∷ tail)))
+    ∙ ap (λ ds. xs ++ ds) (sym (append_assoc ws (a ∷ (b ∷ (c ∷ []))) tail))
+    ∙ ap (λ ds. xs ++ (ds ++ tail)) (sym wholes)
+    ∙ sym (append_assoc xs (decimal (n / 1000)) tail))

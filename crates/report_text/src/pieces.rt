@@ -1,6 +1,6 @@
 //! Words, numbers and times, put behind the bytes that are there.
 
-ghost use Rattle.std.specs.Prelude.{◌≡◌, ◌+◌, ◌<◌, ◌++◌, ◌∷◌, [], OnOk};
+ghost use Rattle.std.specs.Prelude.{◌≡◌, ◌+◌, ◌^◌, ◌<◌, ◌≤◌, ◌++◌, ◌∷◌, [], OnOk};
 ghost use Rattle.std.specs.Fmt.{decimal};
 ghost use Rattle.std.specs.List.{flat_map};
 ghost use Rattle.sta_units.specs.Picoseconds.{thousandths_text, ps_text};
@@ -87,7 +87,7 @@ pub(crate) fn push_count(out: &mut Vec<u8>, words: &[u8], n: u64) -> Result<(), 
 
 /// Thousandths as a number with three decimals.
 #[tactic(auto, using(crate::proofs::Digits::three_decimals))]
-fn push_thousandths(out: &mut Vec<u8>, count: u64) -> Result<(), Memory>
+fn push_few(out: &mut Vec<u8>, count: u64) -> Result<(), Memory>
     ensures { OnOk result (out.new.items ≡ out.old.items ++ thousandths_text count) }
 {
     push_digits(out, count / 1000)?;
@@ -95,6 +95,35 @@ fn push_thousandths(out: &mut Vec<u8>, count: u64) -> Result<(), Memory>
     let hundredths = digit(count / 10 % 10);
     let rest = digit(count % 10);
     push(out, &[b'.', tenths, hundredths, rest])
+}
+
+/// Thousandths as a number of four digits or more and three decimals, the last seven bytes in one piece.
+#[tactic(auto, using(crate::proofs::Digits::seven_bytes))]
+fn push_many(out: &mut Vec<u8>, count: u64) -> Result<(), Memory>
+    requires { 10 ^ 6 ≤ count }
+    ensures { OnOk result (out.new.items ≡ out.old.items ++ thousandths_text count) }
+{
+    push_digits(out, count / 1000 / 10 / 10 / 10)?;
+    let hundreds = digit(count / 1000 / 10 / 10 % 10);
+    let tens = digit(count / 1000 / 10 % 10);
+    let ones = digit(count / 1000 % 10);
+    let tenths = digit(count / 100 % 10);
+    let hundredths = digit(count / 10 % 10);
+    let rest = digit(count % 10);
+    push(
+        out,
+        &[hundreds, tens, ones, b'.', tenths, hundredths, rest],
+    )
+}
+
+/// Thousandths as a number with three decimals. Most times have four digits before the point or more.
+fn push_thousandths(out: &mut Vec<u8>, count: u64) -> Result<(), Memory>
+    ensures { OnOk result (out.new.items ≡ out.old.items ++ thousandths_text count) }
+{
+    if count < 1_000_000 {
+        return push_few(out, count);
+    }
+    push_many(out, count)
 }
 
 /// A time in picoseconds with three decimals, behind a minus where it is negative.
@@ -114,6 +143,17 @@ pub(crate) fn push_ps(out: &mut Vec<u8>, time: Fs) -> Result<(), Memory>
     ensures { OnOk result (out.new.items ≡ out.old.items ++ word (ps_text time.0)) }
 {
     push_byte(out, b' ')?;
+    push_picoseconds(out, time)
+}
+
+/// A transition and a time, each behind a blank.
+pub(crate) fn push_tran_time(out: &mut Vec<u8>, tran: Tran, time: Fs) -> Result<(), Memory>
+    ensures { OnOk result (out.new.items ≡ out.old.items ++ (word (tran_text tran) ++ word (ps_text time.0))) }
+{
+    match tran {
+        Tran::Rise => push(out, b" rise ")?,
+        Tran::Fall => push(out, b" fall ")?,
+    }
     push_picoseconds(out, time)
 }
 

@@ -8,7 +8,8 @@ ghost use Rattle.timing_defs.specs.Output.{line, word, number, time_text, kind_t
 
 use crate::drafts::push_drafted;
 use crate::pieces::{
-    push, push_count, push_end, push_kind, push_number, push_ps, push_time, push_tran, push_word,
+    push, push_count, push_end, push_kind, push_number, push_ps, push_time, push_tran,
+    push_tran_time, push_word,
 };
 use sta_units::{Fs, Memory};
 use timing_defs::{
@@ -56,8 +57,7 @@ fn push_path_node(out: &mut Vec<u8>, node: &PathNode) -> Result<(), Memory>
     ensures { OnOk result (out.new.items ≡ out.old.items ++ path_node_text node.now) }
 {
     push(out, node.pin.as_bytes())?;
-    push_tran(out, node.tran)?;
-    push_ps(out, node.time)?;
+    push_tran_time(out, node.tran, node.time)?;
     push_end(out)
 }
 
