@@ -11,7 +11,7 @@ ghost use Rattle.shell_session.specs.Serving.{IsOutputOf, AreEnded, DesignEnds, 
 
 use crate::continuing::saved_end;
 use crate::discards::{
-    discard_entries, discard_fault, discard_saved, discard_scripts, discard_transcripts,
+    discard_entries, discard_fault, discard_saved, discard_scripts, leave_transcripts,
     leave_version,
 };
 use crate::sessions::{Closed, run_sessions};
@@ -55,7 +55,7 @@ fn sessions_end(alloc: Global, closed: Closed) -> Result<End, Memory>
     let status = status(transcripts.as_slice());
     let text = output(alloc, &last, &transcripts);
     leave_version(last);
-    discard_transcripts(transcripts);
+    leave_transcripts(transcripts);
     match text {
         Ok(text) => Ok(End { status, text }),
         Err(Memory) => Err(Memory),

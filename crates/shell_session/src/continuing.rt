@@ -8,7 +8,7 @@ ghost use Rattle.shell_core.specs.Scripts.{IsScript};
 ghost use Rattle.shell_session.specs.Serving.{IsSavedOutputOf, AreSavedEnded, IsContinued, IsReplayLine, SavedEnds};
 
 use crate::answers::refused_end;
-use crate::discards::{discard_entries, discard_fault, discard_transcripts, leave_version};
+use crate::discards::{discard_entries, discard_fault, leave_transcripts, leave_version};
 use crate::sessions::{Closed, run_sessions};
 use netlist_store::Store;
 use report_text::output_saved_bytes;
@@ -61,7 +61,7 @@ fn sessions_end(alloc: Global, closed: Closed) -> Result<End, Memory>
     let status = status(transcripts.as_slice());
     let text = saved_output(alloc, &last, &transcripts);
     leave_version(last);
-    discard_transcripts(transcripts);
+    leave_transcripts(transcripts);
     match text {
         Ok(text) => Ok(End { status, text }),
         Err(Memory) => Err(Memory),

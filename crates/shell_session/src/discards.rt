@@ -1,4 +1,4 @@
-//! Values that are given up where a run ends: each is dropped at one place.
+//! Values that are given up where a run ends: each is dropped at one place, or left to the end of the process.
 
 use crate::sessions::Ended;
 use command_words::Run;
@@ -13,6 +13,11 @@ pub(crate) fn leave_version(version: Arc<Version>) {
     forget(version);
 }
 
+/// Leaves transcripts to the end of the process: they may have many names, each in a block of its own.
+pub(crate) fn leave_transcripts(transcripts: Items<Transcript>) {
+    forget(transcripts);
+}
+
 pub(crate) fn discard_board(_board: Board<Version>) {}
 
 pub(crate) fn discard_seat(_seat: Seat<Version>) {}
@@ -24,8 +29,6 @@ pub(crate) fn discard_ended(_ended: Vec<Ended>) {}
 pub(crate) fn discard_transcript(_transcript: Transcript) {}
 
 pub(crate) fn discard_told(_transcripts: Vec<Transcript>) {}
-
-pub(crate) fn discard_transcripts(_transcripts: Items<Transcript>) {}
 
 pub(crate) fn discard_entries(_entries: Items<Entry>) {}
 

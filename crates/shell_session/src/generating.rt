@@ -9,7 +9,7 @@ ghost use Rattle.eco_analysis.specs.Soundness.{IsFaultless};
 ghost use Rattle.shell_session.specs.Generating.{IsLineLeft, IsWholeLine, IsDocumentsLine, IsSummary};
 
 use crate::answers::FIRST;
-use crate::discards::{discard_fault, discard_saved, discard_scripts, discard_transcripts};
+use crate::discards::{discard_fault, discard_saved, discard_scripts, leave_transcripts};
 use crate::sessions::{Closed, run_sessions};
 use design_link::link;
 use generated_runs::{generated_documents, summary_line};
@@ -45,7 +45,7 @@ fn closed_line(alloc: Global, closed: Closed, gates: u32, edits: u32) -> Result<
     let Closed { last, transcripts } = closed;
     let text = line_of(alloc, &last, gates, edits);
     Version::discard(last);
-    discard_transcripts(transcripts);
+    leave_transcripts(transcripts);
     text
 }
 
