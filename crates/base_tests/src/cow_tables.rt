@@ -75,7 +75,7 @@ fn assert_parted(rt: &impl Abort, alloc: Global, last: usize, count: usize, long
 
 #[test]
 fn copies_part_at_the_edges_of_chunks_and_pages(rt: HostRuntime) {
-    for (last, count, longer) in [
+    for &(last, count, longer) in &[
         (0, 1, 2),
         (62, 63, 64),
         (63, 64, 65),
@@ -118,7 +118,7 @@ fn write_all<R: Threads + Sync + Abort>(
 
 #[test]
 fn threads_fill_a_table_and_write_it(rt: HostRuntime) {
-    for (count, workers) in [
+    for &(count, workers) in &[
         (0, 4),
         (255, 1),
         (4_096, 4),
@@ -143,7 +143,7 @@ fn threads_fill_a_table_and_write_it(rt: HostRuntime) {
 
 #[test]
 fn the_first_error_comes_back(rt: HostRuntime) {
-    for (count, workers) in [(10, 1), (4_096, 2), (9_000, 3)] {
+    for &(count, workers) in &[(10, 1), (4_096, 2), (9_000, 3)] {
         let len = count as usize;
         let mut table = zeros(&rt, rt.alloc(), workers, len);
         let refused = write_all(&rt, rt.alloc(), workers, &mut table, count, 7);

@@ -35,7 +35,7 @@ fn times(rt: &impl Abort, alloc: Global, count: u32) -> EdgeTimes {
 #[test]
 fn names_have_printable_bytes(rt: HostRuntime) {
     let alloc = rt.alloc();
-    for (text, wanted) in [
+    for &(text, wanted) in &[
         ("u1:Z", true),
         ("d[0]", true),
         ("n/1", true),
@@ -88,7 +88,7 @@ fn lists_keep_their_order(rt: HostRuntime) {
 
 #[test]
 fn codes_are_printed(rt: HostRuntime) {
-    for (code, text) in [
+    for &(code, text) in &[
         (Code::LibertyTooMany, "L10"),
         (Code::VerilogNoModule, "V5"),
         (Code::SdcLeftOut, "S3"),

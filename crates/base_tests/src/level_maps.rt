@@ -68,7 +68,7 @@ fn doubled(x: &u32) -> Result<u32, Memory> {
 fn map_is_the_plain_map_for_every_number_of_workers(rt: HostRuntime) {
     let alloc = rt.alloc();
     let items = [1u32, 2, 3, 4, 5];
-    for workers in [1, 2, 3, 32] {
+    for &workers in &[1, 2, 3, 32] {
         let found = map_level(&rt, alloc, workers, 0, &items, &doubled, &NoGate).expect(
             &rt, "memory",
         );

@@ -21,17 +21,16 @@ fn failing_shelf(rt: &impl Abort, alloc: Global) -> MemShelf {
 #[test]
 fn a_shelf_in_memory_answers_by_its_plan_and_its_names(rt: HostRuntime) {
     let mut shelf = failing_shelf(&rt, rt.alloc());
-    let rows = [
+    for &(name, wanted, faults) in &[
         ("a.lib", Err(Fetch::Failed), 1),
-        ("a.lib", Ok(b"library".as_slice()), 1),
+        ("a.lib", Ok("library"), 1),
         ("b.lib", Err(Fetch::Absent), 1),
         ("b.lib", Err(Fetch::Failed), 2),
-        ("s1", Ok(b"".as_slice()), 2),
-    ];
-    for (name, wanted, faults) in rows {
+        ("s1", Ok(""), 2),
+    ] {
         let fetched = shelf.fetch(rt.alloc(), name);
         match (&fetched, wanted) {
-            (Ok(doc), Ok(bytes)) => assert_eq!(rt; doc.as_slice(), bytes, "at {name}"),
+            (Ok(doc), Ok(text)) => assert_eq!(rt; doc.as_slice(), text.as_bytes(), "at {name}"),
             (Err(fault), Err(cause)) => assert_eq!(rt; *fault, cause, "at {name}"),
             _ => assert!(rt; false, "at {name}: {fetched:?}"),
         }

@@ -34,13 +34,12 @@ impl Print for Narrow {
 
 #[test]
 fn a_piece_is_put_whole_or_a_fault_is_counted(rt: HostRuntime) {
-    let rows = [
+    for &(takes, piece, wanted, faults) in &[
         (Some(3), "journal", Ok(()), 0),
         (Some(0), "journal", Err(PutFault::Failed), 1),
         (Some(0), "", Ok(()), 0),
         (None, "journal", Err(PutFault::Failed), 1),
-    ];
-    for (takes, piece, wanted, faults) in rows {
+    ] {
         let output = Narrow { takes };
         let mut sink = StdSink::new(&output);
         assert_eq!(rt; sink.put(piece.as_bytes()), wanted, "{takes:?} at a time");
