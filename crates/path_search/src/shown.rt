@@ -266,7 +266,14 @@ fn nodes_of<A: Rows + Delayed>(
         rest.len().saturating_add(1),
     )?;
     let nodes = search.nodes.as_slice();
-    add_node(alloc, sources.store, nodes, first, counted.time.0, &mut path)?;
+    add_node(
+        alloc,
+        sources.store,
+        nodes,
+        first,
+        counted.time.0,
+        &mut path,
+    )?;
     add_rest(
         alloc,
         sources.store,

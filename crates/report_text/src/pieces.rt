@@ -110,10 +110,7 @@ fn push_many(out: &mut Vec<u8>, count: u64) -> Result<(), Memory>
     let tenths = digit(count / 100 % 10);
     let hundredths = digit(count / 10 % 10);
     let rest = digit(count % 10);
-    push(
-        out,
-        &[hundreds, tens, ones, b'.', tenths, hundredths, rest],
-    )
+    push(out, &[hundreds, tens, ones, b'.', tenths, hundredths, rest])
 }
 
 /// Thousandths as a number with three decimals. Most times have four digits before the point or more.
