@@ -9,5 +9,5 @@ least_of_two-requires-clause-other g c = c.in_ok-fall.ensures.bounded
 
 pub returns : goal.returns
 returns g c =
-    both_found _ _ _ _ _ _ _ c.args.ends.rise c.args.ends.fall c.in_ok-rise.rise c.in_ok-fall.fall c.in_ok-rise.ensures.net c.in_ok-fall.ensures.net c.laws.ensures.numbered
+    both_found _ _ _ _ _ _ c.args.ends.rise c.args.ends.fall c.in_ok-rise.rise c.in_ok-fall.fall c.in_ok-rise.ensures.net c.in_ok-fall.ensures.net c.laws.ensures.numbered
     c.laws.ensures.linked c.laws-2.ensures c.least_of_two.result c.least_of_two.ensures

@@ -1,6 +1,7 @@
-use Rattle.std.proofs.Common.{◌≡◌, ◌<◌, List, length, Option, sym, ap, subst, ◌∙◌}
+use Rattle.std.proofs.Common.{◌≡◌, ◌<◌, ◌==◌, true≢false, List, length, Option, sym, ap, subst, ◌∙◌}
 use Rattle.std.specs.Prelude.{All, IfSome}
 use Rattle.timing_defs.specs.Tests.{data_split}
+use Rattle.worst_walks.specs.declared.cones.WalkArc.{WalkArc}
 use Rattle.path_search.specs.declared.ends.EndTest.{EndTest}
 use Rattle.path_search.specs.declared.launches.LaunchNode.{LaunchNode}
 use Rattle.path_search.specs.NodeNets.{arcs_there, offer_told, FanValue}
@@ -10,10 +11,10 @@ use Rattle.path_search.proofs.NodeForms.{offer_none, offer_passed, offer_some}
 use Rattle.path_search.proofs.OfferForms.{launch_placed, tests_ready, tests_placed}
 use Rattle.path_search.proofs.node_fans.NodeFanFan.offer.Goals as goal
 
-pub returns-else-is_empty : goal.returns-else-is_empty
-returns-else-is_empty g c =
+pub returns-then-not-is_empty : goal.returns-then-not-is_empty
+returns-then-not-is_empty g c =
     offer_passed _ _ _ _ _ _ _ _ _ c.self.invariant c.laws.ensures.numbered c.laws.ensures.linked c.laws-2.ensures c.args.node c.args.arcs.now
-    (c.requires.arcs ∙ ap (λ (v : FanValue). arcs_there v.0 v.1 c.args.node) (sym c.self.view_is)) (λ none. true≢false (c.is_empty.ensures.1 none ∙ c.if-is_empty.false))
+    (c.requires.arcs ∙ ap (λ (v : FanValue). arcs_there v.0 v.1 c.args.node) (sym c.self.view_is)) (λ none. true≢false (sym (ap (λ (xs : List WalkArc). length xs == 0) none) ∙ sym c.is_empty.ensures ∙ c.if-not-is_empty.true))
     ∙ ap (λ (v : FanValue). offer_told v.0 v.1 v.2 v.3 c.args.node) c.self.view_is
 
 pub launch_node-requires-clause-range : goal.launch_node-requires-clause-range
