@@ -1,6 +1,6 @@
 //! Texts of libraries, and texts with faults.
 
-use crate::showing::{parts_of, show, show_number};
+use crate::showing::{assert_fault, assert_text, parts_of, show, show_number};
 use liberty_cells::{read_library, units};
 use std::alloc::{AllocError, Global};
 use std::process::Abort;
@@ -74,7 +74,7 @@ fn fault_of(alloc: Global, text: &str) -> Option<(&'static str, u64)> {
 fn tells_the_least_fault(rt: HostRuntime) {
     for row in FAULTY.lines() {
         let (code, at, text) = parts_of(&rt, row);
-        assert_eq!(rt; fault_of(rt.alloc(), text), Some((code, at)), "{text}");
+        assert_fault(&rt, fault_of(rt.alloc(), text), code, at, text);
     }
 }
 
@@ -207,7 +207,7 @@ fn shown(rt: &impl Abort, alloc: Global, library: &Library) -> Vec<u8> {
 
 #[test]
 fn reads_libraries(rt: HostRuntime) {
-    for (text, want) in [
+    for &(text, want) in &[
         (
             "library (a) { time_unit : \"1ps\"; capacitive_load_unit (1, ff);
  cell (INV) { pin (A) { direction : input; capacitance : 2; }
@@ -433,13 +433,13 @@ C",
     ] {
         let library = read_library(rt.alloc(), text.as_bytes()).expect(&rt, "a library");
         let found = shown(&rt, rt.alloc(), &library);
-        assert_eq!(rt; found.as_slice(), want.as_bytes());
+        assert_text(&rt, found.as_slice(), want);
     }
 }
 
 #[test]
 fn reads_units(rt: HostRuntime) {
-    for (text, time, cap) in [
+    for &(text, time, cap) in &[
         ("library (A) { capacitive_load_unit (1, ff); }", 6, 3),
         (
             "library (A) { time_unit : \"1ps\"; capacitive_load_unit (0.001, pF); }",

@@ -1,6 +1,6 @@
 //! Texts of constraints, and texts with faults.
 
-use crate::showing::{parts_of, show, show_number};
+use crate::showing::{assert_fault, assert_text, parts_of, show, show_number};
 use sdc_reader::read_constraints;
 use sta_units::Unit;
 use std::alloc::Global;
@@ -129,7 +129,7 @@ fn fault_of(alloc: Global, text: &str) -> Option<(&'static str, u64)> {
 fn tells_the_least_fault(rt: HostRuntime) {
     for row in FAULTY.lines() {
         let (code, at, text) = parts_of(&rt, row);
-        assert_eq!(rt; fault_of(rt.alloc(), text), Some((code, at)), "{text}");
+        assert_fault(&rt, fault_of(rt.alloc(), text), code, at, text);
     }
 }
 
@@ -287,7 +287,7 @@ fn shown(rt: &impl Abort, alloc: Global, constraints: &Constraints) -> Vec<u8> {
 
 #[test]
 fn reads_constraints(rt: HostRuntime) {
-    for (time, cap, text, want) in [
+    for &(time, cap, text, want) in &[
         (3, 3, "", "derates 1000000 1000000 1000000 1000000"),
         (
             3,
@@ -351,6 +351,6 @@ set_multicycle_path 1000 -setup -end -from [get_pins i:p]",
             "constraints",
         );
         let found = shown(&rt, rt.alloc(), &constraints);
-        assert_eq!(rt; found.as_slice(), want.as_bytes(), "{text}");
+        assert_text(&rt, found.as_slice(), want);
     }
 }

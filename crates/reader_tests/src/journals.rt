@@ -47,7 +47,7 @@ fn check_fault<T>(rt: &impl Abort, found: &Result<T, ReadFault>, want: (Code, u6
 #[test]
 fn refuses_journals(rt: HostRuntime) {
     use Code::{JournalBadLine, JournalBadNumber, JournalVersion};
-    for (text, want) in [
+    for &(text, want) in &[
         ("", (JournalBadLine, 0)),
         ("jurnal 1 0", (JournalBadLine, 0)),
         ("journal 3 0", (JournalVersion, 8)),
@@ -93,7 +93,7 @@ fn refuses_journals(rt: HostRuntime) {
 #[test]
 fn refuses_edits(rt: HostRuntime) {
     use Code::{JournalBadLine, JournalBadNumber};
-    for (text, want) in [
+    for &(text, want) in &[
         ("", (JournalBadLine, 0)),
         ("insert_net a\n\n", (JournalBadLine, 13)),
         ("insert_net", (JournalBadLine, 0)),
@@ -154,25 +154,25 @@ fn reads_back_entries(rt: HostRuntime) {
     assert_eq!(rt; first.map(|entries| entries.len()), Ok(1));
 }
 
+/// Asserts how many entries a saved journal has.
+fn check_saved(rt: &impl Abort, alloc: Global, text: &str, count: usize) {
+    let entries = read_saved(alloc, text.as_bytes(), &UNSCALED);
+    assert_eq!(rt; entries.map(|entries| entries.len()), Ok(count), "{text}");
+}
+
 #[test]
 fn reads_saved_journals(rt: HostRuntime) {
+    check_saved(&rt, rt.alloc(), "", 0);
+    check_saved(&rt, rt.alloc(), FIRST, 1);
+    check_saved(&rt, rt.alloc(), "journal 1 0\njournal 1 0", 0);
     let both = format!(in rt.alloc(); "{FIRST}{SECOND}").expect(&rt, "memory");
-    for (text, count) in [
-        ("", 0),
-        (FIRST, 1),
-        ("journal 1 0\njournal 1 0", 0),
-        (both.as_str(), 2),
-    ] {
-        let entries = read_saved(rt.alloc(), text.as_bytes(), &UNSCALED);
-        assert_eq!(rt; entries.map(|entries| entries.len()), Ok(count), "{text}");
-    }
+    check_saved(&rt, rt.alloc(), both.as_str(), 2);
 }
 
 #[test]
 fn refuses_saved_journals(rt: HostRuntime) {
     use Code::{JournalBadLine, JournalBadNumber, JournalOtherDerates, JournalVersion};
-    let twice = format!(in rt.alloc(); "{FIRST}journal 1 0\n").expect(&rt, "memory");
-    for (text, derates, want) in [
+    for &(text, derates, want) in &[
         (FIRST, SCALED, (JournalOtherDerates, 0)),
         ("journal 3 0", UNSCALED, (JournalVersion, 8)),
         ("journal 3", UNSCALED, (JournalVersion, 8)),
@@ -207,11 +207,17 @@ fn refuses_saved_journals(rt: HostRuntime) {
             UNSCALED,
             (JournalBadLine, 14),
         ),
-        (twice.as_str(), UNSCALED, (JournalBadLine, 61)),
     ] {
         let found = read_saved(rt.alloc(), text.as_bytes(), &derates);
         check_fault(&rt, &found, want, text);
     }
+}
+
+#[test]
+fn refuses_to_begin_again_behind_entries(rt: HostRuntime) {
+    let twice = format!(in rt.alloc(); "{FIRST}journal 1 0\n").expect(&rt, "memory");
+    let found = read_saved(rt.alloc(), twice.as_bytes(), &UNSCALED);
+    check_fault(&rt, &found, (Code::JournalBadLine, 61), twice.as_str());
 }
 
 #[test]

@@ -8,7 +8,7 @@ use timing_defs::{Item, Lexeme, ReadFault};
 
 #[test]
 fn refuses_texts(rt: HostRuntime) {
-    for (text, code, offset) in [
+    for &(text, code, offset) in &[
         ("", LibertyBadToken, 0),
         ("foo (A) { }", LibertyBadToken, 0),
         ("library", LibertyBadToken, 7),
@@ -107,7 +107,7 @@ fn keeps_tokens_with_their_places(rt: HostRuntime) {
 
 #[test]
 fn keeps_statements_that_have_ended(rt: HostRuntime) {
-    for (text, want) in [
+    for &(text, want) in &[
         ("library (a) { x : 1; y : 2", 1),
         ("library (a) { x (1)\n", 1),
         ("library (a) { x (1)", 0),

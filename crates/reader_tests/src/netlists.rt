@@ -1,6 +1,6 @@
 //! Texts of netlists, and texts with faults.
 
-use crate::showing::{parts_of, show};
+use crate::showing::{assert_fault, assert_text, parts_of, show};
 use std::alloc::Global;
 use std::process::Abort;
 use timing_defs::{Conn, Dir, Inst, Module, Name, Port, ReadFault};
@@ -82,7 +82,7 @@ fn fault_of(alloc: Global, text: &str) -> Option<(&'static str, u64)> {
 fn tells_the_least_fault(rt: HostRuntime) {
     for row in FAULTY.lines() {
         let (code, at, text) = parts_of(&rt, row);
-        assert_eq!(rt; fault_of(rt.alloc(), text), Some((code, at)), "{text}");
+        assert_fault(&rt, fault_of(rt.alloc(), text), code, at, text);
     }
 }
 
@@ -134,7 +134,7 @@ fn shown(rt: &impl Abort, alloc: Global, module: &Module) -> Vec<u8> {
 
 #[test]
 fn reads_modules(rt: HostRuntime) {
-    for (text, want) in [
+    for &(text, want) in &[
         (
             "module top (in, out); input in; output out; wire w; INV u1 (.A(in), .Z(w)); INV u2 (.A(w), .Z(out)); endmodule",
             "top <in >out; in out w; INV u1 A=in Z=w; INV u2 A=w Z=out",
@@ -174,6 +174,6 @@ AND2 g (.A(a[002]), .B(1'b0), .Z(z), .C(), .D( b [3] ), .E(loose)); INV h (); en
     ] {
         let module = read_module(rt.alloc(), text.as_bytes()).expect(&rt, "a module");
         let found = shown(&rt, rt.alloc(), &module);
-        assert_eq!(rt; found.as_slice(), want.as_bytes(), "{text}");
+        assert_text(&rt, found.as_slice(), want);
     }
 }

@@ -1,6 +1,6 @@
 //! Texts of parasitics, and texts with faults.
 
-use crate::showing::{show, show_number};
+use crate::showing::{assert_fault, assert_text, show, show_number};
 use spef_reader::read_parasitics;
 use std::alloc::Global;
 use std::process::Abort;
@@ -112,7 +112,7 @@ fn check_faults(rt: &impl Abort, alloc: Global, header: &str, rows: &str) {
         let (before, behind) = marked.split_once('#').expect(rt, "a place");
         let text = format!(in alloc; "{header}{before}{behind}").expect(rt, "memory");
         let at = (header.len() + before.len()) as u64;
-        assert_eq!(rt; fault_of(alloc, text.as_str()), Some((code, at)), "{row}");
+        assert_fault(rt, fault_of(alloc, text.as_str()), code, at, row);
     }
 }
 
@@ -165,7 +165,7 @@ fn shown(rt: &impl Abort, alloc: Global, text: &str) -> Vec<u8> {
 
 #[test]
 fn reads_parasitics(rt: HostRuntime) {
-    for (text, want) in [
+    for &(text, want) in &[
         (
             "*SPEF \"IEEE 1481-1998\"
 *DESIGN \"top\"
@@ -222,6 +222,6 @@ fn reads_parasitics(rt: HostRuntime) {
         ),
     ] {
         let found = shown(&rt, rt.alloc(), text);
-        assert_eq!(rt; found.as_slice(), want.as_bytes(), "{text}");
+        assert_text(&rt, found.as_slice(), want);
     }
 }

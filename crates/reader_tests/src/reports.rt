@@ -1,5 +1,6 @@
 //! Rows, journals and whole outputs in their exact bytes.
 
+use crate::showing::assert_text;
 use eco_journal::read_entries;
 use report_text::{journal_bytes, output_bytes, output_saved_bytes, report_bytes};
 use sta_units::Fs;
@@ -316,7 +317,7 @@ fn refusals_have_a_code_and_a_name(rt: HostRuntime) {
         session.said(&rt, 1, 0, answer);
     }
     let bytes = rows_bytes(&rt, alloc, &session.rows);
-    assert_eq!(rt; bytes.as_slice(), NAMED.as_bytes());
+    assert_text(&rt, bytes.as_slice(), NAMED);
 }
 
 /// The pins of a cycle.
@@ -411,7 +412,7 @@ fn rows_have_their_words(rt: HostRuntime) {
     push_times(&rt, alloc, &mut session);
     push_values(&rt, alloc, &mut session);
     let bytes = rows_bytes(&rt, alloc, &session.rows);
-    assert_eq!(rt; bytes.as_slice(), ROWS.as_bytes());
+    assert_text(&rt, bytes.as_slice(), ROWS);
 }
 
 /// A path from a rise of the first clock to its next.
@@ -460,7 +461,7 @@ fn a_path_has_a_line_for_each_node(rt: HostRuntime) {
     let query = worst_path(&rt, alloc, "r2:D", Kind::Setup);
     session.told(&rt, 1, 0, query, Report::Shown(Some(credited(&rt, alloc))));
     let bytes = rows_bytes(&rt, alloc, &session.rows);
-    assert_eq!(rt; bytes.as_slice(), PATH.as_bytes());
+    assert_text(&rt, bytes.as_slice(), PATH);
 }
 
 fn ranked(rt: &impl Abort, alloc: Global) -> Query {
@@ -490,7 +491,7 @@ fn ranked_paths_have_a_block_each(rt: HostRuntime) {
     let none = Report::Paths(Items::new(alloc));
     session.told(&rt, 2, 0, ranked(&rt, alloc), none);
     let bytes = rows_bytes(&rt, alloc, &session.rows);
-    assert_eq!(rt; bytes.as_slice(), RANKED.as_bytes());
+    assert_text(&rt, bytes.as_slice(), RANKED);
 }
 
 fn add_trial(
@@ -540,7 +541,7 @@ fn trials_and_advice_have_their_words(rt: HostRuntime) {
     session.told(&rt, 2, 0, advise(alloc), Report::Advised(Some(advice)));
     session.told(&rt, 3, 0, advise(alloc), Report::Advised(None));
     let bytes = rows_bytes(&rt, alloc, &session.rows);
-    assert_eq!(rt; bytes.as_slice(), DRAFTED.as_bytes());
+    assert_text(&rt, bytes.as_slice(), DRAFTED);
 }
 
 fn contest(rt: &impl Abort, alloc: Global) -> Session {
@@ -589,7 +590,7 @@ fn an_output_has_its_rows_and_totals(rt: HostRuntime) {
         &totals,
     )
     .expect(&rt, "memory");
-    assert_eq!(rt; bytes.as_slice(), CONTEST.as_bytes());
+    assert_text(&rt, bytes.as_slice(), CONTEST);
 }
 
 #[test]
@@ -597,7 +598,7 @@ fn a_journal_is_read_and_written(rt: HostRuntime) {
     let alloc = rt.alloc();
     let entries = read_entries(alloc, RESIZED.as_bytes()).expect(&rt, "entries");
     let bytes = journal_bytes(alloc, &entries).expect(&rt, "memory");
-    assert_eq!(rt; bytes.as_slice(), RESIZED.as_bytes());
+    assert_text(&rt, bytes.as_slice(), RESIZED);
 }
 
 /// Endpoints by their least slack.
@@ -655,7 +656,7 @@ fn sessions_are_numbered(rt: HostRuntime) {
     let bytes = output_bytes(alloc, &entries, &transcripts, &clocks(&rt, alloc), &totals).expect(
         &rt, "memory",
     );
-    assert_eq!(rt; bytes.as_slice(), SESSIONS.as_bytes());
+    assert_text(&rt, bytes.as_slice(), SESSIONS);
 }
 
 /// A resize behind a saved one.
@@ -695,5 +696,5 @@ fn an_output_goes_on_from_a_saved_journal(rt: HostRuntime) {
         &totals,
     )
     .expect(&rt, "memory");
-    assert_eq!(rt; bytes.as_slice(), SAVED.as_bytes());
+    assert_text(&rt, bytes.as_slice(), SAVED);
 }

@@ -76,7 +76,7 @@ fn check_count(rt: &impl Abort, found: Result<Script, ReadFault>, count: usize, 
 
 #[test]
 fn reads_commands(rt: HostRuntime) {
-    for (text, count) in [
+    for &(text, count) in &[
         ("", 0),
         ("\n \t\n#\n # take\n", 0),
         ("take", 1),
@@ -130,7 +130,7 @@ fn reads_questions_and_groups(rt: HostRuntime) {
 #[test]
 fn refuses_scripts(rt: HostRuntime) {
     use Code::ScriptBadCommand;
-    for (text, line) in [
+    for &(text, line) in &[
         ("tack", 1),
         ("take now", 1),
         ("\ntake\r\n", 2),
@@ -345,12 +345,14 @@ fn repeated(rt: &impl Abort, alloc: Global, line: &str, count: usize) -> String 
     text
 }
 
-/// Asserts the fault of a text of three pieces, or that it has none.
-fn check_place(rt: &impl Abort, alloc: Global, pieces: [&str; 3], want: Option<(Code, u64)>) {
-    let [one, two, three] = pieces;
-    let text = format!(in alloc; "{one}{two}{three}").expect(rt, "memory");
-    let found = read_script(alloc, text.as_bytes());
-    assert_eq!(rt; place_of(&found), want);
+/// Asserts the fault of each text, or that it has none. A long piece stands at the text's star.
+fn check_places(rt: &impl Abort, alloc: Global, long: &str, rows: &[(&str, Option<(Code, u64)>)]) {
+    for &(row, want) in rows {
+        let (before, behind) = row.split_once('*').expect(rt, "a place");
+        let text = format!(in alloc; "{before}{long}{behind}").expect(rt, "memory");
+        let found = read_script(alloc, text.as_bytes());
+        assert_eq!(rt; place_of(&found), want, "{row}");
+    }
 }
 
 #[test]
@@ -364,109 +366,128 @@ fn limits_commands(rt: HostRuntime) {
         10_000,
         "10,000 commands",
     );
-    let group = "begin_eco\ninsert_net a\n";
-    let draft = "begin_what_if\ndrop_last\n";
-    for (pieces, want) in [
-        ([takes, "take\n", ""], (ScriptTooLong, 10_001)),
-        ([takes, "tack\n", ""], (ScriptBadCommand, 10_001)),
-        ([takes, group, "commit_eco\n"], (ScriptTooLong, 10_001)),
-        ([takes, group, ""], (ScriptBadCommand, 10_001)),
-        ([takes, draft, "end_what_if\n"], (ScriptTooLong, 10_001)),
-    ] {
-        check_place(&rt, rt.alloc(), pieces, Some(want));
-    }
+    check_places(
+        &rt,
+        rt.alloc(),
+        takes,
+        &[
+            ("*take\n", Some((ScriptTooLong, 10_001))),
+            ("*tack\n", Some((ScriptBadCommand, 10_001))),
+            (
+                "*begin_eco\ninsert_net a\ncommit_eco\n",
+                Some((ScriptTooLong, 10_001)),
+            ),
+            (
+                "*begin_eco\ninsert_net a\n",
+                Some((ScriptBadCommand, 10_001)),
+            ),
+            (
+                "*begin_what_if\ndrop_last\nend_what_if\n",
+                Some((ScriptTooLong, 10_001)),
+            ),
+        ],
+    );
 }
 
 #[test]
-fn limits_edits_and_lines(rt: HostRuntime) {
+fn limits_edits(rt: HostRuntime) {
     use Code::{ScriptBadCommand, ScriptTooLong};
-    let begin = "begin_eco\n";
-    let edit_lines = repeated(&rt, rt.alloc(), "insert_net a\n", 1_000);
-    let edits = edit_lines.as_str();
-    let spaces = repeated(&rt, rt.alloc(), " ", 65_532);
-    let blanks = spaces.as_str();
-    for (pieces, want) in [
-        ([begin, edits, "commit_eco"], None),
-        (
-            [begin, edits, "insert_net a\ncommit_eco"],
-            Some((ScriptTooLong, 1_002)),
-        ),
-        (
-            [begin, edits, "insert_net a\n"],
-            Some((ScriptBadCommand, 1)),
-        ),
-        ([blanks, "take\n", ""], None),
-        (["take\n", blanks, " take\n"], Some((ScriptTooLong, 2))),
-        ([blanks, " tack\n", ""], Some((ScriptBadCommand, 1))),
-        ([blanks, " #abc\n", ""], Some((ScriptTooLong, 1))),
-        ([begin, blanks, " take\n"], Some((ScriptBadCommand, 2))),
-    ] {
-        check_place(&rt, rt.alloc(), pieces, want);
-    }
+    let edits = repeated(&rt, rt.alloc(), "insert_net a\n", 1_000);
+    check_places(
+        &rt,
+        rt.alloc(),
+        edits.as_str(),
+        &[
+            ("begin_eco\n*commit_eco", None),
+            (
+                "begin_eco\n*insert_net a\ncommit_eco",
+                Some((ScriptTooLong, 1_002)),
+            ),
+            ("begin_eco\n*insert_net a\n", Some((ScriptBadCommand, 1))),
+            ("begin_what_if\nbegin_eco\n*commit_eco\nend_what_if", None),
+            (
+                "begin_what_if\nbegin_eco\n*insert_net a\ncommit_eco\nend_what_if",
+                Some((ScriptTooLong, 1_003)),
+            ),
+        ],
+    );
 }
 
 #[test]
-fn limits_drafts_and_candidates(rt: HostRuntime) {
+fn limits_lines(rt: HostRuntime) {
     use Code::{ScriptBadCommand, ScriptTooLong};
-    let begin = "begin_what_if\n";
-    let hundred = repeated(&rt, rt.alloc(), "drop_last\n", 100);
-    let items = hundred.as_str();
-    let pairs = repeated(&rt, rt.alloc(), " g BUF", 100);
-    let candidates = pairs.as_str();
-    for (pieces, want) in [
-        ([begin, items, "end_what_if"], None),
-        (
-            [begin, items, "report_wns setup\nend_what_if"],
-            Some((ScriptTooLong, 102)),
-        ),
-        (
-            [
-                begin,
-                items,
-                "begin_eco\ninsert_net a\ncommit_eco\nend_what_if",
-            ],
-            Some((ScriptTooLong, 102)),
-        ),
-        ([begin, items, "drop_last\n"], Some((ScriptBadCommand, 1))),
-        (["advise setup", candidates, ""], None),
-        (
-            ["advise setup", candidates, " g BUF"],
-            Some((ScriptBadCommand, 1)),
-        ),
-        (
-            ["advise setup", candidates, " g"],
-            Some((ScriptBadCommand, 1)),
-        ),
-    ] {
-        check_place(&rt, rt.alloc(), pieces, want);
-    }
+    let blanks = repeated(&rt, rt.alloc(), " ", 65_532);
+    check_places(
+        &rt,
+        rt.alloc(),
+        blanks.as_str(),
+        &[
+            ("*take\n", None),
+            ("take\n* take\n", Some((ScriptTooLong, 2))),
+            ("* tack\n", Some((ScriptBadCommand, 1))),
+            ("* #abc\n", Some((ScriptTooLong, 1))),
+            ("begin_eco\n* take\n", Some((ScriptBadCommand, 2))),
+        ],
+    );
 }
 
 #[test]
-fn limits_groups_and_lines_of_drafts(rt: HostRuntime) {
+fn limits_lines_of_drafts(rt: HostRuntime) {
     use Code::{ScriptBadCommand, ScriptTooLong};
-    let draft = "begin_what_if\n";
-    let group = "begin_what_if\nbegin_eco\n";
-    let edit_lines = repeated(&rt, rt.alloc(), "insert_net a\n", 1_000);
-    let edits = edit_lines.as_str();
-    let spaces = repeated(&rt, rt.alloc(), " ", 65_527);
-    let blanks = spaces.as_str();
-    for (pieces, want) in [
-        ([group, edits, "commit_eco\nend_what_if"], None),
-        (
-            [group, edits, "insert_net a\ncommit_eco\nend_what_if"],
-            Some((ScriptTooLong, 1_003)),
-        ),
-        ([draft, blanks, "drop_last\nend_what_if"], None),
-        (
-            [draft, blanks, " drop_last\nend_what_if"],
-            Some((ScriptTooLong, 2)),
-        ),
-        (
-            [draft, blanks, "      take\nend_what_if"],
-            Some((ScriptBadCommand, 2)),
-        ),
-    ] {
-        check_place(&rt, rt.alloc(), pieces, want);
-    }
+    let blanks = repeated(&rt, rt.alloc(), " ", 65_527);
+    check_places(
+        &rt,
+        rt.alloc(),
+        blanks.as_str(),
+        &[
+            ("begin_what_if\n*drop_last\nend_what_if", None),
+            (
+                "begin_what_if\n* drop_last\nend_what_if",
+                Some((ScriptTooLong, 2)),
+            ),
+            (
+                "begin_what_if\n*      take\nend_what_if",
+                Some((ScriptBadCommand, 2)),
+            ),
+        ],
+    );
+}
+
+#[test]
+fn limits_drafts(rt: HostRuntime) {
+    use Code::{ScriptBadCommand, ScriptTooLong};
+    let items = repeated(&rt, rt.alloc(), "drop_last\n", 100);
+    check_places(
+        &rt,
+        rt.alloc(),
+        items.as_str(),
+        &[
+            ("begin_what_if\n*end_what_if", None),
+            (
+                "begin_what_if\n*report_wns setup\nend_what_if",
+                Some((ScriptTooLong, 102)),
+            ),
+            (
+                "begin_what_if\n*begin_eco\ninsert_net a\ncommit_eco\nend_what_if",
+                Some((ScriptTooLong, 102)),
+            ),
+            ("begin_what_if\n*drop_last\n", Some((ScriptBadCommand, 1))),
+        ],
+    );
+}
+
+#[test]
+fn limits_candidates(rt: HostRuntime) {
+    use Code::ScriptBadCommand;
+    let candidates = repeated(&rt, rt.alloc(), " g BUF", 100);
+    check_places(
+        &rt,
+        rt.alloc(),
+        candidates.as_str(),
+        &[
+            ("advise setup*", None),
+            ("advise setup* g BUF", Some((ScriptBadCommand, 1))),
+            ("advise setup* g", Some((ScriptBadCommand, 1))),
+        ],
+    );
 }

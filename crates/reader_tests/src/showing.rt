@@ -27,3 +27,19 @@ pub(crate) fn parts_of<'a>(rt: &impl Abort, row: &'a str) -> (&'a str, u64, &'a 
     let (place, text) = rest.split_once(' ').expect(rt, "a text");
     (code, place.parse::<u64>().expect(rt, "a number"), text)
 }
+
+/// Asserts the bytes of a text.
+pub(crate) fn assert_text(rt: &impl Abort, found: &[u8], want: &str) {
+    assert_eq!(rt; found, want.as_bytes(), "{want}");
+}
+
+/// Asserts the code and the place of a text's fault.
+pub(crate) fn assert_fault(
+    rt: &impl Abort,
+    found: Option<(&str, u64)>,
+    code: &str,
+    at: u64,
+    text: &str,
+) {
+    assert_eq!(rt; found, Some((code, at)), "{text}");
+}

@@ -5,7 +5,182 @@ use std::process::Abort;
 use timing_defs::Sort::{Bad, LineEnd, Mark, Quoted, Word};
 use timing_defs::{Code, ReadFault, Sort, Style};
 
-fn check_tokens(rt: &impl Abort, style: Style, text: &str, want: &[(Sort, usize, usize)]) {
+/// The sort and the place of a token.
+type Cut = (Sort, usize, usize);
+
+/// Texts of Liberty, and the sort and the place of each of their tokens.
+const LIBERTY: &[(&str, &[Cut])] = &[
+    ("", &[]),
+    (
+        "a:b;",
+        &[(Word, 0, 1), (Mark, 1, 2), (Word, 2, 3), (Mark, 3, 4)],
+    ),
+    (
+        "a\r\n\t\"b\n\\\"c",
+        &[(Word, 0, 1), (LineEnd, 2, 3), (Quoted, 4, 9), (Word, 9, 10)],
+    ),
+    (
+        "a\\\nb\\\r\nc\\ d",
+        &[(Word, 0, 1), (Word, 3, 4), (Word, 7, 9), (Word, 10, 11)],
+    ),
+    ("a/*\n*/b\\/*c/d", &[(Word, 0, 1), (Word, 6, 13)]),
+    ("a/**", &[(Word, 0, 1), (Bad, 1, 4)]),
+    ("/*/ */x", &[(Word, 6, 7)]),
+    ("a\"b", &[(Word, 0, 1), (Bad, 1, 3)]),
+    (
+        "a\u{1}b\u{7f}",
+        &[(Word, 0, 1), (Bad, 1, 2), (Word, 2, 3), (Bad, 3, 4)],
+    ),
+    (
+        "{}(),",
+        &[
+            (Mark, 0, 1),
+            (Mark, 1, 2),
+            (Mark, 2, 3),
+            (Mark, 3, 4),
+            (Mark, 4, 5),
+        ],
+    ),
+    ("-1.5e+3\\", &[(Word, 0, 8)]),
+];
+
+/// The same of Verilog.
+const VERILOG: &[(&str, &[Cut])] = &[
+    ("`t x\na`b", &[(Word, 5, 6), (Mark, 6, 7), (Word, 7, 8)]),
+    (" `t", &[(Mark, 1, 2), (Word, 2, 3)]),
+    ("a//b\n/*c*/d", &[(Word, 0, 1), (Word, 10, 11)]),
+    ("(* x *)(*)*)q", &[(Word, 12, 13)]),
+    (
+        "\\n/1 \\a//b\tc",
+        &[(Word, 0, 4), (Word, 5, 10), (Word, 11, 12)],
+    ),
+    ("\\ a", &[(Mark, 0, 1), (Word, 2, 3)]),
+    (
+        "1'b0,a$1[12]",
+        &[
+            (Word, 0, 4),
+            (Mark, 4, 5),
+            (Word, 5, 8),
+            (Mark, 8, 9),
+            (Word, 9, 11),
+            (Mark, 11, 12),
+        ],
+    ),
+    (
+        "a'$\"",
+        &[(Word, 0, 1), (Mark, 1, 2), (Mark, 2, 3), (Mark, 3, 4)],
+    ),
+    ("a /*", &[(Word, 0, 1), (Bad, 2, 4)]),
+    ("a\u{c}b", &[(Word, 0, 1), (Bad, 1, 2), (Word, 2, 3)]),
+];
+
+/// The same of Tcl.
+const TCL: &[(&str, &[Cut])] = &[
+    (
+        "# c\\\n d\na;#e",
+        &[(LineEnd, 7, 8), (Word, 8, 9), (Mark, 9, 10)],
+    ),
+    ("a #b\r\n", &[(Word, 0, 1), (Word, 2, 4), (LineEnd, 4, 6)]),
+    (
+        "a\rb\\\nc\\\r\nd",
+        &[
+            (Word, 0, 1),
+            (Bad, 1, 2),
+            (Word, 2, 3),
+            (Word, 5, 6),
+            (Word, 9, 10),
+        ],
+    ),
+    (
+        "[get_ports d[0]]",
+        &[(Mark, 0, 1), (Word, 1, 10), (Word, 11, 15), (Mark, 15, 16)],
+    ),
+    (
+        "[g {d[0] e}] f",
+        &[
+            (Mark, 0, 1),
+            (Word, 1, 2),
+            (Mark, 3, 4),
+            (Word, 4, 8),
+            (Word, 9, 10),
+            (Mark, 10, 11),
+            (Mark, 11, 12),
+            (Word, 13, 14),
+        ],
+    ),
+    (
+        "d[0] a}b {]{ [c}",
+        &[
+            (Word, 0, 4),
+            (Word, 5, 8),
+            (Mark, 9, 10),
+            (Mark, 10, 11),
+            (Mark, 11, 12),
+            (Word, 13, 15),
+            (Mark, 15, 16),
+        ],
+    ),
+    (
+        "{a;#b\n]",
+        &[
+            (Mark, 0, 1),
+            (Word, 1, 2),
+            (Mark, 2, 3),
+            (LineEnd, 5, 6),
+            (Mark, 6, 7),
+        ],
+    ),
+    (
+        "[a\n# [\nb",
+        &[
+            (Mark, 0, 1),
+            (Word, 1, 2),
+            (LineEnd, 2, 3),
+            (LineEnd, 6, 7),
+            (Word, 7, 8),
+        ],
+    ),
+    (
+        "[}[ a",
+        &[(Mark, 0, 1), (Mark, 1, 2), (Mark, 2, 3), (Word, 4, 5)],
+    ),
+    ("\"a b\"", &[(Word, 0, 2), (Word, 3, 5)]),
+];
+
+/// The same of SPEF.
+const SPEF: &[(&str, &[Cut])] = &[
+    ("*SPEF \"IEEE 1481\"", &[(Word, 0, 5), (Quoted, 6, 17)]),
+    (
+        "*1 n\\/1\n*2//x\na/*b*/c\\//d\\/*e",
+        &[
+            (Word, 0, 2),
+            (Word, 3, 7),
+            (Word, 8, 10),
+            (Word, 14, 15),
+            (Word, 20, 29),
+        ],
+    ),
+    (
+        "[ ] a\"b \"c",
+        &[(Word, 0, 1), (Word, 2, 3), (Word, 4, 7), (Bad, 8, 10)],
+    ),
+    ("a\u{0}/*", &[(Word, 0, 1), (Bad, 1, 2), (Bad, 2, 4)]),
+];
+
+/// The same of scripts.
+const SCRIPT: &[(&str, &[Cut])] = &[(
+    "take\n \t#a b\r\n",
+    &[
+        (Word, 0, 4),
+        (LineEnd, 4, 5),
+        (Word, 7, 9),
+        (Word, 10, 11),
+        (Bad, 11, 12),
+        (LineEnd, 12, 13),
+    ],
+)];
+
+fn check_tokens(rt: &impl Abort, style: Style, text: &str, want: &[Cut]) {
     let bytes = text.as_bytes();
     let mut cursor = Cursor::new(bytes, style);
     for (sort, start, end) in want {
@@ -20,212 +195,31 @@ fn check_tokens(rt: &impl Abort, style: Style, text: &str, want: &[(Sort, usize,
 
 #[test]
 fn cuts_liberty(rt: HostRuntime) {
-    for (text, want) in [
-        ("", [].as_slice()),
-        (
-            "a:b;",
-            [(Word, 0, 1), (Mark, 1, 2), (Word, 2, 3), (Mark, 3, 4)].as_slice(),
-        ),
-        (
-            "a\r\n\t\"b\n\\\"c",
-            [(Word, 0, 1), (LineEnd, 2, 3), (Quoted, 4, 9), (Word, 9, 10)].as_slice(),
-        ),
-        (
-            "a\\\nb\\\r\nc\\ d",
-            [(Word, 0, 1), (Word, 3, 4), (Word, 7, 9), (Word, 10, 11)].as_slice(),
-        ),
-        ("a/*\n*/b\\/*c/d", [(Word, 0, 1), (Word, 6, 13)].as_slice()),
-        ("a/**", [(Word, 0, 1), (Bad, 1, 4)].as_slice()),
-        ("/*/ */x", [(Word, 6, 7)].as_slice()),
-        ("a\"b", [(Word, 0, 1), (Bad, 1, 3)].as_slice()),
-        (
-            "a\u{1}b\u{7f}",
-            [(Word, 0, 1), (Bad, 1, 2), (Word, 2, 3), (Bad, 3, 4)].as_slice(),
-        ),
-        (
-            "{}(),",
-            [
-                (Mark, 0, 1),
-                (Mark, 1, 2),
-                (Mark, 2, 3),
-                (Mark, 3, 4),
-                (Mark, 4, 5),
-            ]
-            .as_slice(),
-        ),
-        ("-1.5e+3\\", [(Word, 0, 8)].as_slice()),
-    ] {
+    for &(text, want) in LIBERTY {
         check_tokens(&rt, Style::Liberty, text, want);
     }
 }
 
 #[test]
 fn cuts_verilog(rt: HostRuntime) {
-    for (text, want) in [
-        (
-            "`t x\na`b",
-            [(Word, 5, 6), (Mark, 6, 7), (Word, 7, 8)].as_slice(),
-        ),
-        (" `t", [(Mark, 1, 2), (Word, 2, 3)].as_slice()),
-        ("a//b\n/*c*/d", [(Word, 0, 1), (Word, 10, 11)].as_slice()),
-        ("(* x *)(*)*)q", [(Word, 12, 13)].as_slice()),
-        (
-            "\\n/1 \\a//b\tc",
-            [(Word, 0, 4), (Word, 5, 10), (Word, 11, 12)].as_slice(),
-        ),
-        ("\\ a", [(Mark, 0, 1), (Word, 2, 3)].as_slice()),
-        (
-            "1'b0,a$1[12]",
-            [
-                (Word, 0, 4),
-                (Mark, 4, 5),
-                (Word, 5, 8),
-                (Mark, 8, 9),
-                (Word, 9, 11),
-                (Mark, 11, 12),
-            ]
-            .as_slice(),
-        ),
-        (
-            "a'$\"",
-            [(Word, 0, 1), (Mark, 1, 2), (Mark, 2, 3), (Mark, 3, 4)].as_slice(),
-        ),
-        ("a /*", [(Word, 0, 1), (Bad, 2, 4)].as_slice()),
-        (
-            "a\u{c}b",
-            [(Word, 0, 1), (Bad, 1, 2), (Word, 2, 3)].as_slice(),
-        ),
-    ] {
+    for &(text, want) in VERILOG {
         check_tokens(&rt, Style::Verilog, text, want);
     }
 }
 
 #[test]
 fn cuts_tcl(rt: HostRuntime) {
-    for (text, want) in [
-        (
-            "# c\\\n d\na;#e",
-            [(LineEnd, 7, 8), (Word, 8, 9), (Mark, 9, 10)].as_slice(),
-        ),
-        (
-            "a #b\r\n",
-            [(Word, 0, 1), (Word, 2, 4), (LineEnd, 4, 6)].as_slice(),
-        ),
-        (
-            "a\rb\\\nc\\\r\nd",
-            [
-                (Word, 0, 1),
-                (Bad, 1, 2),
-                (Word, 2, 3),
-                (Word, 5, 6),
-                (Word, 9, 10),
-            ]
-            .as_slice(),
-        ),
-        (
-            "[get_ports d[0]]",
-            [(Mark, 0, 1), (Word, 1, 10), (Word, 11, 15), (Mark, 15, 16)].as_slice(),
-        ),
-        (
-            "[g {d[0] e}] f",
-            [
-                (Mark, 0, 1),
-                (Word, 1, 2),
-                (Mark, 3, 4),
-                (Word, 4, 8),
-                (Word, 9, 10),
-                (Mark, 10, 11),
-                (Mark, 11, 12),
-                (Word, 13, 14),
-            ]
-            .as_slice(),
-        ),
-        (
-            "d[0] a}b {]{ [c}",
-            [
-                (Word, 0, 4),
-                (Word, 5, 8),
-                (Mark, 9, 10),
-                (Mark, 10, 11),
-                (Mark, 11, 12),
-                (Word, 13, 15),
-                (Mark, 15, 16),
-            ]
-            .as_slice(),
-        ),
-        (
-            "{a;#b\n]",
-            [
-                (Mark, 0, 1),
-                (Word, 1, 2),
-                (Mark, 2, 3),
-                (LineEnd, 5, 6),
-                (Mark, 6, 7),
-            ]
-            .as_slice(),
-        ),
-        (
-            "[a\n# [\nb",
-            [
-                (Mark, 0, 1),
-                (Word, 1, 2),
-                (LineEnd, 2, 3),
-                (LineEnd, 6, 7),
-                (Word, 7, 8),
-            ]
-            .as_slice(),
-        ),
-        (
-            "[}[ a",
-            [(Mark, 0, 1), (Mark, 1, 2), (Mark, 2, 3), (Word, 4, 5)].as_slice(),
-        ),
-        ("\"a b\"", [(Word, 0, 2), (Word, 3, 5)].as_slice()),
-    ] {
+    for &(text, want) in TCL {
         check_tokens(&rt, Style::Tcl, text, want);
     }
 }
 
 #[test]
 fn cuts_spef_and_scripts(rt: HostRuntime) {
-    for (text, want) in [
-        (
-            "*SPEF \"IEEE 1481\"",
-            [(Word, 0, 5), (Quoted, 6, 17)].as_slice(),
-        ),
-        (
-            "*1 n\\/1\n*2//x\na/*b*/c\\//d\\/*e",
-            [
-                (Word, 0, 2),
-                (Word, 3, 7),
-                (Word, 8, 10),
-                (Word, 14, 15),
-                (Word, 20, 29),
-            ]
-            .as_slice(),
-        ),
-        (
-            "[ ] a\"b \"c",
-            [(Word, 0, 1), (Word, 2, 3), (Word, 4, 7), (Bad, 8, 10)].as_slice(),
-        ),
-        (
-            "a\u{0}/*",
-            [(Word, 0, 1), (Bad, 1, 2), (Bad, 2, 4)].as_slice(),
-        ),
-    ] {
+    for &(text, want) in SPEF {
         check_tokens(&rt, Style::Spef, text, want);
     }
-    for (text, want) in [(
-        "take\n \t#a b\r\n",
-        [
-            (Word, 0, 4),
-            (LineEnd, 4, 5),
-            (Word, 7, 9),
-            (Word, 10, 11),
-            (Bad, 11, 12),
-            (LineEnd, 12, 13),
-        ]
-        .as_slice(),
-    )] {
+    for &(text, want) in SCRIPT {
         check_tokens(&rt, Style::Script, text, want);
     }
 }
@@ -233,7 +227,7 @@ fn cuts_spef_and_scripts(rt: HostRuntime) {
 #[test]
 fn tells_unclosed_tokens(rt: HostRuntime) {
     tokens_in_order();
-    for (style, text, want) in [
+    for &(style, text, want) in &[
         (Style::Liberty, "\"", true),
         (Style::Liberty, "/*", true),
         (Style::Liberty, "\u{1}", false),
@@ -273,7 +267,7 @@ fn keeps_names_and_numbers(rt: HostRuntime) {
 #[test]
 fn chooses_the_least_fault(rt: HostRuntime) {
     let mut best = None;
-    for (code, at, want) in [
+    for &(code, at, want) in &[
         (Code::LibertyBadUnit, 9, Code::LibertyBadUnit),
         (Code::LibertyTooMany, 7, Code::LibertyTooMany),
         (Code::LibertyIndexNotRising, 7, Code::LibertyIndexNotRising),
