@@ -1,13 +1,14 @@
 #!/usr/bin/env python3
 """Tries the wrong bodies of crates on the functions that they change, over what this machine has proved before: try_edits.py CRATE..
 
-    tools/try_edits.py [--only WORD].. [--most N] [--callees] [--proved] [--names FILE] [--log FOLDER] CRATE..
+    tools/try_edits.py [--only WORD].. [--most N] [--seconds N] [--callees] [--proved] [--names FILE] [--log FOLDER] CRATE..
 
 Each edit of bench/must-fail/CRATE and crates/CRATE/must-fail makes a body wrong, and the check has to refuse it. `rt must-fail` and bench/must_fail.sh prove a
 crate for that; this checks the changed functions alone, over the libraries that `rt ci` kept (as check_over_kept.py does). The functions of the crate
-that they call are taken by their contracts, which is all that a proof sees of them (--callees proves them too); with a log of `rt ci` (--names) also those
-that no source writes. Edits of different functions are tried
-in one check, at most N (40).
+that they call are taken by their contracts, which is all that a proof sees of them, and have no body there (--callees proves them too); with a log of `rt ci`
+(--names) also those that no source writes are taken so. Edits of different functions are tried
+in one check, at most N (40). Each half minute a line says how far a check is, and how much of a processor it had (on a busy machine
+that is what it waits for). --seconds ends a check that had so many seconds of a processor; its edits are then tried in two halves, down to one.
 
 First the unchanged functions are checked in the same way: where one does not pass, nothing is said of its edits. --proved leaves that out, for a crate
 that `rt ci` has proved of these very sources. Then a line for each edit says
@@ -15,7 +16,7 @@ that `rt ci` has proved of these very sources. Then a line for each edit says
   refused by names   the proof only names what the edit took away: that says little of the contract
   PASSES             the function meets its contract with this body: check the whole crate (bench/must_fail.sh), as a law of a type may refuse it elsewhere
   does not compile   it never came to the prover
-  not tried          with the reason: it does not apply, changes no function, or the prover gave up
+  not tried          with the reason: it does not apply, changes no function, or the prover gave up or was ended
 An edit of a constant is tried on the functions that name it. --only takes edits whose file's name contains WORD. What the checks said is kept in FOLDER (out/try_edits). The status is 0 where all are refused.
 Nothing that this says counts as proved: that is for `rt ci`."""
 import argparse
@@ -126,6 +127,35 @@ def symbol_at(text, file, at, homes):
     return None
 
 
+def body_of(text, head):
+    """Where the text within the braces of a function's body begins and ends; none where it has no body."""
+    room, at = head["room"], head.start()
+    for row in text[at:].splitlines(keepends=True):
+        line, at = row.rstrip("\n"), at + len(row)
+        opens = line.lstrip().startswith((")", ">", "fn ", "pub ", "pub(", "const ", "unsafe ", "where "))
+        if opens and line.endswith(" {}"):
+            return at - 2, at - 2
+        if line == f"{room}{{" or opens and line.endswith(" {"):
+            closes = re.compile(rf"^{room}\}}", re.M).search(text, at)
+            return (at, closes.start()) if closes else None
+        if line.endswith(";") or line == f"{room}}}":
+            return None
+    return None
+
+
+def without_bodies(text, file, homes, kept):
+    """A text in which the functions have a body that gives nothing, but for those kept; what stands for them is their contract."""
+    parts, at = [], 0
+    for head in HEAD.finditer(text):
+        body = body_of(text, head)
+        if not body or body[0] < at or "const fn" in head[0] or "-> impl" in text[head.start() : body[0]]:
+            continue
+        if symbol_at(text, file, body[0], homes) not in kept:
+            parts += [text[at : body[0]].rstrip("\n"), f"\n{head['room']}    unreachable!()\n"]
+            at = body[1]
+    return "".join([*parts, text[at:]])
+
+
 def symbols_at(folder, pattern):
     """The paths of the functions around each place of a crate's sources where a pattern is."""
     found, homes = [], homes_of(folder)
@@ -171,8 +201,8 @@ def write_hole(folder, crate, path):
 class Room:
     """A copy of a crate in which edits are written, and checked over the kept libraries."""
 
-    def __init__(self, crate, folder, log):
-        self.crate, self.folder, self.log, self.count, self.assumed = crate, folder, log, 0, set()
+    def __init__(self, crate, folder, log, seconds=0):
+        self.crate, self.folder, self.log, self.seconds, self.count, self.assumed, self.texts = crate, folder, log, seconds, 0, set(), {}
         self.own = TOP / "crates" / crate
         for part in PARTS:
             if (self.own / part).is_dir():
@@ -188,28 +218,73 @@ class Room:
         memory.mkdir(parents=True, exist_ok=True)
         self.words = [str(kit / "bin" / "rattle"), *words, "--incremental", str(memory)]
 
-    def assume(self, functions):
-        """Gives these functions a proof that is a hole, so that what calls them is checked over their contracts alone."""
-        self.assumed |= {write_hole(self.folder, self.crate, path) for path in functions}
+    def assume(self, asked, functions):
+        """Gives these functions but those that are asked for a proof that is a hole and no body of their own, so that what calls them is
+        checked over their contracts alone."""
+        self.assumed, homes, kept = set(), homes_of(self.own), [it for it in functions_of(self.own) if it in asked or it not in functions]
+        for path in functions:
+            parts = path.split("::")
+            at = self.folder / "proofs" / "/".join(parts)
+            for name in ("Answers", "Invariants", "Proof"):
+                own = self.own / at.relative_to(self.folder) / f"{name}.antt"
+                (at / own.name).unlink(missing_ok=True)
+                if path in asked and own.is_file():
+                    shutil.copyfile(own, at / own.name)
+            if path not in asked:
+                self.assumed.add(write_hole(self.folder, self.crate, path))
+        for source in sorted((self.own / "src").rglob("*.rt")):
+            file = str(source.relative_to(self.own))
+            self.texts[file] = without_bodies(source.read_text(), file, homes, kept) if functions else source.read_text()
+            (self.folder / file).write_text(self.texts[file])
 
     def write(self, texts):
-        """Writes these texts, and the crate's own everywhere else in src, specs and proofs of lemmas."""
-        for file in getattr(self, "changed", ()):
-            shutil.copyfile(self.own / file, self.folder / file)
-        self.changed = list(texts)
+        """Writes these texts over the crate's."""
         for file, text in texts.items():
             (self.folder / file).write_text(text)
 
     def check(self, functions, label):
-        """What a check of these functions prints."""
+        """What a check of these functions prints; none where it had as many seconds of a processor as it may have."""
         asked = [it for path in functions for it in ("--only", path)]
-        began = time.monotonic()
+        began = told = time.monotonic()
         self.count += 1
         log = self.log / f"{self.crate}-{self.count}-{label}.txt"
+        say = lambda words: print(f"{self.crate}: {label}: {len(functions)} functions: {words}", file=sys.stderr, flush=True)
         with open(log, "w", encoding="utf-8") as out:
-            ran = subprocess.run([*self.words, *asked, "--allow-holes"], cwd=self.folder, stdin=subprocess.DEVNULL, stdout=out, stderr=subprocess.STDOUT, check=False)
-        print(f"{self.crate}: {label}: {len(functions)} functions in {time.monotonic() - began:.0f} s, status {ran.returncode}", file=sys.stderr, flush=True)
+            words = [*self.words, *asked, "--allow-holes", "--progress", "--stage-times", str(log.with_suffix(".stages"))]
+            ran = subprocess.Popen(words, cwd=self.folder, stdin=subprocess.DEVNULL, stdout=out, stderr=subprocess.STDOUT)
+        had = 0.0
+        try:
+            while ran.poll() is None:
+                time.sleep(0.2)
+                had = max(had, processor_seconds(ran.pid))
+                ended = bool(self.seconds) and had > self.seconds
+                if ended or time.monotonic() - told > 30:
+                    told = time.monotonic()
+                    say(f"{progress_of(log)}; {told - began:.0f} s, {had:.0f} s of a processor" + (", ended" if ended else ""))
+                if ended:
+                    return None
+        finally:
+            # Also where this is interrupted: nothing that was started goes on.
+            if ran.poll() is None:
+                ran.kill()
+                ran.wait()
+        say(f"{time.monotonic() - began:.0f} s, {had:.0f} s of a processor, status {ran.returncode}")
         return log.read_text(encoding="utf-8", errors="replace")
+
+
+def processor_seconds(pid):
+    """The seconds of a processor that a process had, with those of its children that ended; none where it's gone."""
+    try:
+        fields = pathlib.Path(f"/proc/{pid}/stat").read_text().rpartition(")")[2].split()
+    except OSError:
+        return 0.0
+    return sum(map(int, fields[11:15])) / os.sysconf("SC_CLK_TCK")
+
+
+def progress_of(log):
+    """How far a check is, by its last line on that."""
+    found = re.findall(r"^checked (\S+), (\d+) of (\d+)$", log.read_text(encoding="utf-8", errors="replace"), re.M)
+    return f"{found[-1][1]} of {found[-1][2]} proofs, the last {found[-1][0]}" if found else "no proof is done"
 
 
 def line_of(said, crate, path):
@@ -265,7 +340,7 @@ def merged(room, edits):
         for line in edit.path.read_text().splitlines():
             if line.startswith("file: "):
                 file = line[6:].strip()
-                texts.setdefault(file, (room.own / file).read_text())
+                texts.setdefault(file, room.texts.get(file) or (room.own / file).read_text())
             elif line.startswith("old: "):
                 old = line[5:]
             elif line.startswith("new:"):
@@ -273,22 +348,26 @@ def merged(room, edits):
     return texts
 
 
-def try_round(room, edits, label):
+def try_round(room, edits, label, assumable):
     """Tries edits of different functions in one check; those that do not compile are taken out, and it is made again."""
     while edits:
+        room.assume([path for it in edits for path in it.functions], assumable)
         texts = merged(room, edits)
         room.write(texts)
         said = room.check([path for it in edits for path in it.functions], label)
-        if re.search(r"^only=", said, re.M):
+        if said is None and len(edits) == 1:
+            edits[0].kind, edits[0].why = "not tried", f"the check was ended after {room.seconds:.0f} s of a processor"
+            return
+        if said and re.search(r"^only=", said, re.M):
             for edit in edits:
                 judge(edit, said, room.crate, room.assumed)
             return
         homes = homes_of(room.own)
-        wrong = [it for it in edits if is_at_fault(it, said, texts, homes)] or (edits if len(edits) == 1 else [])
+        wrong = [it for it in edits if said and is_at_fault(it, said, texts, homes)] or (edits if len(edits) == 1 else [])
         if not wrong:
             half = len(edits) // 2
-            try_round(room, edits[:half], label + "a")
-            try_round(room, edits[half:], label + "b")
+            try_round(room, edits[:half], label + "a", assumable)
+            try_round(room, edits[half:], label + "b", assumable)
             return
         for edit in wrong:
             told = [it for it in said.splitlines() if "error" in it]
@@ -313,25 +392,33 @@ def edits_of(crate, words):
     return [Edit(it, folder) for it in files if not words or any(word in it.stem for word in words)]
 
 
-def try_crate(crate, words, most, callees, proved, names, log):
+def try_crate(crate, words, most, seconds, callees, proved, names, log):
     edits = edits_of(crate, words)
     ready = [it for it in edits if not it.kind]
     with tempfile.TemporaryDirectory(prefix="try-edits-") as folder:
-        room = Room(crate, pathlib.Path(folder), log)
+        room = Room(crate, pathlib.Path(folder), log, seconds)
         if room.sources:
             print(f"{crate}: taken as sources, since they are not kept: {' '.join(room.sources)}", file=sys.stderr)
         asked = list(dict.fromkeys(path for it in ready for path in it.functions))
-        if not callees:
-            found = functions_of(room.own) + made_functions(crate, names)
-            room.assume([it for it in found if it not in asked + in_cycles(room.own)])
-        said = room.check(asked, "unchanged") if asked and not proved else ""
+        found = [] if callees else functions_of(room.own) + made_functions(crate, names)
+        assumable = [it for it in found if it not in in_cycles(room.own)]
+        room.assume(asked, assumable)
+        said = room.check(asked, "unchanged") or "" if asked and not proved else ""
         for edit in [] if proved else ready:
             lost = [it for it in edit.functions if not passes(line_of(said, crate, it), room.assumed)]
             if lost:
                 edit.kind, edit.why = "not tried", f"the unchanged function does not pass this check: {lost[0]}"
+        tell(crate, [it for it in edits if it.kind])
         for number, some in enumerate(rounds([it for it in ready if not it.kind], most), 1):
-            try_round(room, some, f"round{number}")
+            try_round(room, some, f"round{number}", assumable)
+            tell(crate, some)
     return edits
+
+
+def tell(crate, edits):
+    """Prints what was found of these edits."""
+    for edit in edits:
+        print(f"{edit.kind:<17} {crate}/{edit.name}  [{', '.join(edit.functions)}]  {edit.why}".rstrip(), flush=True)
 
 
 def main():
@@ -339,6 +426,7 @@ def main():
     parser.add_argument("crates", nargs="+", metavar="CRATE")
     parser.add_argument("--only", action="append", default=[], metavar="WORD")
     parser.add_argument("--most", type=int, default=40, metavar="N")
+    parser.add_argument("--seconds", type=float, default=0, metavar="N")
     parser.add_argument("--callees", action="store_true")
     parser.add_argument("--proved", action="store_true")
     parser.add_argument("--names", type=pathlib.Path, metavar="FILE")
@@ -350,10 +438,8 @@ def main():
         parser.error(f"{unknown[0]} is no crate")
     status = 0
     for crate in given.crates:
-        edits = try_crate(crate, given.only, given.most, given.callees, given.proved, given.names, given.log)
-        for edit in edits:
-            print(f"{edit.kind:<17} {crate}/{edit.name}  [{', '.join(edit.functions)}]  {edit.why}".rstrip(), flush=True)
-            status |= edit.kind != "refused"
+        edits = try_crate(crate, given.only, given.most, given.seconds, given.callees, given.proved, given.names, given.log)
+        status |= any(it.kind != "refused" for it in edits)
         count = lambda kind: sum(it.kind == kind for it in edits)
         kinds = "refused", "refused by names", "PASSES", "does not compile", "not tried"
         print(f"edits of {crate}: {len(edits)}: " + ", ".join(f"{count(it)} {it}" for it in kinds if count(it)), flush=True)

@@ -81,6 +81,21 @@ class Tries(unittest.TestCase):
         self.assertEqual(try_edits.functions_of(self.folder), ["stores::Store::first", "edits::sum", "stores::StoreFromMemory::from"])
         self.assertEqual(try_edits.in_cycles(self.folder), ["edits::sum"])
 
+    def test_functions_that_are_taken_by_their_contracts_have_no_body(self):
+        homes = try_edits.homes_of(self.folder)
+        text = try_edits.without_bodies(EDITS, "src/edits.rt", homes, {"edits::sum"})
+        self.assertEqual(text, EDITS.replace("self.rows.first()", "unreachable!()"))
+        short = "pub fn discard(self) {}\n\nfn two(\n    a: u8,\n) -> u8 {\n    a\n}\n\nfn three() -> u8;\n"
+        bare = "pub fn discard(self) {\n    unreachable!()\n}\n\nfn two(\n    a: u8,\n) -> u8 {\n    unreachable!()\n}\n\nfn three() -> u8;\n"
+        self.assertEqual(try_edits.without_bodies(short, "src/edits.rt", homes, set()), bare)
+
+    def test_how_far_a_check_is(self):
+        log = self.folder / "log.txt"
+        log.write_text("checked small::edits::sum, 1 of 3\n")
+        self.assertEqual(try_edits.progress_of(log), "1 of 3 proofs, the last small::edits::sum")
+        log.write_text("")
+        self.assertEqual(try_edits.progress_of(log), "no proof is done")
+
     def test_no_two_edits_of_one_function_are_tried_together(self):
         first, again, other = self.edit("self.rows.first()", "None"), self.edit("self.rows.first()", "Some(0)"), self.edit("[] => MOST - 3", "[] => 1")
         self.assertEqual(list(try_edits.rounds([first, again, other], 9)), [[first, other], [again]])
