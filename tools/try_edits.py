@@ -24,6 +24,7 @@ import os
 import pathlib
 import re
 import shutil
+import signal
 import subprocess
 import sys
 import tempfile
@@ -363,7 +364,13 @@ def try_round(room, edits, label, assumable):
                 judge(edit, said, room.crate, room.assumed)
             return
         homes = homes_of(room.own)
-        wrong = [it for it in edits if said and is_at_fault(it, said, texts, homes)] or (edits if len(edits) == 1 else [])
+        wrong = [it for it in edits if said and is_at_fault(it, said, texts, homes)]
+        broken = re.search(r"^rattle: .*$", said or "", re.M)
+        if not wrong and broken:
+            for edit in edits:
+                edit.kind, edit.why = "not tried", broken[0][:200]
+            return
+        wrong = wrong or (edits if len(edits) == 1 else [])
         if not wrong:
             half = len(edits) // 2
             try_round(room, edits[:half], label + "a", assumable)
@@ -401,7 +408,8 @@ def try_crate(crate, words, most, seconds, callees, proved, names, log):
             print(f"{crate}: taken as sources, since they are not kept: {' '.join(room.sources)}", file=sys.stderr)
         asked = list(dict.fromkeys(path for it in ready for path in it.functions))
         found = [] if callees else functions_of(room.own) + made_functions(crate, names)
-        assumable = [it for it in found if it not in in_cycles(room.own)]
+        cycles = in_cycles(room.own)
+        assumable = [it for it in found if it not in cycles]
         room.assume(asked, assumable)
         said = room.check(asked, "unchanged") or "" if asked and not proved else ""
         for edit in [] if proved else ready:
@@ -432,6 +440,10 @@ def main():
     parser.add_argument("--names", type=pathlib.Path, metavar="FILE")
     parser.add_argument("--log", type=pathlib.Path, default=TOP / "out" / "try_edits", metavar="FOLDER")
     given = parser.parse_args()
+    # So that a check that runs is ended too.
+    signal.signal(signal.SIGTERM, lambda *_: sys.exit(143))
+    # Checks run in another folder.
+    given.log = given.log.resolve()
     given.log.mkdir(parents=True, exist_ok=True)
     unknown = [it for it in given.crates if it not in over.crates()]
     if unknown:
