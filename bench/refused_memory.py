@@ -20,7 +20,7 @@ program, proved or not, gets all of its memory by malloc and realloc of the C li
 reached, also those of the C library itself; `ulimit -v` reaches what the kernel refuses (real_devices.py). One run is copied (fork) at each
 call, the copy is refused it and goes on, which takes far less time than a run from its beginning; behind the first thread, copies begin before
 that thread. F refusals of each run (20), evenly, are made in runs of their own besides. `rt try --fail-alloc` does
-not serve here: it refuses in a program that it builds itself, and ends after 2,000 runs, where the least of these makes some 13,000 calls.
+not serve here: it refuses in a program that it builds itself, and ends after 2,000 runs, where the least of these makes some 38,000 calls.
 That objects which outlive a refusal are as before cannot be seen from outside, since each refusal ends the run.
 """
 import argparse
