@@ -3,7 +3,8 @@
 
     tools/check_over_kept.py CRATE [--built CLONE] [--sources CRATE,..] [FLAG..]
 
-The crates below come as built libraries where `rt ci` kept them (the newest of each) or where they stand in the `out/` of
+The crates below come as built libraries where `rt ci` kept them (the newest of each that has these contracts and proofs, where
+there is one, as other clones' proofs are kept there too) or where they stand in the `out/` of
 the same crate of another clone (--built), and else as sources, which prove only what is called. --sources names crates that
 are taken as sources in any case. FLAGs go to `rattle check`:
 `--only FUNCTION` (a path, or its last part; again for more), `--only ''` for the front end alone, `--allow-holes` to go
@@ -42,10 +43,32 @@ def below(uses, name):
     return found
 
 
+def clauses(text):
+    """The lines of a source that are clauses of contracts."""
+    return {line.strip().removesuffix(";").rstrip(" ,{") for line in text.splitlines() if line.strip().startswith(("requires", "ensures"))}
+
+
+def is_of(folder, crate, name):
+    """Whether a kept proof has the contracts, the specs and the proofs of a crate's folder."""
+    for number, (path, _) in enumerate(json.loads((folder / "made.json").read_text())["files"]):
+        part = path.removeprefix(f"rlib/{name}.rlib/lang/")
+        if part.startswith(("antt/specs/", "antt/proofs/")) and part.count("/declared/") == 0:
+            own = crate / part.removeprefix("antt/")
+            if not own.is_file() or own.read_bytes() != (folder / str(number)).read_bytes():
+                return False
+        elif part.startswith("src/") and part.endswith(".rt"):
+            # A library's source has no bodies, so no clauses of closures.
+            if not (crate / part).is_file() or clauses((folder / str(number)).read_text()) - clauses((crate / part).read_text()):
+                return False
+    return True
+
+
 def newest_kept(name):
-    """The folder of the newest proof of a crate that `rt ci` kept; none where there is none."""
+    """The folder of the newest proof of a crate that `rt ci` kept, of these contracts and proofs where there is one; none where there is none."""
     folders = [f for f in KEPT.glob("proof-" + name + "-*") if f.name[6:].rsplit("-", 1)[0] == name and (f / "made.json").is_file()]
-    return max(folders, key=lambda f: (f / "made.json").stat().st_ctime, default=None)
+    folders.sort(key=lambda f: (f / "made.json").stat().st_ctime, reverse=True)
+    alike = (f for f in folders if len(folders) > 1 and is_of(f, ROOT / "crates" / name, name))
+    return next(alike, folders[0] if folders else None)
 
 
 def library(name, to):

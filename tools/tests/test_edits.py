@@ -1,9 +1,11 @@
 """The tool that tries wrong bodies: which function an edit changes, which edits go together, and what a check's lines mean."""
+import json
 import pathlib
 import shutil
 import tempfile
 import unittest
 
+import check_over_kept
 import try_edits
 
 STORES = """const MOST: usize = 3;
@@ -88,6 +90,22 @@ class Tries(unittest.TestCase):
         short = "pub fn discard(self) {}\n\nfn two(\n    a: u8,\n) -> u8 {\n    a\n}\n\nfn three() -> u8;\n"
         bare = "pub fn discard(self) {\n    unreachable!()\n}\n\nfn two(\n    a: u8,\n) -> u8 {\n    unreachable!()\n}\n\nfn three() -> u8;\n"
         self.assertEqual(try_edits.without_bodies(short, "src/edits.rt", homes, set()), bare)
+
+    def test_a_kept_proof_is_of_the_sources_with_its_contracts_and_proofs(self):
+        kept, lang = self.folder / "kept", "rlib/small.rlib/lang"
+        (self.folder / "specs").mkdir()
+        (self.folder / "specs" / "Rows.antt").write_text("first\n")
+        texts = {f"{lang}/src/edits.rt": "fn first ( & self )\n    requires { length self.now.rows ≤ 3 } ;\n", f"{lang}/antt/specs/Rows.antt": "first\n"}
+        kept.mkdir()
+        (kept / "made.json").write_text(json.dumps({"files": [[path, ""] for path in texts]}))
+        for number, text in enumerate(texts.values()):
+            (kept / str(number)).write_text(text)
+        self.assertTrue(check_over_kept.is_of(kept, self.folder, "small"))
+        (self.folder / "src" / "edits.rt").write_text(EDITS.replace("≤ 3", "≤ 4"))
+        self.assertFalse(check_over_kept.is_of(kept, self.folder, "small"))
+        (self.folder / "src" / "edits.rt").write_text(EDITS)
+        (self.folder / "specs" / "Rows.antt").write_text("last\n")
+        self.assertFalse(check_over_kept.is_of(kept, self.folder, "small"))
 
     def test_how_far_a_check_is(self):
         log = self.folder / "log.txt"
