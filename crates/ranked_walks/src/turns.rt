@@ -46,7 +46,7 @@ pub(crate) fn turn<O: WalkOrder>(
         given.as_slice(),
         nth(branches.as_slice(), at),
     )?;
-    let branch = branches.remove(at);
+    let branch = branches.swap_remove(at);
     split(
         alloc,
         cone,

@@ -11,9 +11,9 @@ split-requires-clause-taken g c =
     let low : c.in_ok-at.at < length c.args.branches.now.items = omega (arith, front, len) in
     turned (g.O.WalkOrder.rank c.args.order.now) (g.O.WalkOrder.before c.args.order.now) c.args.cone.now c.args.tables.now
     c.args.given.now c.as_slice.result.now c.as_slice-3.result.now c.as_slice-5.result.now
-    c.args.branches.now.items c.as_slice-2.result.now c.as_slice-4.result.now c.remove-branch.new.self.items c.in_ok-at.at c.nth.result.now c.remove-branch.result c.in_ok-walk.walk
+    c.args.branches.now.items c.as_slice-2.result.now c.as_slice-4.result.now c.swap_remove-branch.new.self.items c.in_ok-at.at c.nth.result.now c.swap_remove-branch.result c.in_ok-walk.walk
     c.requires.cone c.requires.tables c.requires.searched c.as_slice.ensures c.as_slice-3.ensures c.as_slice-5.ensures c.as_slice-2.ensures.value c.as_slice-4.ensures.value
     c.in_ok-at.ensures c.nth.ensures c.in_ok-walk.ensures
-    (same_Some c.nth.result.now c.remove-branch.result
+    (same_Some c.nth.result.now c.swap_remove-branch.result
     (sym c.nth.ensures ∙ ap (λ xs. slice_get xs c.in_ok-at.at) c.as_slice-4.ensures.value
-    ∙ slice_get-get_or c.args.branches.now.items c.in_ok-at.at c.remove-branch.result low ∙ ap Some (sym c.remove-branch.ensures.value))) c.remove-branch.ensures.items
+    ∙ slice_get-get_or c.args.branches.now.items c.in_ok-at.at c.swap_remove-branch.result low ∙ ap Some (sym c.swap_remove-branch.ensures.value))) low c.swap_remove-branch.ensures.items
