@@ -6,6 +6,8 @@ use Rattle.std.proofs.Math.Nat.{mod-lt}
 use Rattle.std.proofs.lemmas.Fmt.{decimal_digit, decimal_step}
 use Rattle.std.proofs.lemmas.List.{append_assoc}
 use Rattle.sta_units.specs.Picoseconds.{thousandths_text}
+use Rattle.timing_defs.specs.declared.kinds.Tran.TheVariants.{Rise, Fall}
+use Rattle.timing_defs.specs.Output.{tran_text, word}
 
 pub one_digit : (n d : ℕ) (xs ys : List ℕ) → n < 10 → d ≡ 48 + n → ys ≡ xs ++ (d ∷ []) → ys ≡ xs ++ decimal n
 one_digit n d xs ys low e there = there ∙ ap (λ c. xs ++ (c ∷ [])) e ∙ ap (λ ds. xs ++ ds) (sym (decimal_digit n low))
@@ -56,3 +58,34 @@ seven_bytes n a b c d e f xs ys zs low fits ha hb hc hd he hf whole there =
     ∙ ap (λ ds. xs ++ ds) (sym (append_assoc ws (a ∷ (b ∷ (c ∷ []))) tail))
     ∙ ap (λ ds. xs ++ (ds ++ tail)) (sym wholes)
     ∙ sym (append_assoc xs (decimal (n / 1000)) tail))
+
+four_digits : (w a b c d : ℕ) → 1000 ≤ w → w < 10000 → a ≡ 48 + w / 10 / 10 / 10 → b ≡ 48 + w / 10 / 10 % 10 → c ≡ 48 + w / 10 % 10 → d ≡ 48 + w % 10
+    → decimal w ≡ a ∷ (b ∷ (c ∷ (d ∷ [])))
+four_digits w a b c d low high ha hb hc hd =
+    thousands w b c d low (omega arith) hb hc hd
+    ∙ ap (λ ds. ds ++ (b ∷ (c ∷ (d ∷ [])))) (decimal_digit (w / 10 / 10 / 10) (omega arith) ∙ ap (λ x. x ∷ []) (sym ha))
+
+eight_bytes : (n a b c d e f g : ℕ) → 10 ^ 6 ≤ n → n < 10 ^ 7
+    → a ≡ 48 + n / 1000 / 10 / 10 / 10 → b ≡ 48 + n / 1000 / 10 / 10 % 10 → c ≡ 48 + n / 1000 / 10 % 10 → d ≡ 48 + n / 1000 % 10
+    → e ≡ 48 + n / 100 % 10 → f ≡ 48 + n / 10 % 10 → g ≡ 48 + n % 10
+    → a ∷ (b ∷ (c ∷ (d ∷ (46 ∷ (e ∷ (f ∷ (g ∷ []))))))) ≡ thousandths_text n
+eight_bytes n a b c d e f g low high ha hb hc hd he hf hg =
+    let tail : List ℕ = 46 ∷ (e ∷ (f ∷ (g ∷ []))) in
+    ap (λ ds. ds ++ tail) (sym (four_digits (n / 1000) a b c d (omega arith) (omega arith) ha hb hc hd))
+    ∙ three_decimals n e f g [] (decimal (n / 1000)) (decimal (n / 1000) ++ tail) he hf hg refl refl
+
+pub rise_line : (n a b c d e f g : ℕ) (xs zs : List ℕ) → 10 ^ 6 ≤ n → n < 10 ^ 7
+    → a ≡ 48 + n / 1000 / 10 / 10 / 10 → b ≡ 48 + n / 1000 / 10 / 10 % 10 → c ≡ 48 + n / 1000 / 10 % 10 → d ≡ 48 + n / 1000 % 10
+    → e ≡ 48 + n / 100 % 10 → f ≡ 48 + n / 10 % 10 → g ≡ 48 + n % 10
+    → zs ≡ xs ++ (32 ∷ (114 ∷ (105 ∷ (115 ∷ (101 ∷ (32 ∷ (a ∷ (b ∷ (c ∷ (d ∷ (46 ∷ (e ∷ (f ∷ (g ∷ (10 ∷ [])))))))))))))))
+    → zs ≡ xs ++ (word (tran_text Rise) ++ (word (thousandths_text n) ++ (10 ∷ [])))
+rise_line n a b c d e f g xs zs low high ha hb hc hd he hf hg there =
+    there ∙ ap (λ ts. xs ++ (32 ∷ (114 ∷ (105 ∷ (115 ∷ (101 ∷ (32 ∷ (ts ++ (10 ∷ []))))))))) (eight_bytes n a b c d e f g low high ha hb hc hd he hf hg)
+
+pub fall_line : (n a b c d e f g : ℕ) (xs zs : List ℕ) → 10 ^ 6 ≤ n → n < 10 ^ 7
+    → a ≡ 48 + n / 1000 / 10 / 10 / 10 → b ≡ 48 + n / 1000 / 10 / 10 % 10 → c ≡ 48 + n / 1000 / 10 % 10 → d ≡ 48 + n / 1000 % 10
+    → e ≡ 48 + n / 100 % 10 → f ≡ 48 + n / 10 % 10 → g ≡ 48 + n % 10
+    → zs ≡ xs ++ (32 ∷ (102 ∷ (97 ∷ (108 ∷ (108 ∷ (32 ∷ (a ∷ (b ∷ (c ∷ (d ∷ (46 ∷ (e ∷ (f ∷ (g ∷ (10 ∷ [])))))))))))))))
+    → zs ≡ xs ++ (word (tran_text Fall) ++ (word (thousandths_text n) ++ (10 ∷ [])))
+fall_line n a b c d e f g xs zs low high ha hb hc hd he hf hg there =
+    there ∙ ap (λ ts. xs ++ (32 ∷ (102 ∷ (97 ∷ (108 ∷ (108 ∷ (32 ∷ (ts ++ (10 ∷ []))))))))) (eight_bytes n a b c d e f g low high ha hb hc hd he hf hg)

@@ -143,15 +143,81 @@ pub(crate) fn push_ps(out: &mut Vec<u8>, time: Fs) -> Result<(), Memory>
     push_picoseconds(out, time)
 }
 
-/// A transition and a time, each behind a blank.
-pub(crate) fn push_tran_time(out: &mut Vec<u8>, tran: Tran, time: Fs) -> Result<(), Memory>
-    ensures { OnOk result (out.new.items ≡ out.old.items ++ (word (tran_text tran) ++ word (ps_text time.0))) }
+/// A rise and a time of four digits before the point, each behind a blank, and a line feed, in one piece.
+#[tactic(auto, using(crate::proofs::Digits::rise_line))]
+fn push_rise(out: &mut Vec<u8>, count: u64) -> Result<(), Memory>
+    requires low { 10 ^ 6 ≤ count }
+    requires high { count < 10 ^ 7 }
+    ensures { OnOk result (out.new.items ≡ out.old.items ++ (word (tran_text Tran.Rise) ++ (word (thousandths_text count) ++ 10 ∷ []))) }
 {
-    match tran {
-        Tran::Rise => push(out, b" rise ")?,
-        Tran::Fall => push(out, b" fall ")?,
+    let thousands = digit(count / 1000 / 10 / 10 / 10);
+    let hundreds = digit(count / 1000 / 10 / 10 % 10);
+    let tens = digit(count / 1000 / 10 % 10);
+    let ones = digit(count / 1000 % 10);
+    let tenths = digit(count / 100 % 10);
+    let hundredths = digit(count / 10 % 10);
+    let rest = digit(count % 10);
+    push(
+        out,
+        &[
+            b' ', b'r', b'i', b's', b'e', b' ', thousands, hundreds, tens, ones, b'.', tenths,
+            hundredths, rest, b'\n',
+        ],
+    )
+}
+
+/// A fall and a time of four digits before the point, each behind a blank, and a line feed, in one piece.
+#[tactic(auto, using(crate::proofs::Digits::fall_line))]
+fn push_fall(out: &mut Vec<u8>, count: u64) -> Result<(), Memory>
+    requires low { 10 ^ 6 ≤ count }
+    requires high { count < 10 ^ 7 }
+    ensures { OnOk result (out.new.items ≡ out.old.items ++ (word (tran_text Tran.Fall) ++ (word (thousandths_text count) ++ 10 ∷ []))) }
+{
+    let thousands = digit(count / 1000 / 10 / 10 / 10);
+    let hundreds = digit(count / 1000 / 10 / 10 % 10);
+    let tens = digit(count / 1000 / 10 % 10);
+    let ones = digit(count / 1000 % 10);
+    let tenths = digit(count / 100 % 10);
+    let hundredths = digit(count / 10 % 10);
+    let rest = digit(count % 10);
+    push(
+        out,
+        &[
+            b' ', b'f', b'a', b'l', b'l', b' ', thousands, hundreds, tens, ones, b'.', tenths,
+            hundredths, rest, b'\n',
+        ],
+    )
+}
+
+/// A transition and thousandths as a time, each behind a blank, and a line feed. Most times have four digits
+/// before the point.
+fn push_tail(out: &mut Vec<u8>, tran: Tran, count: u64) -> Result<(), Memory>
+    ensures { OnOk result (out.new.items ≡ out.old.items ++ (word (tran_text tran) ++ (word (thousandths_text count) ++ 10 ∷ []))) }
+{
+    if count < 1_000_000 || 10_000_000 <= count {
+        push_tran(out, tran)?;
+        push_byte(out, b' ')?;
+        push_thousandths(out, count)?;
+        return push_end(out);
     }
-    push_picoseconds(out, time)
+    match tran {
+        Tran::Rise => push_rise(out, count),
+        Tran::Fall => push_fall(out, count),
+    }
+}
+
+/// A transition and a time, each behind a blank, and a line feed.
+#[tactic(auto, unfolding(sta_units::specs::Picoseconds::ps_text))]
+pub(crate) fn push_tran_time(out: &mut Vec<u8>, tran: Tran, time: Fs) -> Result<(), Memory>
+    ensures { OnOk result (out.new.items ≡ out.old.items ++ (word (tran_text tran) ++ (word (ps_text time.0) ++ 10 ∷ []))) }
+{
+    if time.0 < 0 {
+        push_tran(out, tran)?;
+        push(out, b" -")?;
+        push_thousandths(out, time.0.unsigned_abs())?;
+        return push_end(out);
+    }
+    push_tail(out, tran, time.0.unsigned_abs())
 }
 
 /// A blank and a time, or `none`.

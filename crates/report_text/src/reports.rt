@@ -57,8 +57,7 @@ fn push_path_node(out: &mut Vec<u8>, node: &PathNode) -> Result<(), Memory>
     ensures { OnOk result (out.new.items ≡ out.old.items ++ path_node_text node.now) }
 {
     push(out, node.pin.as_bytes())?;
-    push_tran_time(out, node.tran, node.time)?;
-    push_end(out)
+    push_tran_time(out, node.tran, node.time)
 }
 
 #[tactic(auto, using(std::proofs::lemmas::List::drop_more))]
