@@ -17,3 +17,4 @@ pub mod SameRows
 pub mod KeptSlacks
 pub mod QuietNodes
 pub mod TestsKept
+pub mod QuietWalks

@@ -1,6 +1,6 @@
 -- The tests of an endpoint that an edit leaves, with the clock nodes of its tests, ask the same in both designs.
 
-use Rattle.std.proofs.Common.{◌≡◌, ℕ, zero, suc, ◌<◌, ℤ, pos, Bool, true, false, List, [], ◌∷◌, ◌++◌, map, filter, length, Option, None, Some, refl, sym, ap, subst, ◌∙◌, inl, inr, arith}
+use Rattle.std.proofs.Common.{◌≡◌, ◌⊎◌, ℕ, zero, suc, ◌<◌, ℤ, pos, Bool, true, false, List, [], ◌∷◌, ◌++◌, map, filter, length, Option, None, Some, refl, sym, ap, subst, ◌∙◌, inl, inr, arith}
 use Rattle.std.specs.Prelude.{Contains, find, nat_lt, ◌&&◌, option_map, option_and_then, if◌then◌else◌}
 use Rattle.std.specs.List.{filter_map, flat_map}
 use Rattle.std.specs.Option.{option_map_or}
@@ -25,7 +25,7 @@ use Rattle.timing_defs.specs.Wires.{first_some}
 use Rattle.timing_defs.specs.Clocking.{cell_tests, is_network, is_clock_port}
 use Rattle.timing_defs.specs.Rows.{arcs_in, row, outermost, slew_in, slew, times_in, time_on, arrival, launch_edges, is_clock_at}
 use Rattle.timing_defs.specs.Tests.{Test, data_split, clock_split, same_kind, walk_within, network_walk, edge_of_port, first_edge, is_test_of, library_tests, need_at, test_on, test_along, register_tests, output_test, port_tests, tests_at}
-use Rattle.timing_defs.specs.Paths.{Named, named, node_named}
+use Rattle.timing_defs.specs.Paths.{Named, named, node_named, is_network_named}
 use Rattle.timing_defs.proofs.RowLaws.{ArePlacedNodes, stable, first_in, later_in}
 use Rattle.timing_defs.proofs.Members.{some_is, in_map, in_cases, in_flat_map}
 use Rattle.netlist_store.specs.Linked.{IsLinked}
@@ -37,7 +37,7 @@ use Rattle.calm_laws.proofs.CellNodes.{keys, key_node, inst_keys, nodes_keyed, k
 use Rattle.calm_laws.proofs.KnownCells.{owner_within}
 use Rattle.calm_laws.proofs.ArcsKept.{arcs_kept}
 use Rattle.calm_laws.proofs.InDesign.{one_node}
-use Rattle.calm_laws.proofs.QuietNodes.{Stands, IsQuietNode, AreQuietNodes, named_in, before_in, after_in, pair_quiet, from_is, from2_is, rows_same, arrival_same}
+use Rattle.calm_laws.proofs.QuietNodes.{Stands, IsQuietNode, AreQuietNodes, told_node, named_in, before_in, after_in, pair_quiet, from_is, from2_is, rows_same, arrival_same}
 
 -- two values that may be there, and stand in a relation where they are
 abbrev pub MayBe : {X Y : Type 0} → (X → Y → Type 0) → Option X → Option Y → Type 0
@@ -79,7 +79,7 @@ walk_longer [] (y ∷ ys) n n2 h alike = absurd h
 walk_longer (x ∷ xs) [] n n2 h alike = absurd h
 walk_longer (x ∷ xs) (y ∷ ys) n n2 h alike = (h.0, walk_longer xs ys n n2 h.1 alike)
 
-abbrev longer : Node → Option (List Node) → Option (List Node)
+abbrev pub longer : Node → Option (List Node) → Option (List Node)
 longer node walk = option_map (λ w. w ++ node ∷ []) walk
 
 longer_pairs : (o p : Option (List Node)) (n n2 : Node) → MayBe AreAlikeWalks o p → AreAlike n n2 → MayBe AreAlikeWalks (longer n o) (longer n2 p)
@@ -92,7 +92,7 @@ first_agree : {X Y : Type 0} (f g : X → Option Y) (xs : List X) → ((x : X) �
 first_agree f g [] same = refl
 first_agree f g (x ∷ xs) same = λ k. option_map_or Some (same x (first_in x xs) k) (first_agree f g xs (λ y c. same y (later_in x xs y c)) k)
 
-abbrev next : Design → (Node → Option (List Node)) → Node → Option (List Node)
+abbrev pub next : Design → (Node → Option (List Node)) → Node → Option (List Node)
 next d f node = (if is_clock_port d node.pin then Some (node ∷ []) else first_some (λ from. longer node (f from)) (arcs_in d node))
 
 next_agree : (d : Design) (f g : Node → Option (List Node)) (to : Node) → ((from : Node) → Contains (arcs_in d to) from → f from ≡ g from) → next d f to ≡ next d g to
@@ -101,10 +101,21 @@ next_agree d f g to same =
     (first_agree (λ from. longer to (f from)) (λ from. longer to (g from)) (arcs_in d to) (λ from c. ap (longer to) (same from c)))
 
 module _ (d : Design) (place : Node → ℕ) (placed : ArePlacedNodes d (Stands d) place) (short : (n : Node) → Stands d n → place n < length (nodes d)) where
-  walk_is : (n : Node) → Stands d n → walk_within d (length (nodes d)) n ≡ next d (walk_within d (length (nodes d))) n
+  pub walk_is : (n : Node) → Stands d n → walk_within d (length (nodes d)) n ≡ next d (walk_within d (length (nodes d))) n
   walk_is n s =
       stable (next d) (arcs_in d) (Stands d) place (λ f g to same. next_agree d f g to same) placed.closed placed.rising (walk_within d) (λ k m. refl)
       (length (nodes d)) n s (short n s)
+
+-- a node of a clock pin is left, or is of the clock network in neither design
+abbrev pub IsLeftClock : Design → Design → (Named → Bool) → Named → Type 0
+IsLeftClock d d2 quiet n = (quiet n ≡ true) ⊎ ((is_network_named d n ≡ false) × (is_network_named d2 n ≡ false))
+
+-- no walk leads to a node off the network
+pub off_walk : (e : Design) (linked : IsLinked e) (n : Node) → Contains (pins e) n.pin → is_network_named e (named n) ≡ false → network_walk e n ≡ None
+unfolding network_walk
+off_walk e linked n c off =
+    ap (λ (b : Bool). if b then walk_within e (length (nodes e)) n else None)
+    (ap (λ o. option_map_or (λ (m : Node). is_network e m.pin) o false) (sym (told_node e linked n c)) ∙ off)
 
 module _ (d d2 : Design) (place place2 : Node → ℕ) (quiet : Named → Bool) (are : AreQuietNodes d d2 place place2 quiet)
     (short : (n : Node) → Stands d n → place n < length (nodes d)) (short2 : (n : Node) → Stands d2 n → place2 n < length (nodes d2)) where
@@ -183,23 +194,16 @@ module _ (d d2 : Design) (place place2 : Node → ℕ) (quiet : Named → Bool) 
     made_same (Some edge) None = tt
     made_same (Some edge) (Some need) = made_early edge need (arrives Early edge) (arrives Late edge)
 
-  module _ (n : Named) (q : quiet n ≡ true) (kind : Kind) (i j : Inst) (cell : j.cell ≡ i.cell)
-      (owner : (was n q).pin.owner ≡ Some i) (owner2 : (now n q).pin.owner ≡ Some j) (name : j.name ≡ i.name)
-      (clocks : (clock : Node) → Contains (flat_map both_nodes (inst_pins d i)) clock → nat_lt 0 (length (library_tests d kind i (was n q) clock)) ≡ true → quiet (named clock) ≡ true) where
-    abbrev x : Node
-    x = was n q
-
-    abbrev y : Node
-    y = now n q
-
-    alike : AreAlike x y
-    alike = (are.nodes n q).calm.kept.alike
-
+  -- a node of an endpoint in both designs: of one pin, with the slew that its tests ask for; `clocks` tells that the nodes it is tested by are left
+  module _ (x y : Node) (alike : AreAlike x y) (x_in : Stands d x) (y_in : Stands d2 y) (kind : Kind)
+      (slews : slew_in (data_split kind) (row d2 y) ≡ slew_in (data_split kind) (row d x)) (i j : Inst) (cell : j.cell ≡ i.cell)
+      (owner : x.pin.owner ≡ Some i) (owner2 : y.pin.owner ≡ Some j) (name : j.name ≡ i.name)
+      (clocks : (clock : Node) → Contains (flat_map both_nodes (inst_pins d i)) clock → nat_lt 0 (length (library_tests d kind i x clock)) ≡ true → IsLeftClock d d2 quiet (named clock)) where
     i_there : Contains d.insts i
-    i_there = owner_within d are.linked x.pin i (before_in d d2 place place2 quiet are n q) owner
+    i_there = owner_within d are.linked x.pin i x_in owner
 
     j_there : Contains d2.insts j
-    j_there = owner_within d2 are.linked2 y.pin j (after_in d d2 place place2 quiet are n q) owner2
+    j_there = owner_within d2 are.linked2 y.pin j y_in owner2
 
     module _ (key : CellPin × Tran) (c : Contains (inst_keys d i) key) where
       lib_same : library_tests d kind i x (key_node i key) ≡ library_tests d2 kind j y (key_node j key)
@@ -218,25 +222,22 @@ module _ (d d2 : Design) (place place2 : Node → ℕ) (quiet : Named → Bool) 
       clock_in =
           subst (λ (xs : List Node). Contains xs clock) (sym (nodes_keyed i (cell_pins (cell_of d Late i)))) (in_map (key_node i) (inst_keys d i) key c)
 
-      module _ (tests : nat_lt 0 (length (library_tests d kind i x clock)) ≡ true) where
-        qc : quiet (named clock) ≡ true
-        qc = clocks clock clock_in tests
+      named2 : named clock2 ≡ named clock
+      named2 = λ k. (name k ++ 58 ∷ key.0.name, key.1)
 
-        named2 : named clock2 ≡ named clock
-        named2 = λ k. (name k ++ 58 ∷ key.0.name, key.1)
+      pin_in : Contains (pins d) clock.pin
+      pin_in =
+          Contains-append_right (map port_pin d.ports) (flat_map (inst_pins d) d.insts) clock.pin
+          (in_flat_map (inst_pins d) d.insts i clock.pin i_there (in_map (cell_pin i) (cell_pins (cell_of d Late i)) key.0 (key_pin (cell_pins (cell_of d Late i)) key c)))
 
-        pin_in : Contains (pins d) clock.pin
-        pin_in =
-            Contains-append_right (map port_pin d.ports) (flat_map (inst_pins d) d.insts) clock.pin
-            (in_flat_map (inst_pins d) d.insts i clock.pin i_there (in_map (cell_pin i) (cell_pins (cell_of d Late i)) key.0 (key_pin (cell_pins (cell_of d Late i)) key c)))
+      pin2_in : Contains (pins d2) clock2.pin
+      pin2_in =
+          Contains-append_right (map port_pin d2.ports) (flat_map (inst_pins d2) d2.insts) clock2.pin
+          (in_flat_map (inst_pins d2) d2.insts j clock2.pin j_there
+          (in_map (cell_pin j) (cell_pins (cell_of d2 Late j)) key.0
+          (subst (λ (o : Option Cell). Contains (cell_pins o) key.0) (cell_same d d2 are.framed Late i j cell) (key_pin (cell_pins (cell_of d Late i)) key c))))
 
-        pin2_in : Contains (pins d2) clock2.pin
-        pin2_in =
-            Contains-append_right (map port_pin d2.ports) (flat_map (inst_pins d2) d2.insts) clock2.pin
-            (in_flat_map (inst_pins d2) d2.insts j clock2.pin j_there
-            (in_map (cell_pin j) (cell_pins (cell_of d2 Late j)) key.0
-            (subst (λ (o : Option Cell). Contains (cell_pins o) key.0) (cell_same d d2 are.framed Late i j cell) (key_pin (cell_pins (cell_of d Late i)) key c))))
-
+      module _ (qc : quiet (named clock) ≡ true) where
         was_is : was (named clock) qc ≡ clock
         was_is =
             let it = named_in d (named clock) (was (named clock) qc) (are.nodes (named clock) qc).told in
@@ -253,7 +254,7 @@ module _ (d d2 : Design) (place place2 : Node → ℕ) (quiet : Named → Bool) 
         need_same : need_at d2 kind j y clock2 ≡ need_at d kind i x clock
         need_same = λ k.
             outermost Late
-            (λ test. option_and_then (λ s. option_map (look test.need s) (slew_in (data_split kind) (sym (rows_same d d2 place place2 quiet are n q) k)))
+            (λ test. option_and_then (λ s. option_map (look test.need s) (slews k))
             (slew_in (clock_split kind) (rows_clock k)))
             None (sym lib_same k)
 
@@ -273,11 +274,20 @@ module _ (d d2 : Design) (place place2 : Node → ℕ) (quiet : Named → Bool) 
         walked_by (Some v) None m = absurd m
         walked_by (Some v) (Some w) m = along v w m
 
-        pub key_test : MayBe IsSameTest (option_and_then (test_along d kind i x clock) (network_walk d clock)) (option_and_then (test_along d2 kind j y clock2) (network_walk d2 clock2))
-        key_test =
+        quiet_test : MayBe IsSameTest (option_and_then (test_along d kind i x clock) (network_walk d clock)) (option_and_then (test_along d2 kind j y clock2) (network_walk d2 clock2))
+        quiet_test =
             walked_by (network_walk d clock) (network_walk d2 clock2)
             (subst (λ (m : Node). MayBe AreAlikeWalks (network_walk d m) (network_walk d2 clock2)) was_is
             (subst (λ (m : Node). MayBe AreAlikeWalks (network_walk d (was (named clock) qc)) (network_walk d2 m)) now_is (network_walks (named clock) qc)))
+
+      off_test : (is_network_named d (named clock) ≡ false) × (is_network_named d2 (named clock) ≡ false)
+          → MayBe IsSameTest (option_and_then (test_along d kind i x clock) (network_walk d clock)) (option_and_then (test_along d2 kind j y clock2) (network_walk d2 clock2))
+      off_test off =
+          rw (off_walk d are.linked clock pin_in off.0, off_walk d2 are.linked2 clock2 pin2_in (ap (is_network_named d2) named2 ∙ off.1)) tt
+
+      pub key_test : nat_lt 0 (length (library_tests d kind i x clock)) ≡ true
+          → MayBe IsSameTest (option_and_then (test_along d kind i x clock) (network_walk d clock)) (option_and_then (test_along d2 kind j y clock2) (network_walk d2 clock2))
+      key_test tests = elim (clocks clock clock_in tests) [ inl qc ↦ quiet_test qc | inr off ↦ off_test off ]
 
     abbrev tested : Node → Bool
     tested clock = nat_lt 0 (length (library_tests d kind i x clock))
@@ -319,44 +329,52 @@ module _ (d d2 : Design) (place place2 : Node → ℕ) (quiet : Named → Bool) 
         (keyed (inst_keys d i) (λ key c. c)))
 
   -- an output delay
-  outputs : (n : Named) (q : quiet n ≡ true) (kind : Kind) → AreSameTests (port_tests d kind (was n q)) (port_tests d2 kind (now n q))
-  outputs n q kind =
-      subst (AreSameTests (port_tests d kind (was n q)))
+  outputs : (x y : Node) → AreAlike x y → (kind : Kind) → AreSameTests (port_tests d kind x) (port_tests d2 kind y)
+  outputs x y alike kind =
+      subst (AreSameTests (port_tests d kind x))
       (λ k. map (output_test kind)
-      (filter (λ o. bytes_eq o.port (own_same (was n q) (now n q) alike k) && same_split o.split (data_split kind) && same_tran o.tran (sym alike.tran k)) (sym are.framed.constraints k).outputs))
-      (same_self_tests (port_tests d kind (was n q)))
+      (filter (λ o. bytes_eq o.port (own_same x y alike k) && same_split o.split (data_split kind) && same_tran o.tran (sym alike.tran k)) (sym are.framed.constraints k).outputs))
+      (same_self_tests (port_tests d kind x))
     where
-      alike : AreAlike (was n q) (now n q)
-      alike = (are.nodes n q).calm.kept.alike
-
       same_self_tests : (xs : List Test) → AreSameTests xs xs
       same_self_tests [] = tt
       same_self_tests (x ∷ xs) = (record { need = refl; capture = refl; early = refl; late = refl; walk = refl }, same_self_tests xs)
 
   -- the nodes of the clock pins that a node of an endpoint is tested by
-  pub record AreQuietClocks (n : Named) (q : quiet n ≡ true) (kind : Kind) : Type 0 where
-    pub clocks : (inst : Inst) → (was n q).pin.owner ≡ Some inst → (clock : Node) → Contains (flat_map both_nodes (inst_pins d inst)) clock
-        → nat_lt 0 (length (library_tests d kind inst (was n q) clock)) ≡ true → quiet (named clock) ≡ true
+  pub record AreLeftClocks (x : Node) (kind : Kind) : Type 0 where
+    pub clocks : (inst : Inst) → x.pin.owner ≡ Some inst → (clock : Node) → Contains (flat_map both_nodes (inst_pins d inst)) clock
+        → nat_lt 0 (length (library_tests d kind inst x clock)) ≡ true → IsLeftClock d d2 quiet (named clock)
 
-  pub tests_same : (n : Named) (q : quiet n ≡ true) (kind : Kind) → AreQuietClocks n q kind → AreSameTests (tests_at d kind (was n q)) (tests_at d2 kind (now n q))
+  pub tests_left : (x y : Node) → AreAlike x y → Stands d x → Stands d2 y → (kind : Kind) → slew_in (data_split kind) (row d2 y) ≡ slew_in (data_split kind) (row d x)
+      → AreLeftClocks x kind → AreSameTests (tests_at d kind x) (tests_at d2 kind y)
   unfolding tests_at
-  tests_same n q kind clocks = elim (cases_Bool (is_driver (was n q).pin)) [
-    | inl e ↦ rw (e, sym (drives_same (was n q) (now n q) alike) ∙ e) tt
-    | inr e ↦ rw (e, sym (drives_same (was n q) (now n q) alike) ∙ e) (by (was n q).pin.owner refl)
+  tests_left x y alike x_in y_in kind slews clocks = elim (cases_Bool (is_driver x.pin)) [
+    | inl e ↦ rw (e, sym (drives_same x y alike) ∙ e) tt
+    | inr e ↦ rw (e, sym (drives_same x y alike) ∙ e) (by x.pin.owner refl)
   ]
     where
-      alike : AreAlike (was n q) (now n q)
-      alike = (are.nodes n q).calm.kept.alike
+      both : (o p : Option Inst) → x.pin.owner ≡ o → y.pin.owner ≡ p → AreSameTests (option_map_or (register_tests d kind x) o (port_tests d kind x)) (option_map_or (register_tests d2 kind y) p (port_tests d2 kind y))
+          → AreSameTests (option_map_or (register_tests d kind x) x.pin.owner (port_tests d kind x)) (option_map_or (register_tests d2 kind y) y.pin.owner (port_tests d2 kind y))
+      both o p e f h =
+          subst (λ (v : Option Inst). AreSameTests (option_map_or (register_tests d kind x) v (port_tests d kind x)) (option_map_or (register_tests d2 kind y) y.pin.owner (port_tests d2 kind y))) (sym e)
+          (subst (λ (w : Option Inst). AreSameTests (option_map_or (register_tests d kind x) o (port_tests d kind x)) (option_map_or (register_tests d2 kind y) w (port_tests d2 kind y))) (sym f) h)
 
-      by : (o : Option Inst) → (was n q).pin.owner ≡ o
-          → AreSameTests (option_map_or (register_tests d kind (was n q)) (was n q).pin.owner (port_tests d kind (was n q)))
-          (option_map_or (register_tests d2 kind (now n q)) (now n q).pin.owner (port_tests d2 kind (now n q)))
+      by : (o : Option Inst) → x.pin.owner ≡ o
+          → AreSameTests (option_map_or (register_tests d kind x) x.pin.owner (port_tests d kind x)) (option_map_or (register_tests d2 kind y) y.pin.owner (port_tests d2 kind y))
       by None e =
-          let e2 = none_too (was n q).pin.owner (now n q).pin.owner (owner_same (was n q) (now n q) alike) e in
-          rw (e, e2) (outputs n q kind)
+          let e2 = none_too x.pin.owner y.pin.owner (owner_same x y alike) e in
+          both None None e e2 (outputs x y alike kind)
       by (Some i) e =
-          let t = twin_of (was n q).pin.owner (now n q).pin.owner (owner_same (was n q) (now n q) alike) i e in
-          rw (e, t.owner) (registers n q kind i t.twin t.cell e t.owner t.name (clocks.clocks i e))
+          let t = twin_of x.pin.owner y.pin.owner (owner_same x y alike) i e in
+          both (Some i) (Some t.twin) e t.owner (registers x y alike x_in y_in kind slews i t.twin t.cell e t.owner t.name (clocks.clocks i e))
+
+  abbrev pub AreQuietClocks : (n : Named) → quiet n ≡ true → Kind → Type 0
+  AreQuietClocks n q kind = AreLeftClocks (was n q) kind
+
+  pub tests_same : (n : Named) (q : quiet n ≡ true) (kind : Kind) → AreQuietClocks n q kind → AreSameTests (tests_at d kind (was n q)) (tests_at d2 kind (now n q))
+  tests_same n q kind clocks =
+      tests_left (was n q) (now n q) (are.nodes n q).calm.kept.alike (before_in d d2 place place2 quiet are n q) (after_in d d2 place place2 quiet are n q) kind
+      (λ k. slew_in (data_split kind) (sym (rows_same d d2 place place2 quiet are n q) k)) clocks
 
   -- an endpoint of such nodes
   pub quiet_end : (kind : Kind) (pin : List ℕ) (end : (tran : Tran) → quiet (pin, tran) ≡ true)

@@ -74,7 +74,7 @@ flat_more {X} f base ys ys' xs i x low here had put =
 
 module _ (s : Stored) (num : IsNumbered s) (linked : IsLinked s.design) where
   -- a pin is among those of its instance
-  own_pins_at : (pin inst : ℕ) → is_number s.pins pin ≡ true → owner_number s pin ≡ Some inst → Contains (inst_pins_at s inst) pin
+  pub own_pins_at : (pin inst : ℕ) → is_number s.pins pin ≡ true → owner_number s pin ≡ Some inst → Contains (inst_pins_at s inst) pin
   own_pins_at pin inst there owner =
       let p = pin_at_number s num linked pin there in
       by p.0 p.1 p.0.owner refl (sym (ap (λ o. option_and_then (λ (i : Inst). number_of s.insts i.name) (option_and_then (λ (x : Pin). x.owner) o)) p.1.pin) ∙ owner)

@@ -156,7 +156,7 @@ module _ (g g2 : Graphed) (touch : Touch) (made : IsEditOf g.stored touch g2.sto
           (quiet_nodes g g2 touch made num num2 is is2 seeds found all behind)
           (all_low g num (linked g g2 touch made num num2 is is2 seeds found all behind) is)
           (all_low g2 num2 (linked2 g g2 touch made num num2 is is2 seeds found all behind) is2)
-          kind (name_of one.0) own_quiet (λ tran. record { clocks = λ inst owner clock c tests. clock_quiet tran inst owner clock c })
+          kind (name_of one.0) own_quiet (λ tran. record { clocks = λ inst owner clock c tests. inl (clock_quiet tran inst owner clock c) })
 
       -- what is kept of such a pin
       pub record IsKeptPin : Type 0 where

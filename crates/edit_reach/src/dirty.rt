@@ -150,6 +150,15 @@ fn add_insts_pins(
     Ok(())
 }
 
+/// The pins of an instance; none of a gap.
+pub fn inst_pins(alloc: Global, store: &Store, inst: u32) -> Result<Items<u32>, Memory>
+    ensures { IfOk result (λ pins. pins ≡ inst_pins_at store.now inst) }
+{
+    let mut pins = Items::new(alloc);
+    add_inst_pins(alloc, store, &mut pins, inst)?;
+    Ok(pins)
+}
+
 /// The pins of the seeds of an edit, and of the nodes behind them the ports and all pins of the instances whose
 /// cells have tests, each once. Every other pin of the edited store is an endpoint in both stores or in none, with
 /// the same slacks.

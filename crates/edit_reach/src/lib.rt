@@ -8,4 +8,4 @@ mod behind;
 mod dirty;
 
 pub use behind::nodes_behind;
-pub use dirty::dirty_pins;
+pub use dirty::{dirty_pins, inst_pins};

@@ -1,0 +1,4 @@
+pub mod SamePaths
+pub mod CarriedPaths
+pub mod Shielded
+pub mod Outermost
