@@ -1,0 +1,9 @@
+pub mod Unseeded
+pub mod StepPairs
+pub mod TimesCarried
+pub mod StepLaws
+pub mod KeptTests
+pub mod KeptEnds
+pub mod Passing
+pub mod Orderings
+pub mod WalkTimes
