@@ -11,12 +11,16 @@ ghost use Rattle.worst_walks.specs.Walks.{comes_before, IsWalk};
 ghost use Rattle.path_search.specs.PinCones.{IsPinCone};
 ghost use Rattle.path_search.specs.Ranks.{place_rank, places_before};
 ghost use Rattle.path_search.specs.Sources.{AreSources};
+ghost use Rattle.path_search.specs.Tested.{AreTested};
 ghost use Rattle.path_search.specs.Trees.{IsClockTree};
 ghost use Rattle.path_ranking.specs.WalkLists.{ArePathsOf};
 
 use arc_delays::Delayed;
 use netlist_store::Store;
-use path_search::{ByName, PinCone, Sources, path_of, pin_cone, search_laws, walk_path_laws};
+use path_search::{
+    ByName, PinCone, Sources, Tested, find_tests, path_of_tested, pin_cone, search_laws,
+    walk_path_laws,
+};
 use pessimism_credit::ClockTree;
 use pin_graph::Graph;
 use ranked_walks::ranked_walks;
@@ -52,18 +56,20 @@ fn first_walks(
 fn paths_of<A: Rows + Delayed>(
     alloc: Global,
     sources: &Sources<'_, A>,
+    tests: &Tested,
     endpoint: &Name,
     search: &PinCone,
     walks: &[Walk],
 ) -> Result<Items<Path>, Memory>
     requires sources { AreSources sources.now.store.now sources.now.graph.now (A.rows sources.now.arrivals.now) (A.delays sources.now.arrivals.now) sources.now.tree.now }
+    requires tests { AreTested sources.now.graph.now sources.now.kind tests.now }
     requires search { IsPinCone sources.now.graph.now sources.now.kind endpoint.now search.now }
     requires walks { All (IsWalk search.now.cone) walks.now }
     ensures { IfOk result (ArePathsOf sources.now.graph.now sources.now.kind endpoint.now search.now walks.now) }
 {
     let mut paths = Items::with_room(alloc, walks.len())?;
     for walk in walks {
-        let path = path_of(alloc, sources, endpoint, search, walk)?;
+        let path = path_of_tested(alloc, sources, tests, endpoint, search, walk)?;
         paths.push(path)?;
     }
     Ok(paths)
@@ -74,11 +80,13 @@ fn paths_of<A: Rows + Delayed>(
 fn ranked_in<A: Rows + Delayed>(
     alloc: Global,
     sources: &Sources<'_, A>,
+    tests: &Tested,
     endpoint: &Name,
     search: &PinCone,
     count: u32,
 ) -> Result<Items<Path>, Memory>
     requires sources { AreSources sources.now.store.now sources.now.graph.now (A.rows sources.now.arrivals.now) (A.delays sources.now.arrivals.now) sources.now.tree.now }
+    requires tests { AreTested sources.now.graph.now sources.now.kind tests.now }
     requires search { IsPinCone sources.now.graph.now sources.now.kind endpoint.now search.now }
     ensures { IfOk result (AreWorstPaths sources.now.store.now.design sources.now.kind endpoint.now count) }
 {
@@ -90,7 +98,7 @@ fn ranked_in<A: Rows + Delayed>(
     } = *sources;
     walk_path_laws(store, graph, kind, endpoint, search);
     let walks = first_walks(alloc, store, graph, kind, endpoint, search, count)?;
-    paths_of(alloc, sources, endpoint, search, walks.as_slice())
+    paths_of(alloc, sources, tests, endpoint, search, walks.as_slice())
 }
 
 /// The worst paths to an endpoint for a kind of tests, at most `k`, worst first: ordered by slack (the least over a path's tests)
@@ -124,5 +132,6 @@ pub fn k_worst<A: Rows + Delayed>(
         kind,
     };
     let search = pin_cone(alloc, &sources, endpoint)?;
-    ranked_in(alloc, &sources, endpoint, &search, k)
+    let tests = find_tests(alloc, &sources, endpoint)?;
+    ranked_in(alloc, &sources, &tests, endpoint, &search, k)
 }

@@ -49,3 +49,7 @@ pub mod NodeForms
 pub mod LowLists
 pub mod WalkPaths
 pub mod WalkPlaces
+pub mod NamedArrivals
+pub mod LowParts
+pub mod LowestTests
+pub mod EndLowLaws

@@ -93,7 +93,7 @@ same_trans Fall Rise e = absurd (false≢true e)
 same_trans Fall Fall e = refl
 
 -- a time is there on launch edges alone
-edge_known : (a : ℕ × Tran → Option ℤ) (edges : List (ℕ × Tran)) (edge : ℕ × Tran) (x : ℤ)
+pub edge_known : (a : ℕ × Tran → Option ℤ) (edges : List (ℕ × Tran)) (edge : ℕ × Tran) (x : ℤ)
     → time_on (filter_map (λ e. option_map (edge_time e) (a e)) edges) edge ≡ Some x → Contains edges edge
 edge_known a edges edge x e =
     let times : List EdgeTime = filter_map (λ u. option_map (edge_time u) (a u)) edges in
@@ -109,7 +109,7 @@ edge_known a edges edge x e =
 
 -- the arrival of a node to which an arc leads
 module _ (d : Design) (t : IsTimed d) (split : Split) (edge : ℕ × Tran) (launched : Contains (launch_edges d) edge) where
-  arrival_after : (from to : Node) → Contains (pins d) to.pin → Contains (arcs_in d to) from → start_at d split to edge ≡ None
+  pub arrival_after : (from to : Node) → Contains (pins d) to.pin → Contains (arcs_in d to) from → start_at d split to edge ≡ None
       → (x v : ℤ) → arrival d split from edge ≡ Some x → delay d split from to ≡ Some v → IsReachedBy split (x +ℤ v) (arrival d split to edge)
   arrival_after from to there c none x v e f =
       subst (λ (o : Option ℤ). IsReachedBy split (x +ℤ v) o)

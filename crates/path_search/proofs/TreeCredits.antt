@@ -54,10 +54,10 @@ spread_of (Some e) None = (let f : pos 0 -ℤ pos 0 ≡ pos 0 = omega (arith, in
 spread_of (Some e) (Some l) = refl
 
 module _ (g : Graphed) (num : IsNumbered g.stored) (linked : IsLinked g.stored.design) (is : IsGraph g) where
-  its_timing : IsTimed g.stored.design
+  pub its_timing : IsTimed g.stored.design
   its_timing = timed g num linked is
 
-  there_at : (number : ℕ) (node : Node) → node_at g.stored number ≡ Some node → Contains (pins g.stored.design) node.pin
+  pub there_at : (number : ℕ) (node : Node) → node_at g.stored number ≡ Some node → Contains (pins g.stored.design) node.pin
   there_at number node e = (has_node g.stored num linked number node e).has.within
 
   one_at : (a b : ℕ) (node : Node) → node_at g.stored a ≡ Some node → node_at g.stored b ≡ Some node → a ≡ b
@@ -175,12 +175,12 @@ module _ (g : Graphed) (num : IsNumbered g.stored) (linked : IsLinked g.stored.d
 
   module _ (rows : List TreeRow) (tree : IsClockTree g rows) where
     -- the places from the root are those of the walk's nodes
-    record IsRooted (k place : ℕ) (node : Node) : Type 0 where
+    pub record IsRooted (k place : ℕ) (node : Node) : Type 0 where
       pub walk : List Node
       pub told : network_walk g.stored.design node ≡ Some walk
       pub at : AreAt (walk_edge g.stored.design node) (path_end k rows place) walk
 
-    rooted : (k number place : ℕ) (node : Node) → place_at g number ≡ Some place → node_at g.stored number ≡ Some node → place < k → IsRooted k place node
+    pub rooted : (k number place : ℕ) (node : Node) → place_at g number ≡ Some place → node_at g.stored number ≡ Some node → place < k → IsRooted k place node
     rooted zero number place node p e low = absurd (omega (arith, low))
     rooted (suc k) number place node p e low =
         by (λ n q m a b l. rooted k n q m a b l) (parent_place g number) refl
@@ -215,7 +215,7 @@ module _ (g : Graphed) (num : IsNumbered g.stored) (linked : IsLinked g.stored.d
             }
 
     -- the pessimism of a place is that of its node
-    spread_there : (edge : ℕ × Tran) (p : ℕ) (n : Node) → IsAt (Some edge) p n → pessimism_at rows p ≡ spread_at g.stored.design edge (named n)
+    pub spread_there : (edge : ℕ × Tran) (p : ℕ) (n : Node) → IsAt (Some edge) p n → pessimism_at rows p ≡ spread_at g.stored.design edge (named n)
     spread_there edge p n a =
         let r = tree.each a.number p n a.placed a.its in
         let times : (r.row.early.0, r.row.late.0) ≡ times_at g.stored.design n edge =

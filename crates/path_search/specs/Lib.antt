@@ -9,7 +9,9 @@ pub mod Ranks
 pub mod Runs
 pub mod Slacks
 pub mod Sources
+pub mod Tested
 pub mod Trees
 pub mod WalkPaths
 pub mod WalkPlaces
 pub mod WalkTimes
+pub mod EndLows

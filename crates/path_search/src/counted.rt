@@ -223,6 +223,39 @@ fn count_test<A: Rows + Delayed>(
     }
 }
 
+/// What a path from a launch node to an end node holds, by the tests of the end node.
+pub(crate) fn counted_by<A: Rows + Delayed>(
+    alloc: Global,
+    sources: &Sources<'_, A>,
+    tests: &[EndTest],
+    launch: u32,
+    end: u32,
+    offer: i64,
+) -> Result<Counted, Memory>
+    requires sources { AreSources sources.now.store.now sources.now.graph.now (A.rows sources.now.arrivals.now) (A.delays sources.now.arrivals.now) sources.now.tree.now }
+    requires tests { AreEndTestsOf sources.now.graph.now sources.now.kind end tests.now }
+    requires launch { launch < node_bound sources.now.store.now }
+    requires there { is_number sources.now.store.now.pins (pin_under end) ≡ true }
+    requires offer { IsOfferOf sources.now.store.now sources.now.kind launch end (Some offer) }
+    ensures counted { IfOk result (IsCountedAt sources.now.store.now sources.now.kind launch end offer) }
+    ensures time { IfOk result (λ c. Within c.time.0) }
+{
+    sources.store.laws();
+    sources.graph.laws();
+    let told = launch_node(
+        alloc,
+        sources.store,
+        sources.graph,
+        sources.arrivals,
+        sources.kind,
+        launch,
+    )?;
+    match told {
+        Some(told) => Ok(count_test(sources, &told, tests, launch, end, offer)),
+        None => unreachable!(),
+    }
+}
+
 /// What a path from a launch node to an end node holds, where `offer` is what the launch node offers for
 /// the end node: the launch edge and the launch node's arrival, and of the tests that give the least slack
 /// the capture edge and the credit of the one of the lesser clock pin's name, rise before fall. Takes as
@@ -242,8 +275,6 @@ pub(crate) fn test_that_counts<A: Rows + Delayed>(
     ensures counted { IfOk result (IsCountedAt sources.now.store.now sources.now.kind launch end offer) }
     ensures time { IfOk result (λ c. Within c.time.0) }
 {
-    sources.store.laws();
-    sources.graph.laws();
     let tests = end_tests(
         alloc,
         sources.store,
@@ -252,16 +283,5 @@ pub(crate) fn test_that_counts<A: Rows + Delayed>(
         sources.kind,
         end,
     )?;
-    let told = launch_node(
-        alloc,
-        sources.store,
-        sources.graph,
-        sources.arrivals,
-        sources.kind,
-        launch,
-    )?;
-    match told {
-        Some(told) => Ok(count_test(sources, &told, tests.as_slice(), launch, end, offer)),
-        None => unreachable!(),
-    }
+    counted_by(alloc, sources, tests.as_slice(), launch, end, offer)
 }

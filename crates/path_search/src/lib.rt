@@ -7,13 +7,15 @@
 //! path is read off it (`shown`), by the test that counts (`counted`).
 //!
 //! Other searches over an endpoint's paths take its cone (`pin_cone`), find walks of it in the order of
-//! names (`ByName`), and read a path off each (`path_of`); `walk_path_laws` tells that these walks are the
-//! tested paths to the endpoint.
+//! names (`ByName`), and read a path off each (`path_of`, or where several are read `path_of_tested`, by
+//! tests that `find_tests` finds once); `walk_path_laws` tells that these walks are the tested paths to the
+//! endpoint.
 #![tactic(auto)]
 
 mod cones;
 mod counted;
 mod edges;
+mod end_lows;
 mod ends;
 mod launches;
 mod lows;
@@ -26,15 +28,18 @@ mod shown;
 mod sources;
 mod sums;
 mod test_slacks;
+mod tested;
 mod trees;
 
 pub use cones::{PinCone, pin_cone};
 pub use edges::LaunchEdge;
+pub use end_lows::end_low;
 pub use orders::{ByName, node_of};
 pub use searching::{
     EndpointSlacks, search_laws, walk_path_laws, walk_place_laws, worst_path, worst_slack,
     worst_slacks,
 };
-pub use shown::path_of;
+pub use shown::{path_of, path_of_tested};
 pub use sources::Sources;
+pub use tested::{Tested, find_tests};
 pub use trees::clock_tree;

@@ -8,6 +8,7 @@ ghost use Rattle.pessimism_credit.specs.Credit.{IsTree};
 ghost use Rattle.path_rules.specs.Ranges.{range_of};
 ghost use Rattle.path_search.specs.Slacks.{IsReadyTest};
 ghost use Rattle.path_search.specs.Lows.{low_setup, low_hold, low_apart, low_credit, capture_on, low_told, low_over, lows_told};
+ghost use Rattle.path_search.specs.EndLows.{edge_at, low_on};
 
 use crate::ends::EndTest;
 use crate::test_slacks::{clock_at, slack_by, uncertainty_of};
@@ -177,4 +178,38 @@ pub(crate) fn lows_of(
         )?;
     }
     Ok(lows)
+}
+
+/// The launch edge of a time.
+fn edge_at(time: &EdgeTime) -> LaunchEdge
+    ensures { edge_of result ≡ edge_at time.now }
+{
+    LaunchEdge {
+        clock: time.clock,
+        tran: time.tran,
+    }
+}
+
+/// The least of the lowest offers of an end node's tests on the launch edges of some times, in fs; none
+/// where it has no test or there are no times.
+pub(crate) fn low_on(
+    store: &Store,
+    tree: &ClockTree,
+    kind: Kind,
+    tests: &[EndTest],
+    times: &[EdgeTime],
+) -> Option<i64>
+    requires tree { IsTree tree.now }
+    requires tests { All (IsReadyTest store.now.design) tests.now }
+    requires places { All (λ t. IfSome t.place (λ p. p < length tree.now)) tests.now }
+    requires clocks { All (λ t. t.clock < length store.now.design.constraints.clocks) times.now }
+    ensures { result ≡ low_on store.now.design kind tree.now tests.now times.now }
+{
+    let rule = low_rule(store, kind);
+    let mut least = None;
+    for time in times {
+        let low = low_over(store, tree, kind, rule, tests, edge_at(time));
+        least = outer_some(Split::Early, least, low);
+    }
+    least
 }

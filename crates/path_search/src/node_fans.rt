@@ -53,7 +53,7 @@ impl<'a, A: Rows + Delayed> Model for NodeFan<'a, A> {
 }
 
 /// The split of the data that a kind of test compares.
-fn data_split(kind: Kind) -> Split
+pub(crate) fn data_split(kind: Kind) -> Split
     ensures { result ≡ data_split kind }
 {
     match kind {

@@ -23,9 +23,9 @@ use worst_walks::Launch;
 
 /// The tests of a pin's two nodes.
 #[derive(Drop)]
-struct PinTests {
-    rise: Items<EndTest>,
-    fall: Items<EndTest>,
+pub(crate) struct PinTests {
+    pub(crate) rise: Items<EndTest>,
+    pub(crate) fall: Items<EndTest>,
 }
 
 /// What a node offers for the tests of a pin's two nodes.
@@ -43,7 +43,7 @@ pub(crate) struct PinOffers {
 }
 
 /// The tests of two end nodes.
-fn pin_tests<A: Rows + Delayed>(
+pub(crate) fn pin_tests<A: Rows + Delayed>(
     alloc: Global,
     sources: &Sources<'_, A>,
     rise: u32,

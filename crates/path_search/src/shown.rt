@@ -10,6 +10,7 @@ ghost use Rattle.pin_graph.specs.RowTables.{AreRows};
 ghost use Rattle.worst_walks.specs.Walks.{most_nodes, count_of, delay_between, listed_into, delay_in, walk_sum, IsCone, IsWalk};
 ghost use Rattle.path_search.specs.Launches.{signed};
 ghost use Rattle.path_search.specs.Sources.{AreSources};
+ghost use Rattle.path_search.specs.Tested.{AreTested};
 ghost use Rattle.path_search.specs.PinCones.{capture_edge, capture_part, launch_part, name_part, name_told, place_name, time_part, time_numbered, IsNodePlace, IsWalkOn, AreEndsFine, AreEndsOf, AreNodesOf, IsWalkFine, IsWalkPath, IsPinCone};
 ghost use Rattle.path_search.specs.Counts.{counted_edge, IsCountedAt};
 ghost use Rattle.path_search.specs.Ranks.{climb};
@@ -19,6 +20,7 @@ use crate::cones::PinCone;
 use crate::counted::{Counted, test_that_counts};
 use crate::orders::climb;
 use crate::sources::Sources;
+use crate::tested::{Tested, counted_in};
 use arc_delays::Delayed;
 use netlist_store::Store;
 use node_rows::{time_on, times_in};
@@ -401,6 +403,38 @@ fn path_law(
     let _ = path;
 }
 
+/// The path of a walk by its ends and the test that counts.
+fn path_by<A: Rows + Delayed>(
+    alloc: Global,
+    sources: &Sources<'_, A>,
+    endpoint: &Name,
+    search: &PinCone,
+    walk: &Walk,
+    ends: Ends,
+    counted: &Counted,
+) -> Result<Path, Memory>
+    requires sources { AreSources sources.now.store.now sources.now.graph.now (A.rows sources.now.arrivals.now) (A.delays sources.now.arrivals.now) sources.now.tree.now }
+    requires search { IsPinCone sources.now.graph.now sources.now.kind endpoint.now search.now }
+    requires walk { IsWalk search.now.cone walk.now }
+    requires ends { AreEndsOf search.now walk.now ends }
+    requires counted { IsCountedAt sources.now.store.now sources.now.kind ends.launch ends.end ends.offer counted.now }
+    requires start { Within counted.now.time.0 }
+    ensures { IfOk result (IsWalkPath sources.now.graph.now sources.now.kind endpoint.now search.now walk.now) }
+{
+    let store = sources.store;
+    let graph = sources.graph;
+    let kind = sources.kind;
+    walk_laws(store, graph, kind, endpoint, search, walk);
+    let (first, rest) = split_walk(walk.nodes.as_slice());
+    end_laws(store, graph, kind, endpoint, search, walk, ends);
+    let nodes = nodes_of(alloc, sources, search, ends.launch, counted, first, rest)?;
+    let path = path_with(nodes, walk.slack, counted);
+    path_law(
+        store, graph, kind, endpoint, search, walk, ends, counted, first, rest, &path,
+    );
+    Ok(path)
+}
+
 /// The path of a walk of an endpoint's cone, by the test that counts. Times, slack and credit are in fs.
 /// Takes a step for each node of the path, each arc into a node of the walk and each test of the endpoint.
 /// The one error is want of memory.
@@ -420,14 +454,34 @@ pub fn path_of<A: Rows + Delayed>(
     let graph = sources.graph;
     let kind = sources.kind;
     walk_laws(store, graph, kind, endpoint, search, walk);
-    let (first, rest) = split_walk(walk.nodes.as_slice());
     let ends = ends_of(search, walk);
     end_laws(store, graph, kind, endpoint, search, walk, ends);
     let counted = test_that_counts(alloc, sources, ends.launch, ends.end, ends.offer)?;
-    let nodes = nodes_of(alloc, sources, search, ends.launch, &counted, first, rest)?;
-    let path = path_with(nodes, walk.slack, &counted);
-    path_law(
-        store, graph, kind, endpoint, search, walk, ends, &counted, first, rest, &path,
-    );
-    Ok(path)
+    path_by(alloc, sources, endpoint, search, walk, ends, &counted)
+}
+
+/// The path of a walk of an endpoint's cone, as `path_of` has it, by the endpoint's tests, which are found
+/// once for several paths. The one error is want of memory.
+pub fn path_of_tested<A: Rows + Delayed>(
+    alloc: Global,
+    sources: &Sources<'_, A>,
+    tested: &Tested,
+    endpoint: &Name,
+    search: &PinCone,
+    walk: &Walk,
+) -> Result<Path, Memory>
+    requires sources { AreSources sources.now.store.now sources.now.graph.now (A.rows sources.now.arrivals.now) (A.delays sources.now.arrivals.now) sources.now.tree.now }
+    requires search { IsPinCone sources.now.graph.now sources.now.kind endpoint.now search.now }
+    requires walk { IsWalk search.now.cone walk.now }
+    requires tested { AreTested sources.now.graph.now sources.now.kind tested.now }
+    ensures { IfOk result (IsWalkPath sources.now.graph.now sources.now.kind endpoint.now search.now walk.now) }
+{
+    let store = sources.store;
+    let graph = sources.graph;
+    let kind = sources.kind;
+    walk_laws(store, graph, kind, endpoint, search, walk);
+    let ends = ends_of(search, walk);
+    end_laws(store, graph, kind, endpoint, search, walk, ends);
+    let counted = counted_in(alloc, sources, tested, ends.launch, ends.end, ends.offer)?;
+    path_by(alloc, sources, endpoint, search, walk, ends, &counted)
 }
