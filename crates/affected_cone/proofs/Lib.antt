@@ -25,3 +25,5 @@ pub mod FineBase
 pub mod ChangedLaws
 pub mod TreeKept
 pub mod EndCuts
+pub mod BoundedEnds
+pub mod BoundLaws

@@ -25,7 +25,7 @@ use Rattle.affected_cone.proofs.SearchLaws.{is_listed_end}
 use Rattle.affected_cone.proofs.RenewedLists.{AreNumbered, renewed_all}
 
 -- the number of an endpoint is that of a pin
-end_known : (s : Stored) (n : ℕ) → is_end s n ≡ true → is_number s.pins n ≡ true
+pub end_known : (s : Stored) (n : ℕ) → is_end s n ≡ true → is_number s.pins n ≡ true
 end_known s n h = elim (cases_Bool (is_number s.pins n)) [ inl e ↦ e | inr e ↦ absurd (false≢true (sym (gap_no_end s n e) ∙ h)) ]
 
 -- pins to which the edit does not lead, and that are not gone

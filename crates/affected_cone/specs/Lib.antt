@@ -9,3 +9,4 @@ pub mod Rising
 pub mod Renewed
 pub mod Updated
 pub mod Cuts
+pub mod Bounds

@@ -1,5 +1,5 @@
-//! The slacks of endpoints after an ECO: those to which the edit leads are searched for, the others keep
-//! theirs.
+//! The slacks of endpoints after an ECO: those to which the edit leads are weighed, and searched for where they may
+//! have others; all others keep theirs.
 
 ghost use Rattle.std.specs.Prelude.{◌≡◌, ◌++◌, nat_lt, not, true, All, map, IfOk, OnOk};
 ghost use Rattle.std.specs.List.{position, filter_map};
@@ -10,11 +10,16 @@ ghost use Rattle.netlist_store.specs.Applying.{IsEditOf};
 ghost use Rattle.level_workers.specs.Mapped.{IsMap};
 ghost use Rattle.edit_reach.specs.Reach.{HasSeeds, AreBehind};
 ghost use Rattle.affected_cone.specs.Analysed.{is_end, ends_of, IsEnd, IsSearch};
+ghost use Rattle.affected_cone.specs.Bounds.{IsWeighed};
 ghost use Rattle.affected_cone.specs.Cuts.{from_number, begins_with, cut_end, IsRisingOf, IsInOrder};
 ghost use Rattle.affected_cone.specs.Renewed.{kept_end, end_number, pin_of, AreKeptEnds};
 ghost use Rattle.affected_cone.specs.Rising.{AreRising};
+ghost use Rattle.affected_cone.specs.Updated.{IsBase};
 
-use crate::ends::{EndSlacks, Search, end_slacks, is_end, slacks_of};
+use crate::bounds::{Weighed, end_after, pin_after, weigh};
+use crate::ends::{EndSlacks, Search, is_end};
+use crate::sharing::map_shared;
+use crate::updating::Base;
 use edit_reach::dirty_pins;
 use netlist_store::{Store, Touched};
 use pin_graph::{Graph, gone_pins};
@@ -125,37 +130,59 @@ fn ends_among(alloc: Global, store: &Store, pins: &[u32]) -> Result<Items<u32>, 
     Ok(ends)
 }
 
-/// So many endpoints are searched for by the calling thread alone.
+/// So many endpoints are weighed by the calling thread alone.
 const FEW: usize = 64;
 
 /// The slacks of endpoints, one after another.
-fn each_slacks(alloc: Global, search: &Search<'_>, ends: &[u32]) -> Result<Items<EndSlacks>, Memory>
-    requires search { IsSearch search.now }
-    requires ends { All (λ pin. is_end search.now.store.now pin ≡ true) ends.now }
-    ensures { IfOk result (IsMap (IsEnd search.now.store.now) ends.now) }
+fn each_slacks(
+    alloc: Global,
+    weighed: &Weighed<'_>,
+    ends: &[u32],
+) -> Result<Items<EndSlacks>, Memory>
+    requires weighed { IsWeighed weighed.now }
+    requires ends { All (λ pin. is_end weighed.now.search.now.store.now pin ≡ true) ends.now }
+    ensures { IfOk result (IsMap (IsEnd weighed.now.search.now.store.now) ends.now) }
 {
     let mut found = Items::with_room(alloc, ends.len())?;
     for pin in ends {
-        found.push(end_slacks(alloc, search, *pin)?)?;
+        found.push(end_after(alloc, weighed, *pin)?)?;
     }
     Ok(found)
+}
+
+/// The slacks of endpoints, shared between as many threads as there are processors.
+fn shared_slacks<H: Threads + Sync>(
+    rt: &H,
+    alloc: Global,
+    weighed: &Weighed<'_>,
+    ends: &[u32],
+) -> Result<Items<EndSlacks>, Memory>
+    requires weighed { IsWeighed weighed.now }
+    requires ends { All (λ pin. is_end weighed.now.search.now.store.now pin ≡ true) ends.now }
+    ensures { IfOk result (IsMap (IsEnd weighed.now.search.now.store.now) ends.now) }
+{
+    let found = |pin: &u32| -> Result<EndSlacks, Memory>
+        requires { IsWeighed weighed.now }
+        ensures { is_end weighed.entry.now.search.now.store.now pin.now ≡ true → IfOk result (IsEnd weighed.entry.now.search.now.store.now pin.now) }
+    { pin_after(alloc, weighed, *pin) };
+    map_shared(rt, alloc, ends, &found)
 }
 
 /// The slacks of endpoints, many shared between threads.
 fn searched<H: Threads + Sync>(
     rt: &H,
     alloc: Global,
-    search: &Search<'_>,
+    weighed: &Weighed<'_>,
     ends: &[u32],
 ) -> Result<Items<EndSlacks>, Memory>
-    requires search { IsSearch search.now }
-    requires ends { All (λ pin. is_end search.now.store.now pin ≡ true) ends.now }
-    ensures { IfOk result (IsMap (IsEnd search.now.store.now) ends.now) }
+    requires weighed { IsWeighed weighed.now }
+    requires ends { All (λ pin. is_end weighed.now.search.now.store.now pin ≡ true) ends.now }
+    ensures { IfOk result (IsMap (IsEnd weighed.now.search.now.store.now) ends.now) }
 {
     if ends.len() < FEW {
-        each_slacks(alloc, search, ends)
+        each_slacks(alloc, weighed, ends)
     } else {
-        slacks_of(rt, alloc, search, ends)
+        shared_slacks(rt, alloc, weighed, ends)
     }
 }
 
@@ -215,23 +242,18 @@ fn rising(alloc: Global, numbers: &[u32]) -> Result<Items<u32>, Memory>
 fn renewed<H: Threads + Sync>(
     rt: &H,
     alloc: Global,
-    base: &Graph,
-    ends: &[EndSlacks],
-    search: &Search<'_>,
+    weighed: &Weighed<'_>,
     dirty: &[u32],
 ) -> Result<Items<EndSlacks>, Memory>
-    requires search { IsSearch search.now }
-    requires ends { IsMap (IsEnd base.now.stored) (ends_of base.now.stored) ends.now }
-    requires kept { AreKeptEnds base.now.stored search.now.store.now dirty.now }
-    ensures { IfOk result (IsMap (IsEnd search.now.store.now) (ends_of search.now.store.now)) }
+    requires weighed { IsWeighed weighed.now }
+    requires kept { AreKeptEnds weighed.now.base.now.graph.now.stored weighed.now.search.now.store.now dirty.now }
+    ensures { IfOk result (IsMap (IsEnd weighed.now.search.now.store.now) (ends_of weighed.now.search.now.store.now)) }
 {
-    // The base's graph is asked for by the contract alone.
-    let _ = base;
     let numbers = rising(alloc, dirty)?;
     let pins = numbers.as_slice();
-    let mut all = kept_ends(alloc, pins, ends)?;
-    let again = ends_among(alloc, search.store, pins)?;
-    let found = searched(rt, alloc, search, again.as_slice())?;
+    let mut all = kept_ends(alloc, pins, weighed.base.ends)?;
+    let again = ends_among(alloc, weighed.search.store, pins)?;
+    let found = searched(rt, alloc, weighed, again.as_slice())?;
     add_ends(&mut all, found.as_slice())?;
     let sorted = in_order(all)?;
     Ok(sorted)
@@ -265,26 +287,27 @@ fn other_pins(
 
 /// The slacks of all endpoints of the store that an ECO made of a base, by those of the base's. `seeds` are
 /// the nodes at which the ECO begins to change paths, and `nodes` these and all behind them. An endpoint is
-/// searched for where one of `nodes` is of it or of another pin of its instance; every other one keeps its
-/// slacks. Takes time of these nodes and searches, and goes through the list of endpoints a few times.
+/// weighed where one of `nodes` is of it or of another pin of its instance, and searched for where paths through
+/// what changed may have less slack; every other one keeps its slacks. Takes time of these nodes and searches, and
+/// goes through the list of endpoints a few times.
 pub(crate) fn ends_after<H: Threads + Sync>(
     rt: &H,
     alloc: Global,
-    base: &Graph,
-    ends: &[EndSlacks],
+    base: &Base<'_>,
     search: &Search<'_>,
     touched: &Touched,
     seeds: &[u32],
     nodes: &[u32],
 ) -> Result<Items<EndSlacks>, Memory>
-    requires numbered { IsNumbered base.now.stored }
-    requires ends { IsMap (IsEnd base.now.stored) (ends_of base.now.stored) ends.now }
+    requires base { IsBase base.now }
+    requires numbered { IsNumbered base.now.graph.now.stored }
     requires search { IsSearch search.now }
-    requires made { IsEditOf base.now.stored (record { insts = touched.now.insts; nets = touched.now.nets }) search.now.store.now }
-    requires seeds { HasSeeds base.now.stored search.now.store.now (record { insts = touched.now.insts; nets = touched.now.nets }) seeds.now }
+    requires made { IsEditOf base.now.graph.now.stored (record { insts = touched.now.insts; nets = touched.now.nets }) search.now.store.now }
+    requires seeds { HasSeeds base.now.graph.now.stored search.now.store.now (record { insts = touched.now.insts; nets = touched.now.nets }) seeds.now }
     requires behind { AreBehind search.now.graph.now seeds.now nodes.now }
     ensures { IfOk result (IsMap (IsEnd search.now.store.now) (ends_of search.now.store.now)) }
 {
-    let dirty = other_pins(alloc, base, search, touched, seeds, nodes)?;
-    renewed(rt, alloc, base, ends, search, dirty.as_slice())
+    let dirty = other_pins(alloc, base.graph, search, touched, seeds, nodes)?;
+    let weighed = weigh(alloc, base, search, touched, seeds, nodes)?;
+    renewed(rt, alloc, &weighed, dirty.as_slice())
 }

@@ -9,6 +9,7 @@
 mod analyses;
 mod asked;
 mod asking;
+mod bounds;
 mod end_updates;
 mod ends;
 mod found;

@@ -171,8 +171,7 @@ fn ends_renewed<H: Threads + Sync>(
     ends_after(
         rt,
         alloc,
-        base.graph,
-        base.ends,
+        base,
         search,
         touched,
         reach.seeds.as_slice(),
