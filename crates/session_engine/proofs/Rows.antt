@@ -1,6 +1,6 @@
 -- A session with one command more: its row stands behind the others.
 
-use Rattle.std.proofs.Common.{◌≡◌, ℕ, suc, ◌+◌, ◌-◌, ◌<◌, ◌≤◌, Bool, true, false, List, [], ◌∷◌, ◌++◌, map, length, Option, Some, None, refl, sym, ap, subst, ◌∙◌, arith, append_assoc, append-nil, length-append}
+use Rattle.std.proofs.Common.{◌≡◌, ℕ, suc, ◌+◌, ◌-◌, ◌<◌, ◌≤◌, Bool, true, false, List, [], ◌∷◌, ◌++◌, map, length, Option, Some, None, Result, Ok, Err, OnErr, refl, sym, ap, subst, ◌∙◌, arith, append_assoc, append-nil, length-append}
 use Rattle.std.specs.Prelude.{slice_get, IsSomeAnd, if◌then◌else◌}
 use Rattle.std.specs.List.{cons_option}
 use Rattle.std.proofs.lemmas.Bool.{leb-true, false≢true}
@@ -20,8 +20,8 @@ use Rattle.timing_defs.specs.Sessions.{DesignAfter, sort_of, mark_of, query_of, 
 use Rattle.timing_defs.proofs.LongerJournals.{entry_behind}
 use Rattle.timing_defs.proofs.Members.{some_is}
 use Rattle.session_engine.specs.Versions.{Versioned, IsVersion}
-use Rattle.session_engine.specs.Looking.{Sight, Holds, Saw, Adds, Waits, Changes, Answers}
-use Rattle.session_engine.specs.Running.{is_runnable, begun_after, last_number, IsRun, Ran}
+use Rattle.session_engine.specs.Looking.{Sight, Holds, Saw, Looked, Adds, Waits, Changes, Answers}
+use Rattle.session_engine.specs.Running.{is_runnable, begun_after, last_number, IsRun, Ran, Stopped}
 use Rattle.session_engine.proofs.Numbers.{prefix_self, prefix_end, prefix_trans, prefix_length, stand_self, stand_behind, grew_more, grew_front, looks_lower}
 use Rattle.session_engine.proofs.Kept.{ordered_kept, true_kept}
 
@@ -158,7 +158,7 @@ module _ (origin : Design) (first who : ℕ) (v : Sight) (commands : List Comman
     waited : (number looks : ℕ) (a : Answer) → is_runnable (Await number looks) ≡ true → Waits w held number looks x after a
         → IsRun origin first who v (commands ++ Await number looks ∷ []) x after (rows ++ row_at place (Await number looks) after a ∷ [])
     waited number looks Reached some h =
-        looked (Await number looks) Reached (h.0.0 ++ after.number ∷ []) (after.number ∷ []) h.0.1 (once after.number h.0.0) refl refl h.1 tt
+        looked (Await number looks) Reached (h.0 ++ after.number ∷ []) (after.number ∷ []) h.2 (once after.number h.0) refl refl h.6 tt
     waited number looks (NotYet seen) some h =
         let many : 0 < looks = leb-true 1 looks some in
         looked (Await number looks) (NotYet seen) seen seen h.0 (stand_self seen) refl refl
@@ -257,3 +257,40 @@ ran_all origin first who script v w held commands rows listed all same run =
       mine = t.mine;
       looks = grew_front v.looks w.looks (row_looks false listed) (if begun_after false listed then [] else held.number ∷ []) t.looks;
     }
+
+-- a run that stopped in its first taking
+pub stopped_first : (origin : Design) (first who : ℕ) (commands : List Command) (v w : Sight) → Looked v w → Stopped origin first who commands v w
+stopped_first origin first who commands v w looked = (
+  [],
+  [],
+  (commands, refl),
+  record {
+    legal = (tt, tt);
+    mine = looked.1.2 ∙ sym (append-nil v.mine);
+    looks = (looked.0, looked.1.0, tt);
+  },
+)
+
+-- a run that stopped behind the rows of some commands
+pub stopped_behind : (origin : Design) (first who : ℕ) (done commands : List Command) (v w x : Sight) (held : Versioned) (rows : List Row)
+    → IsPrefix done commands → IsRun origin first who v done w held rows → Looked w x → Stopped origin first who commands v x
+stopped_behind origin first who done commands v w x held rows begins run looked = (
+  done,
+  rows,
+  begins,
+  record {
+    legal = (
+      ordered_kept w.seen x.seen looked.1.1 first who false 1 first done (map mark_of rows) run.ordered,
+      true_kept w.seen x.seen looked.1.1 origin first done rows run.told,
+    );
+    mine = looked.1.2 ∙ run.mine;
+    looks =
+        grew_front v.looks x.looks (row_looks false rows) []
+        (grew_more v.looks w.looks x.looks (row_looks false rows) (if begun_after false rows then [] else held.number ∷ []) looked.0 [] run.looks looked.1.0 tt);
+  },
+)
+
+-- what holds stands where there is an error
+pub on_error : {T E P : Type 0} (r : Result T E) → P → OnErr r P
+on_error (Ok x) p = tt
+on_error (Err e) p = p

@@ -1,6 +1,6 @@
 -- Looks of a seat, one after another.
 
-use Rattle.std.proofs.Common.{◌≡◌, ℕ, ◌+◌, ◌<◌, ◌≤◌, List, [], ◌∷◌, ◌++◌, length, Some, sym, ap, subst, ◌∙◌, arith, append_assoc, length-append}
+use Rattle.std.proofs.Common.{◌≡◌, ℕ, ◌+◌, ◌<◌, ◌≤◌, List, [], ◌∷◌, ◌++◌, length, Some, sym, ap, subst, ◌∙◌, arith, refl, append_assoc, append-nil, length-append}
 use mathlib.Core.List.{IsPrefix}
 use Rattle.std.specs.Arc.{arc_value}
 use Rattle.std.specs.declared.sync.Arc.{Arc}
@@ -15,9 +15,9 @@ use Rattle.timing_defs.specs.Sessions.{Looks, entry_by}
 use Rattle.session_engine.specs.declared.commands.Attempt.{Attempt}
 use Rattle.session_engine.specs.declared.commands.Attempt.TheVariants.{Done, Moved}
 use Rattle.timing_defs.proofs.Members.{some_is}
-use Rattle.version_board.specs.Callers.{Sitting, IsSame, Publishes}
+use Rattle.version_board.specs.Callers.{Sitting, IsSame, Publishes, Looks as LooksAt}
 use Rattle.session_engine.specs.Versions.{Versioned, IsVersion, IsNext}
-use Rattle.session_engine.specs.Looking.{Sight, Holds, Saw, SawLast, Adds, Changes}
+use Rattle.session_engine.specs.Looking.{Sight, Holds, Saw, Looked, SawLast, Adds, Reaches, Changes}
 use Rattle.session_engine.specs.Trying.{Tried}
 use Rattle.session_engine.proofs.Numbers.{prefix_self, prefix_trans, looks_more}
 
@@ -34,8 +34,23 @@ saw_one v w n h = ([], h)
 pub saw_last_then : (u v w : Sight) (m n : ℕ) → SawLast u m v → Saw v (n ∷ []) w → SawLast u n w
 saw_last_then u v w m n h k = (h.0 ++ m ∷ [], saw_then u v w (h.0 ++ m ∷ []) (n ∷ []) h.1 k)
 
-pub saw_last : (u v w : Sight) (ns : List ℕ) (n : ℕ) → Saw u ns v → Saw v (n ∷ []) w → SawLast u n w
-saw_last u v w ns n h k = (ns, saw_then u v w ns (n ∷ []) h k)
+-- no look
+pub looked_none : (v : Sight) → Looked v v
+looked_none v = ([], (sym (append-nil v.looks), prefix_self v.seen, refl))
+
+-- one look, which adds nothing
+pub looked_once : (v w : Sight) → LooksAt v w.seen w → w.mine ≡ v.mine → Looked v w
+looked_once v w h same = ((v.first + length w.seen) ∷ [], (h.0, h.1, same))
+
+-- some looks, and perhaps further ones
+pub looked_then : (u v w : Sight) (ns : List ℕ) → Saw u ns v → Looked v w → Looked u w
+looked_then u v w ns h k = (ns ++ k.0, saw_then u v w ns k.0 h k.1)
+
+pub last_looked : (u v w : Sight) (n : ℕ) → SawLast u n v → Looked v w → Looked u w
+last_looked u v w n h k = looked_then u v w (h.0 ++ n ∷ []) h.1 k
+
+pub looked_both : (u v w : Sight) (ns ms : List ℕ) → Saw u ns v → Saw v ms w → Looked u w
+looked_both u v w ns ms h k = (ns ++ ms, saw_then u v w ns ms h k)
 
 -- one look more that sees a number below the awaited one
 pub wait_more : (u v w : Sight) (seen more : List ℕ) (before awaited last n found at : ℕ)
@@ -48,6 +63,20 @@ wait_more u v w seen more before awaited last n found at h looks long k low is b
       subst (Looks before awaited n) (sym same) (looks_more before awaited last n seen looks low less),
       ap length same ∙ length-append seen (n ∷ []) ∙ ap (λ m. m + 1) long,
     )
+
+-- the look that sees the awaited number or a greater one
+pub wait_reached : (u v w : Sight) (seen : List ℕ) (before awaited last n found at looks : ℕ)
+    → Saw u seen v → Looks before awaited last seen → length seen ≡ at → at < looks → Saw v (n ∷ []) w → last ≤ n → found ≡ n → awaited ≤ found
+    → Reaches u before awaited looks w n
+wait_reached u v w seen before awaited last n found at looks h lower long few k low is high = (
+  seen,
+  last,
+  saw_then u v w seen (n ∷ []) h k,
+  omega (arith, long, few),
+  lower,
+  low,
+  omega (arith, is, high),
+)
 
 pub adds_then : (u v w : Sight) (m : ℕ) (e : Entry) → SawLast u m v → Adds v e w → Adds u e w
 adds_then u v w m e h k =

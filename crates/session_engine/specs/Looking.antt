@@ -1,6 +1,6 @@
 -- What a session's looks at the board tell it: the view of its seat before and after, and the version that it holds.
 
-use Rattle.std.specs.Prelude.{ℕ, ◌≡◌, ◌+◌, ◌≤◌, List, [], ◌∷◌, ◌++◌, length, Option, Some, None}
+use Rattle.std.specs.Prelude.{ℕ, ◌≡◌, ◌+◌, ◌<◌, ◌≤◌, List, [], ◌∷◌, ◌++◌, length, Option, Some, None}
 use mathlib.Core.List.{IsPrefix}
 use Rattle.timing_defs.specs.declared.design.Design.{Design}
 use Rattle.timing_defs.specs.declared.edits.Eco.{Eco}
@@ -34,6 +34,10 @@ Holds w held = (held.first ≡ w.first) × (Some held.origin ≡ w.origin) × (h
 abbrev pub Saw : Sight → List ℕ → Sight → Type 0
 Saw v ns w = (w.looks ≡ v.looks ++ ns) × IsPrefix v.seen w.seen × (w.mine ≡ v.mine)
 
+-- the seat looked some times, or not at all, and added nothing
+abbrev pub Looked : Sight → Sight → Type 0
+Looked v w = (ns : List ℕ) × Saw v ns w
+
 -- the seat looked, at last at this number
 abbrev pub SawLast : Sight → ℕ → Sight → Type 0
 SawLast v n w = (ns : List ℕ) × Saw v (ns ++ n ∷ []) w
@@ -49,9 +53,14 @@ abbrev pub Offers : Sight → Entry → Sight → Versioned → Option Versioned
 Offers v e w next None = Adds v e w × Holds w next
 Offers v e w next (Some newest) = Saw v (newest.number ∷ []) w × Holds w newest
 
--- an awaited number is reached at the last look, or it is not yet there at as many looks
+-- an awaited number is reached at the last look, behind fewer looks than there may be, which all saw lower numbers
+abbrev pub Reaches : Sight → ℕ → ℕ → ℕ → Sight → ℕ → Type 0
+Reaches v before number looks w reached =
+    (ns : List ℕ) × (last : ℕ) × Saw v (ns ++ reached ∷ []) w × (length ns < looks) × Looks before number last ns × (last ≤ reached) × (number ≤ reached)
+
+-- an awaited number is reached, or it is not yet there at as many looks
 abbrev pub Waits : Sight → Versioned → ℕ → ℕ → Sight → Versioned → Answer → Type 0
-Waits v held number looks w after Reached = SawLast v after.number w × (number ≤ after.number)
+Waits v held number looks w after Reached = Reaches v held.number number looks w after.number
 Waits v held number looks w after (NotYet seen) = Saw v seen w × (length seen ≡ looks) × Looks held.number number after.number seen
 Waits v held number looks w after answer = ⊥
 

@@ -3,6 +3,7 @@
 
 use Rattle.std.specs.Prelude.{ℕ, ◌≡◌, ◌≤◌, nat_le, Bool, true, false, ◌||◌, ◌&&◌, IsTrue, if◌then◌else◌, List, [], ◌∷◌, ◌++◌, map, length}
 use Rattle.std.specs.List.{list_all}
+use mathlib.Core.List.{IsPrefix}
 use Rattle.timing_defs.specs.declared.design.Design.{Design}
 use Rattle.timing_defs.specs.declared.reports.Query.{Query}
 use Rattle.timing_defs.specs.declared.reports.Query.TheVariants.{Through, Paths, WhatIf', Advise}
@@ -65,3 +66,9 @@ pub record Ran (origin : Design) (first who : ℕ) (script : Script) (v w : Sigh
   pub legal : Legal origin w.seen first who script t
   pub mine : w.mine ≡ v.mine ++ added_entries who script.commands t.rows
   pub looks : GrewBy v.looks w.looks (row_looks false t.rows)
+
+-- a run was stopped: what the seat knows and added is that of a run of some first commands of the script, none or more, and
+-- perhaps of further looks
+abbrev pub Stopped : Design → ℕ → ℕ → List Command → Sight → Sight → Type 0
+Stopped origin first who commands v w =
+    (done : List Command) × (rows : List Row) × IsPrefix done commands × Ran origin first who (record { commands = done }) v w (record { rows = rows })

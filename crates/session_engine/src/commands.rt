@@ -1,7 +1,7 @@
 //! How a session answers a command: at the newest version on the board, which it holds then, and a
 //! question at the version that it holds.
 
-ghost use Rattle.std.specs.Prelude.{◌≡◌, ◌≤◌, ◌||◌, [], ◌∷◌, true, Ok, IfOk};
+ghost use Rattle.std.specs.Prelude.{◌≡◌, ◌≤◌, ◌||◌, [], ◌∷◌, true, Ok, IfOk, OnErr};
 ghost use Rattle.std.specs.Arc.{arc_value};
 ghost use Rattle.std.specs.Option.{option_map};
 ghost use Rattle.timing_defs.specs.declared.edits.Eco.{Eco};
@@ -10,7 +10,7 @@ ghost use Rattle.timing_defs.specs.Reports.{is_plain};
 ghost use Rattle.timing_defs.specs.Sessions.{entry_by, query_of};
 ghost use Rattle.version_board.specs.Callers.{IsSeatOf, IsSame};
 ghost use Rattle.session_engine.specs.Versions.{IsNext};
-ghost use Rattle.session_engine.specs.Looking.{meant, Holds, Saw, Offers, Waits, Tells, Changes, Answers};
+ghost use Rattle.session_engine.specs.Looking.{meant, Holds, Saw, Looked, Offers, Waits, Tells, Changes, Answers};
 ghost use Rattle.session_engine.specs.Running.{is_further, is_runnable};
 ghost use Rattle.session_engine.specs.Trying.{Tried};
 
@@ -53,6 +53,7 @@ fn look<R: Wait, G: Gate>(
     ensures saw { IfOk result (λ v. Saw seat.old.view ((arc_value v).number ∷ []) seat.new.view) }
     ensures holds { IfOk result (λ v. Holds seat.new.view (arc_value v)) }
     ensures rises { IfOk result (λ v. (arc_value held).number ≤ (arc_value v).number) }
+    ensures looked { OnErr result (Looked seat.old.view seat.new.view) }
 {
     let found = newer(rt, board, seat, &held);
     Version::discard(held);
@@ -65,7 +66,7 @@ fn look<R: Wait, G: Gate>(
 }
 
 /// Waits for a number, with so many looks at most.
-#[tactic(auto, using(crate::proofs::Sights::saw_last))]
+#[tactic(auto, using(crate::proofs::Sights::looked_then, crate::proofs::Sights::looked_both))]
 fn wait<R: Wait, G: Gate>(
     rt: &R,
     alloc: Global,
@@ -82,6 +83,7 @@ fn wait<R: Wait, G: Gate>(
     ensures same { IsSame seat.old seat.new }
     ensures waits { IfOk result (λ got. Waits seat.old.view (arc_value held) number looks seat.new.view (arc_value got.0) got.1) }
     ensures holds { IfOk result (λ got. Holds seat.new.view (arc_value got.0)) }
+    ensures looked { OnErr result (Looked seat.old.view seat.new.view) }
 {
     let mut seen = Items::new(alloc);
     let mut newest = held;
@@ -136,6 +138,7 @@ fn ask<H: Threads + Sync, X: Further>(
 }
 
 /// Offers one more owner of the next version of a base to the board.
+#[tactic(auto, using(crate::proofs::Sights::looked_none))]
 fn offered<R: Wait>(
     rt: &R,
     who: u32,
@@ -150,6 +153,7 @@ fn offered<R: Wait>(
     requires next { (eco : Eco) × IsNext base.now who eco (arc_value next.now) }
     ensures same { IsSame seat.old seat.new }
     ensures offers { IfOk result (λ newest. (eco : Eco) → IsNext base.now who eco (arc_value next.now) → Offers seat.old.view (entry_by who eco) seat.new.view (arc_value next.now) (option_map arc_value newest)) }
+    ensures looked { OnErr result (Looked seat.old.view seat.new.view) }
 {
     publish(rt, board, seat, base, who, next.clone()?)
 }
@@ -170,6 +174,7 @@ fn offer<R: Wait, G: Gate>(
     requires next { (eco : Eco) × IsNext (arc_value base) who eco (arc_value next) }
     ensures same { IsSame seat.old seat.new }
     ensures tried { IfOk result (λ tried. (eco : Eco) → IsNext (arc_value base) who eco (arc_value next) → Tried who seat.old.view (arc_value base) eco seat.new.view tried) }
+    ensures looked { OnErr result (Looked seat.old.view seat.new.view) }
 {
     let offered = offered(rt, who, board, seat, &base, &next);
     Version::discard(base);
@@ -197,6 +202,7 @@ fn offer<R: Wait, G: Gate>(
 }
 
 /// Prepares the version after an ECO over a base, and offers it to the board; or refuses the ECO.
+#[tactic(auto, using(crate::proofs::Sights::looked_none))]
 fn try_once<H: Threads + Wait + Sync, G: Gate>(
     rt: &H,
     alloc: Global,
@@ -216,6 +222,7 @@ fn try_once<H: Threads + Wait + Sync, G: Gate>(
     requires most { workers ≤ 32 }
     ensures same { IsSame seat.old seat.new }
     ensures tried { IfOk result (Tried who seat.old.view (arc_value base) eco.now seat.new.view) }
+    ensures looked { OnErr result (Looked seat.old.view seat.new.view) }
 {
     let mut steps: Steps<Evaluated> = Steps::none();
     match prepare(rt, alloc, &base, who, eco, workers, gate, &mut steps) {
@@ -236,7 +243,7 @@ fn try_once<H: Threads + Wait + Sync, G: Gate>(
 
 /// Publishes an ECO over the newest version, or refuses it there: where another session published
 /// since, over the then newest again.
-#[tactic(auto, using(crate::proofs::Sights::saw_one, crate::proofs::Sights::tried_changes, crate::proofs::Sights::tried_holds))]
+#[tactic(auto, using(crate::proofs::Sights::saw_one, crate::proofs::Sights::tried_changes, crate::proofs::Sights::tried_holds, crate::proofs::Sights::last_looked))]
 fn change<H: Threads + Wait + Sync, G: Gate>(
     rt: &H,
     alloc: Global,
@@ -257,6 +264,7 @@ fn change<H: Threads + Wait + Sync, G: Gate>(
     ensures same { IsSame seat.old seat.new }
     ensures changes { IfOk result (λ got. Changes who seat.old.view eco.now seat.new.view (arc_value got.0) got.1) }
     ensures holds { IfOk result (λ got. Holds seat.new.view (arc_value got.0)) }
+    ensures looked { OnErr result (Looked seat.old.view seat.new.view) }
 {
     let mut base = look(rt, who, board, seat, held, gate)?;
     for _ in rt.forever() {
@@ -280,6 +288,7 @@ pub(crate) fn taken<R: Wait, G: Gate>(
     ensures same { IsSame seat.old seat.new }
     ensures saw { IfOk result (λ v. Saw seat.old.view ((arc_value v).number ∷ []) seat.new.view) }
     ensures holds { IfOk result (λ v. Holds seat.new.view (arc_value v)) }
+    ensures looked { OnErr result (Looked seat.old.view seat.new.view) }
 {
     let newest = newest(rt, board, seat)?;
     gate.at(Point::Taken {
@@ -306,7 +315,7 @@ fn held_with(
 }
 
 /// The answer to a command, and the version that the session holds then.
-#[tactic(auto, using(crate::proofs::Sights::saw_one))]
+#[tactic(auto, using(crate::proofs::Sights::saw_one, crate::proofs::Sights::looked_none))]
 pub(crate) fn answer<H: Threads + Wait + Sync, G: Gate, X: Further>(
     rt: &H,
     alloc: Global,
@@ -328,6 +337,7 @@ pub(crate) fn answer<H: Threads + Wait + Sync, G: Gate, X: Further>(
     ensures same { IsSame seat.old seat.new }
     ensures answers { IfOk result (λ got. Answers who seat.old.view (arc_value held) command.now seat.new.view (arc_value got.0) got.1) }
     ensures holds { IfOk result (λ got. Holds seat.new.view (arc_value got.0)) }
+    ensures looked { OnErr result (Looked seat.old.view seat.new.view) }
 {
     match command {
         Command::Take => {

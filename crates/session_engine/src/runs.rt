@@ -1,13 +1,13 @@
 //! The run of a script: one session of several at a board of versions.
 
-ghost use Rattle.std.specs.Prelude.{ℕ, ◌≡◌, ◌+◌, ◌<◌, ◌≤◌, [], ◌∷◌, ◌++◌, List, true, Some, length, vec_len, vec_capacity, IfOk};
+ghost use Rattle.std.specs.Prelude.{ℕ, ◌≡◌, ◌+◌, ◌<◌, ◌≤◌, [], ◌∷◌, ◌++◌, List, true, Some, length, vec_len, vec_capacity, IfOk, OnErr};
 ghost use Rattle.std.specs.Arc.{arc_value};
 ghost use Rattle.std.specs.List.{list_all};
 ghost use Rattle.timing_defs.specs.declared.design.Design.{Design};
 ghost use Rattle.timing_defs.specs.declared.scripts.Command.{Command};
 ghost use Rattle.version_board.specs.Callers.{IsSeatOf, IsSame};
-ghost use Rattle.session_engine.specs.Looking.{Sight, meant, Holds};
-ghost use Rattle.session_engine.specs.Running.{is_runnable, IsRunnable, IsRun, Ran};
+ghost use Rattle.session_engine.specs.Looking.{Sight, meant, Holds, Looked};
+ghost use Rattle.session_engine.specs.Running.{is_runnable, IsRunnable, IsRun, Ran, Stopped};
 
 use crate::commands::{answer, query_of, taken};
 use crate::further::Further;
@@ -25,6 +25,7 @@ fn discard_query(_query: Option<Query>) {}
 fn discard_rows(_rows: Vec<Row>) {}
 
 /// Answers the command at a place: its row stands behind the others, and the session holds the version.
+#[tactic(auto, using(crate::proofs::Sights::looked_none))]
 fn step<H: Threads + Wait + Sync, G: Gate, X: Further>(
     rt: &H,
     alloc: Global,
@@ -51,6 +52,7 @@ fn step<H: Threads + Wait + Sync, G: Gate, X: Further>(
     ensures long { IfOk result (λ next. vec_len rows.new ≡ vec_len rows.old + 1) }
     ensures room { IfOk result (λ next. vec_capacity rows.new ≡ vec_capacity rows.old) }
     ensures run { IfOk result (λ next. (origin : Design) (first : ℕ) (v : Sight) (commands : List Command) → seat.old.view.first ≡ first → seat.old.view.origin ≡ Some origin → place ≡ length commands + 1 → IsRun origin first who v commands seat.old.view (arc_value held) rows.old.items → IsRun origin first who v (commands ++ command.now ∷ []) seat.new.view (arc_value next) rows.new.items) }
+    ensures looked { OnErr result (Looked seat.old.view seat.new.view) }
 {
     held.laws();
     match query_of(alloc, command) {
@@ -85,6 +87,7 @@ fn step<H: Threads + Wait + Sync, G: Gate, X: Further>(
 }
 
 /// Answers the commands of a script in order, over a first taking.
+#[tactic(auto, using(crate::proofs::Rows::stopped_first))]
 fn steps<H: Threads + Wait + Sync, G: Gate, X: Further>(
     rt: &H,
     alloc: Global,
@@ -107,6 +110,7 @@ fn steps<H: Threads + Wait + Sync, G: Gate, X: Further>(
     requires most { workers ≤ 32 }
     ensures same { IsSame seat.old seat.new }
     ensures run { IfOk result (λ held. IsRun board.now.opening.origin board.now.opening.first who seat.old.view commands.now seat.new.view (arc_value held) rows.new.items) }
+    ensures stopped { OnErr result (Stopped board.now.opening.origin board.now.opening.first who commands.now seat.old.view seat.new.view) }
 {
     let mut held = taken(rt, who, board, seat, gate)?;
     held.laws();
@@ -131,7 +135,9 @@ fn steps<H: Threads + Wait + Sync, G: Gate, X: Further>(
 ///
 /// # Errors
 ///
-/// Want of memory alone; what the session published until then stays.
+/// Want of memory alone. What the session published until then stays: it is what the first commands of the
+/// script publish, up to the one in which memory was wanting.
+#[tactic(auto, using(crate::proofs::Rows::stopped_first, crate::proofs::Sights::looked_none))]
 pub fn run_script<H: Threads + Wait + Sync, G: Gate, X: Further>(
     rt: &H,
     alloc: Global,
@@ -149,6 +155,7 @@ pub fn run_script<H: Threads + Wait + Sync, G: Gate, X: Further>(
     requires most { workers ≤ 32 }
     ensures same { IsSame seat.old seat.new }
     ensures ran { IfOk result (Ran board.now.opening.origin board.now.opening.first who script.now seat.old.view seat.new.view) }
+    ensures stopped { OnErr result (Stopped board.now.opening.origin board.now.opening.first who script.now.commands seat.old.view seat.new.view) }
 {
     let commands = script.commands.as_slice();
     match Vec::with_capacity(alloc, commands.len()) {

@@ -1,11 +1,11 @@
-use Rattle.std.proofs.Common.{rules, ◌≡◌, ℕ, ◌+◌, List, [], ◌∷◌, ◌++◌, length, take, refl, sym, ap, subst, ◌∙◌}
-use Rattle.std.proofs.lemmas.List.{take_more}
+use Rattle.std.proofs.Common.{rules, ◌≡◌, ℕ, ◌+◌, List, [], ◌∷◌, ◌++◌, length, take, drop, refl, sym, ap, subst, ◌∙◌}
+use Rattle.std.proofs.lemmas.List.{take_more, take-append-drop}
 use Rattle.std.specs.Arc.{arc_value}
 use Rattle.timing_defs.specs.declared.scripts.Command.{Command}
 use Rattle.timing_defs.specs.declared.scripts.Row.{Row}
 use Rattle.session_engine.specs.Running.{IsRun}
 use Rattle.session_engine.proofs.Sights.{same_then}
-use Rattle.session_engine.proofs.Rows.{run_none}
+use Rattle.session_engine.proofs.Rows.{run_none, stopped_behind, on_error}
 use Rattle.session_engine.proofs.runs.steps.Goals as goal
 
 pub loop-command-init : goal.loop-command-init
@@ -41,3 +41,11 @@ loop-command-preserved g c =
           (c.loop-command.invariant.same.3 ∙ c.requires.seat.1) (c.loop-command.invariant.same.2 ∙ c.requires.seat.2)
           (c.loop-command.invariant.at ∙ ap (λ (n : ℕ). n + 1) (sym many)) c.loop-command.invariant.run);
     }
+
+pub returns-in_err-held-2-clause-stopped : goal.returns-in_err-held-2-clause-stopped
+returns-in_err-held-2-clause-stopped g c =
+    on_error c.from_residual-in_err-held-2.result
+    (stopped_behind c.args.board.now.opening.origin c.args.board.now.opening.first c.args.who (take c.loop-command.command-index c.args.commands.now) c.args.commands.now
+    c.args.seat.now.view c.loop-command.seat.view c.step.new.seat.view (arc_value c.loop-command.held) c.loop-command.rows.items
+    (drop c.loop-command.command-index c.args.commands.now, take-append-drop c.loop-command.command-index c.args.commands.now)
+    c.loop-command.invariant.run c.in_err-held-2.ensures.looked)
