@@ -260,9 +260,9 @@ def check_answer(ran, documents, sessions, saved):
 
 # ------------------------------------------------------------------------------------------------ designs
 
-def raw_texts(name):
-    """The raw texts of a file of the examples that the gate runs, by the names of their constants."""
-    text = (TOP / "crates/shell_tests/src/examples" / f"{name}.rt").read_text()
+def raw_texts():
+    """The raw texts of the documents that the gate's runs share, by the names of their constants."""
+    text = (TOP / "crates/shell_tests/src/documents.rt").read_text()
     return {it[1]: it[2].encode() for it in re.finditer(r'const (\w+): &str =\s*r#"(.*?)"#;', text, re.S)}
 
 
@@ -302,7 +302,7 @@ def folder_of(name):
 
 def gate_designs():
     """The documents of the worked rows that the gate runs, and those of the examples."""
-    texts = raw_texts("documents")
+    texts = raw_texts()
     base = {"early.lib": texts["EARLY"], "late.lib": texts["LATE"], "b.v": texts["REGISTERS"], "b.sdc": texts["REGISTERS_CLOCK"]}
     words = ["run", "early.lib", "late.lib", "b.v", "b.sdc", "none", "2", "s1"]
     contest = {"e.lib": texts["GRID_LIBRARY"], "e.v": texts["CONTEST"], "e.sdc": texts["CONTEST_CONSTRAINTS"], "e.spef": texts["CONTEST_PARASITICS"],

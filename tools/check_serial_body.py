@@ -1,7 +1,7 @@
 #!/usr/bin/env python3
 """Shows that the tests of sessions in threads refuse a body that runs them one after the other: check_serial_body.py [--seconds N]
 
-The contracts of a run name no schedule, so a body that answers its scripts on one thread would meet them. The tests of `gate_tests`
+The contracts of a run name no schedule, so a body that answers its scripts on one thread would meet them. The tests of `shell_tests`
 hold a session at a point until another has come to one of its own. This tool copies the repository, and in the copy lets the sessions
 of a run follow each other: once the first script first, once the last. It builds and runs the tests without proof (`rt try`), each for
 at most N seconds (default 300). The status is 0 where all tests pass as they stand and, with either body, those of GATES fail; else 1.
@@ -36,7 +36,7 @@ def with_body(text, body):
 def results(top, seconds):
     """Whether each test passed, by its name."""
     words = ["rt", "try", "--test", "--seconds", str(seconds)]
-    done = subprocess.run(words, cwd=top / "crates/gate_tests", capture_output=True, text=True)
+    done = subprocess.run(words, cwd=top / "crates/shell_tests", capture_output=True, text=True)
     told = dict(re.findall(r"^test \S*::(\w+) \.\.\. (\w+)", done.stdout + done.stderr, re.M))
     if not told:
         sys.exit(f"the tests were not run:\n{done.stdout[-2000:]}{done.stderr[-2000:]}")

@@ -4,7 +4,8 @@
 One run of `rt ci` reckons with more memory for a crate than its proof takes, so on a machine of 24 GB it proves the upper crates one after
 the other, also where they do not wait for each other. This tool starts `rt ci NAME` for each crate by itself, at most N beside each other
 (default: as many as there are processors), in copies of the repository without the edits that must be refused. What is proved is kept by rt
-for later runs, the gate's among them. It prints a line as each begins and ends; the status is 0 where all were proved. Crates that are
+for later runs, the gate's among them. It prints a line as each begins and ends; the status is 0 where all were proved. What each run said is kept in
+out/prove_by_crate (`tools/plant_over_kept.py --proved` wants it). Crates that are
 below these and not named have to be kept already, else each run proves them again.
 """
 import argparse
@@ -17,6 +18,7 @@ import tempfile
 import time
 
 TOP = pathlib.Path(__file__).resolve().parent.parent
+LOGS = TOP / "out" / "prove_by_crate"
 
 
 def crates():
@@ -44,6 +46,8 @@ def prove(names, lanes, folder):
     while left or running:
         for name in [it for it, run in running.items() if run.poll() is not None]:
             status = running.pop(name).returncode
+            LOGS.mkdir(parents=True, exist_ok=True)
+            shutil.copyfile(folder / f"{name}.log", LOGS / f"{name}.log")
             print(time.strftime("%H:%M:%S"), name, "proved" if status == 0 else f"not proved, see {folder}/{name}.log", flush=True)
             failed += [name] if status else []
         for name in list(left):

@@ -6,6 +6,7 @@ import tempfile
 import unittest
 
 import check_over_kept
+import check_over_stubs
 import try_edits
 
 STORES = """const MOST: usize = 3;
@@ -106,6 +107,16 @@ class Tries(unittest.TestCase):
         (self.folder / "src" / "edits.rt").write_text(EDITS)
         (self.folder / "specs" / "Rows.antt").write_text("last\n")
         self.assertFalse(check_over_kept.is_of(kept, self.folder, "small"))
+
+    def test_a_crate_without_bodies_has_holes_for_proofs(self):
+        to = self.folder / "stub"
+        check_over_stubs.write_stub("small", self.folder, to)
+        self.assertIn("unreachable!()", (to / "src" / "stores.rt").read_text())
+        # Functions of a ring keep their bodies.
+        self.assertIn("MOST - 3", (to / "src" / "edits.rt").read_text())
+        self.assertNotIn("self.rows.first()", (to / "src" / "edits.rt").read_text())
+        self.assertIn("first_spec = ?", (to / "proofs" / "stores" / "Store" / "first" / "Proof.antt").read_text())
+        self.assertFalse((to / "proofs" / "edits" / "sum").exists())
 
     def test_how_far_a_check_is(self):
         log = self.folder / "log.txt"
