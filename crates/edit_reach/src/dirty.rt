@@ -1,8 +1,9 @@
 //! The pins of seeds, and the endpoints at the nodes behind them: ports, and pins of instances whose cell has tests.
 
-ghost use Rattle.std.specs.Prelude.{◌≡◌, ◌++◌, true, map, IfOk, IfSome, OnOk};
+ghost use Rattle.std.specs.Prelude.{◌≡◌, ◌++◌, nat_eq, true, [], map, IfOk, IfSome, OnOk};
 ghost use Rattle.std.specs.List.{filter_map, flat_map};
 ghost use Rattle.std.specs.Option.{option_to_list};
+ghost use Rattle.indexmap.specs.IndexSet.{insert_all};
 ghost use Rattle.netlist_store.specs.Numbering.{is_number};
 ghost use Rattle.pin_graph.specs.Joins.{own_number};
 ghost use Rattle.pin_graph.specs.Nodes.{pin_under};
@@ -159,6 +160,27 @@ pub fn inst_pins(alloc: Global, store: &Store, inst: u32) -> Result<Items<u32>, 
     Ok(pins)
 }
 
+/// The instances of the pins of nodes that have tests in their cells, each once.
+fn tested_set(alloc: Global, store: &Store, nodes: &[u32]) -> Result<IndexSet<u32>, Memory>
+    ensures { IfOk result (λ insts. insts.keys ≡ insert_all nat_eq [] (filter_map (tested_under store.now) nodes.now)) }
+{
+    let found = tested_insts(alloc, store, nodes)?;
+    number_set(alloc, found.as_slice())
+}
+
+/// Adds the pins of the instances at nodes that have tests in their cells.
+fn add_tested_pins(
+    alloc: Global,
+    store: &Store,
+    pins: &mut Items<u32>,
+    nodes: &[u32],
+) -> Result<(), Memory>
+    ensures { OnOk result (pins.new ≡ pins.old ++ flat_map (inst_pins_at store.now) (insert_all nat_eq [] (filter_map (tested_under store.now) nodes.now))) }
+{
+    let insts = tested_set(alloc, store, nodes)?;
+    add_insts_pins(alloc, store, pins, insts.as_slice())
+}
+
 /// The pins of the seeds of an edit, and of the nodes behind them the ports and all pins of the instances whose
 /// cells have tests, each once. Every other pin of the edited store is an endpoint in both stores or in none, with
 /// the same slacks.
@@ -171,10 +193,8 @@ pub fn dirty_pins(
     ensures { IfOk result (λ pins. HasDirty store.now seeds.now nodes.now pins.keys) }
 {
     store.laws();
-    let found = tested_insts(alloc, store, nodes)?;
-    let insts = number_set(alloc, found.as_slice())?;
     let mut pins = pins_under(alloc, seeds)?;
     add_ports(&mut pins, store, nodes)?;
-    add_insts_pins(alloc, store, &mut pins, insts.as_slice())?;
+    add_tested_pins(alloc, store, &mut pins, nodes)?;
     number_set(alloc, pins.as_slice())
 }
