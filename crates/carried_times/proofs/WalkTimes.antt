@@ -1,7 +1,7 @@
 -- Times that are found one after another are carried along the paths of both designs.
 
 use Rattle.std.proofs.Common.{◌≡◌, ℕ, ◌<◌, ℤ, Bool, true, false, List, [], cond, length, get_or, Option, None, Some, refl, sym, ap, subst, ◌∙◌, inl, inr, arith}
-use Rattle.std.specs.Prelude.{Contains, nat_eq, nat_lt, position, slice_get, if◌then◌else◌}
+use Rattle.std.specs.Prelude.{Contains, nat_eq, nat_lt, position, slice_get, Result, IfOk, IfSome, if◌then◌else◌}
 use Rattle.std.specs.Option.{option_map_or}
 use Rattle.std.specs.List.{position_or_len}
 use Rattle.std.proofs.lemmas.Bool.{cases_Bool, ltb-true, ltb-false, lt-ltb, eqb-true, eq-eqb, false≢true}
@@ -10,6 +10,7 @@ use Rattle.std.proofs.lemmas.List.Sums.{fails_before_first}
 use Rattle.std.proofs.lemmas.List.Elements.{Contains-get_or}
 use Rattle.std.proofs.lemmas.Option.{slice_get-get_or}
 use Rattle.indexmap.specs.IndexSet.{insert_all}
+use Rattle.sta_units.specs.declared.units.Memory.{Memory}
 use Rattle.timing_defs.specs.declared.kinds.Split.{Split}
 use Rattle.timing_defs.specs.declared.kinds.Split.TheVariants.{Early, Late}
 use Rattle.timing_defs.specs.declared.rows.NodeRow.{NodeRow}
@@ -33,7 +34,7 @@ use Rattle.carried_times.specs.declared.carried.Carried.{Carried}
 use Rattle.carried_times.specs.Carry.{time_of, no_times, step_of}
 use Rattle.carried_times.specs.Ordered.{AreSame}
 use Rattle.carried_times.specs.declared.walking.CarriedTimes.{CarriedTimes}
-use Rattle.carried_times.specs.Sides.{AreCarriedTimes, Sided, sided, arrival_told, delay_by, found_at, time_at, step_told, whole_told, Covers, IsPassed, IsTold, IsWalked}
+use Rattle.carried_times.specs.Sides.{AreCarriedTimes, Sided, sided, arrival_told, delay_by, found_at, time_at, step_told, whole_told, Covers, IsPassed, IsTold, IsWalked, IsJoined}
 use Rattle.carried_times.specs.Times.{AreTimes, outermost_time}
 use Rattle.carried_times.proofs.StepLaws.{arrival_beyond, step_timed}
 use Rattle.carried_times.proofs.Orderings.{inserted_same}
@@ -236,3 +237,13 @@ module _ (g g2 : Graphed) (touch : Touch) (made : IsEditOf g.stored touch g2.sto
         nodes_are = ordered;
         times = walk_timed c.seeds.keys c.nodes.keys c.times firsts ordered by_both;
       }
+
+  -- the same of the walk's times with its seeds and nodes
+  pub walk_joined : (old new : Sided) (n m : ℕ) → old ≡ sided rows delays n → n ≡ node_bound g.stored → new ≡ sided rows2 delays2 m → m ≡ node_bound g2.stored → (firsts nodes : List ℕ)
+      → firsts ≡ insert_all nat_eq [] seeds → AreSame found nodes → (times : Result (Option (List Carried)) Memory) → IfOk times (λ o. IfSome o (IsWalked old new g2 firsts nodes))
+      → (c : CarriedTimes) → IsJoined firsts nodes times c → AreCarriedTimes g.stored g2.stored seeds found c
+  walk_joined old new n m is_old low is_new high firsts nodes put ordered times walked c is =
+      walk_carried old new n m is_old low is_new high c (is.seeds_are ∙ put) (subst (λ (xs : List ℕ). AreSame found xs) (sym is.nodes_are) ordered)
+      (subst (λ (xs : List ℕ). IsWalked old new g2 xs c.nodes.keys c.times) (sym is.seeds_are)
+      (subst (λ (xs : List ℕ). IsWalked old new g2 firsts xs c.times) (sym is.nodes_are)
+      (subst (λ (r : Result (Option (List Carried)) Memory). IfOk r (λ o. IfSome o (IsWalked old new g2 firsts nodes))) is.times_are walked)))

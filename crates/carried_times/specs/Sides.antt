@@ -1,7 +1,8 @@
 -- What two designs tell of steps, by tables of rows and of delays.
 
-use Rattle.std.specs.Prelude.{ℕ, ◌≡◌, ◌≤◌, ℤ, nat_eq, nat_lt, position, slice_get, true, false, if◌then◌else◌, List, length, Option, Some, None, Contains}
+use Rattle.std.specs.Prelude.{ℕ, ◌≡◌, ◌≤◌, ℤ, nat_eq, nat_lt, position, slice_get, true, false, if◌then◌else◌, List, length, Option, Some, None, Result, Ok, Contains}
 use Rattle.std.specs.Option.{option_map_or}
+use Rattle.sta_units.specs.declared.units.Memory.{Memory}
 use Rattle.timing_defs.specs.declared.kinds.Split.{Split}
 use Rattle.timing_defs.specs.declared.kinds.Split.TheVariants.{Early, Late}
 use Rattle.timing_defs.specs.declared.rows.NodeRow.{NodeRow}
@@ -93,6 +94,12 @@ AreTold a b g seeds nodes times =
 pub record IsWalked (a b : Sided) (g : Graphed) (seeds nodes : List ℕ) (times : List Carried) : Type 0 where
   pub all : length times ≡ length nodes
   pub told : AreTold a b g seeds nodes times
+
+-- the times that a walk found, with its seeds and nodes
+pub record IsJoined (seeds nodes : List ℕ) (times : Result (Option (List Carried)) Memory) (c : CarriedTimes) : Type 0 where
+  pub seeds_are : c.seeds.keys ≡ seeds
+  pub nodes_are : c.nodes.keys ≡ nodes
+  pub times_are : times ≡ Ok (Some c.times)
 
 -- what is carried to each node behind the seeds of an edit
 pub record AreCarriedTimes (base s : Stored) (seeds found : List ℕ) (c : CarriedTimes) : Type 0 where

@@ -6,7 +6,7 @@ ghost use Rattle.pin_graph.specs.Nodes.{node_bound};
 ghost use Rattle.pin_graph.specs.RowTables.{AreRows};
 ghost use Rattle.arc_delays.specs.Delays.{AreDelays};
 ghost use Rattle.edit_reach.specs.Reach.{is_in, HasSeeds, AreBehind};
-ghost use Rattle.carried_times.specs.Sides.{found_at, time_at, ArePassed, IsMore, IsTold, IsWalked, AreCarriedTimes};
+ghost use Rattle.carried_times.specs.Sides.{found_at, time_at, ArePassed, IsMore, IsTold, IsWalked, IsJoined, AreCarriedTimes};
 
 use crate::carried::{Carried, merged, no_times};
 use crate::ordering::{by_level, number_set};
@@ -142,6 +142,25 @@ fn walked<A: Rows + Delayed>(
     Ok(Some(times))
 }
 
+/// The times that a walk over nodes found, with the nodes and their seeds.
+fn with_times(
+    seeds: IndexSet<u32>,
+    nodes: IndexSet<u32>,
+    times: Result<Option<Items<Carried>>, Memory>,
+) -> Result<Option<CarriedTimes>, Memory>
+    ensures { IfOk result (λ found. IfSome found (IsJoined seeds.keys nodes.keys times)) }
+{
+    match times {
+        Ok(Some(times)) => Ok(Some(CarriedTimes {
+            seeds,
+            nodes,
+            times,
+        })),
+        Ok(None) => Ok(None),
+        Err(wanting) => Err(wanting),
+    }
+}
+
 /// How late, and how early, the paths that an edit changes arrive at the nodes behind it, in the base or in
 /// the edited design. `base` with its rows and delays `before`, and `graph` with its own `after`, are the two
 /// designs, analysed whole; `seeds` has those of the edit that touched `touched`, and `nodes` the seeds with
@@ -175,16 +194,10 @@ pub fn carried_times<A: Rows + Delayed>(
     graph.laws();
     base.store().laws();
     graph.store().laws();
-    let old = Side::new(before, base.count());
-    let new = Side::new(after, graph.count());
     let seeds = number_set(alloc, seeds)?;
     let nodes = by_level(alloc, graph, nodes)?;
-    match walked(alloc, &old, &new, graph, &seeds, &nodes)? {
-        Some(times) => Ok(Some(CarriedTimes {
-            seeds,
-            nodes,
-            times,
-        })),
-        None => Ok(None),
-    }
+    let old = Side::new(before, base.count());
+    let new = Side::new(after, graph.count());
+    let times = walked(alloc, &old, &new, graph, &seeds, &nodes);
+    with_times(seeds, nodes, times)
 }
