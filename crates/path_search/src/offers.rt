@@ -1,6 +1,6 @@
 //! What the nodes of a fan-in cone offer as launches of paths to its end nodes.
 
-ghost use Rattle.std.specs.Prelude.{◌≡◌, ◌++◌, ◌∷◌, ◌<◌, ◌≤◌, ◌^◌, [], true, Some, All, length, IfOk, OnOk};
+ghost use Rattle.std.specs.Prelude.{◌≡◌, ◌++◌, ◌∷◌, ◌<◌, ◌≤◌, ◌^◌, [], ℤ, true, Option, Some, All, length, IfOk, OnOk};
 ghost use Rattle.timing_defs.specs.Netlist.{Node};
 ghost use Rattle.timing_defs.specs.Paths.{named};
 ghost use Rattle.timing_defs.specs.Tests.{data_split};
@@ -152,6 +152,69 @@ fn add_offer(launches: &mut Items<Launch>, place: u32, offer: Option<i64>) -> Re
     }
 }
 
+/// Adds what the node at a place of a list offers for two end nodes.
+fn add_node_offers<A: Rows + Delayed>(
+    alloc: Global,
+    sources: &Sources<'_, A>,
+    tests: &PinTests,
+    made: &mut PinOffers,
+    place: u32,
+    node: u32,
+    rise: u32,
+    fall: u32,
+) -> Result<(), Memory>
+    requires sources { AreSources sources.now.store.now sources.now.graph.now (A.rows sources.now.arrivals.now) (A.delays sources.now.arrivals.now) sources.now.tree.now }
+    requires rises { AreEndTestsOf sources.now.graph.now sources.now.kind rise tests.now.rise }
+    requires falls { AreEndTestsOf sources.now.graph.now sources.now.kind fall tests.now.fall }
+    requires node { node < node_bound sources.now.store.now }
+    requires rise_there { is_number sources.now.store.now.pins (pin_under rise) ≡ true }
+    requires fall_there { is_number sources.now.store.now.pins (pin_under fall) ≡ true }
+    ensures rise { OnOk result ((offer : Option ℤ) × IsOfferOf sources.now.store.now sources.now.kind node rise offer × (made.new.rise ≡ made.old.rise ++ put_offer place offer)) }
+    ensures fall { OnOk result ((offer : Option ℤ) × IsOfferOf sources.now.store.now sources.now.kind node fall offer × (made.new.fall ≡ made.old.fall ++ put_offer place offer)) }
+{
+    let offered = node_offers(alloc, sources, tests, node, rise, fall)?;
+    add_offer(&mut made.rise, place, offered.rise)?;
+    add_offer(&mut made.fall, place, offered.fall)
+}
+
+/// What each node of a list offers for the tests of two end nodes, in the order of the list.
+fn tested_offers<A: Rows + Delayed>(
+    alloc: Global,
+    sources: &Sources<'_, A>,
+    tests: &PinTests,
+    nodes: &[u32],
+    rise: u32,
+    fall: u32,
+) -> Result<PinOffers, Memory>
+    requires sources { AreSources sources.now.store.now sources.now.graph.now (A.rows sources.now.arrivals.now) (A.delays sources.now.arrivals.now) sources.now.tree.now }
+    requires rises { AreEndTestsOf sources.now.graph.now sources.now.kind rise tests.now.rise }
+    requires falls { AreEndTestsOf sources.now.graph.now sources.now.kind fall tests.now.fall }
+    requires nodes { All (λ node. node < node_bound sources.now.store.now) nodes.now }
+    requires few { length nodes.now ≤ 2 ^ 32 }
+    requires rise_there { is_number sources.now.store.now.pins (pin_under rise) ≡ true }
+    requires fall_there { is_number sources.now.store.now.pins (pin_under fall) ≡ true }
+    ensures rises { IfOk result (λ made. (node : Node) → node_at sources.now.store.now rise ≡ Some node → AreOffers sources.now.store.now sources.now.kind nodes.now (named node) made.rise) }
+    ensures falls { IfOk result (λ made. (node : Node) → node_at sources.now.store.now fall ≡ Some node → AreOffers sources.now.store.now sources.now.kind nodes.now (named node) made.fall) }
+{
+    let mut made = PinOffers {
+        rise: Items::new(alloc),
+        fall: Items::new(alloc),
+    };
+    for (place, node) in nodes.iter().enumerate() {
+        add_node_offers(
+            alloc,
+            sources,
+            tests,
+            &mut made,
+            place as u32,
+            *node,
+            rise,
+            fall,
+        )?;
+    }
+    Ok(made)
+}
+
 /// What each node of a list offers for two end nodes that are there, in the order of the list: the least
 /// slack of the node's paths to the end node in fs, less the delays after it. Takes as many steps as the
 /// launch nodes of the list times the tests of the end nodes, and the exceptions that are tried for each.
@@ -173,15 +236,5 @@ pub(crate) fn offers<A: Rows + Delayed>(
     ensures falls { IfOk result (λ made. (node : Node) → node_at sources.now.store.now fall ≡ Some node → AreOffers sources.now.store.now sources.now.kind nodes.now (named node) made.fall) }
 {
     let tests = pin_tests(alloc, sources, rise, fall)?;
-    let mut rises = Items::new(alloc);
-    let mut falls = Items::new(alloc);
-    for (place, node) in nodes.iter().enumerate() {
-        let offered = node_offers(alloc, sources, &tests, *node, rise, fall)?;
-        add_offer(&mut rises, place as u32, offered.rise)?;
-        add_offer(&mut falls, place as u32, offered.fall)?;
-    }
-    Ok(PinOffers {
-        rise: rises,
-        fall: falls,
-    })
+    tested_offers(alloc, sources, &tests, nodes, rise, fall)
 }

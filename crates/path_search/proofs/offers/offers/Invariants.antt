@@ -1,7 +1,0 @@
-use Rattle.path_search.proofs.OfferLists.{AreOffersUpTo}
-use Rattle.path_search.proofs.offers.offers.Given as goal
-
-abbrev pub invariant-loop-place : goal.invariant-loop-place
-invariant-loop-place g l =
-    AreOffersUpTo l.sources.store.now l.sources.kind l.nodes l.rise l.rises l.place
-    × AreOffersUpTo l.sources.store.now l.sources.kind l.nodes l.fall l.falls l.place
