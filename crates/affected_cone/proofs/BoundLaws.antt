@@ -1,8 +1,8 @@
 -- What tells that an endpoint keeps a slack, by what its pin and its nodes tell.
 
-use Rattle.std.proofs.Common.{◌≡◌, ◌⊎◌, ℕ, ◌+◌, ◌*◌, ◌<◌, ◌^◌, ℤ, Bool, true, false, not, List, [], length, get_or, Option, None, Some, refl, sym, ap, subst, ◌∙◌, inl, inr, arith}
-use Rattle.std.specs.Prelude.{All, Contains, find, nat_eq, ◌&&◌, ◌||◌, option_map, IfSome}
-use Rattle.std.specs.List.{filter_map, list_any}
+use Rattle.std.proofs.Common.{◌≡◌, ℕ, ◌+◌, ◌*◌, ◌<◌, ◌^◌, ℤ, Bool, true, false, not, List, [], length, get_or, Option, None, Some, refl, sym, ap, subst, ◌∙◌, inl, inr, arith}
+use Rattle.std.specs.Prelude.{All, Contains, find, nat_eq, ◌||◌, option_map, IfSome}
+use Rattle.std.specs.List.{list_any}
 use Rattle.std.specs.Option.{option_map_or}
 use Rattle.std.proofs.lemmas.List.Elements.{All-contains_itself}
 use Rattle.std.proofs.lemmas.Bool.{cases_Bool, false≢true, true≢false, eqb-true, and_from}
@@ -20,12 +20,12 @@ use Rattle.timing_defs.specs.Cones.{Touch}
 use Rattle.timing_defs.specs.Tests.{data_split}
 use Rattle.timing_defs.proofs.Members.{some_is, none_in, any_in, found_in, found_passes, in_filter_map_back}
 use Rattle.netlist_store.specs.Linked.{IsLinked}
-use Rattle.netlist_store.specs.Numbering.{Stored, name_at, number_of, is_number, inst_numbered, owner_number, IsNumbered}
+use Rattle.netlist_store.specs.Numbering.{Stored, name_at, is_number, inst_numbered, owner_number, IsNumbered}
 use Rattle.netlist_store.specs.Applying.{IsEditOf}
 use Rattle.store_pins.proofs.PinLaws.{told_at, below_bound, there}
 use Rattle.level_workers.specs.Mapped.{IsMap}
 use Rattle.pin_graph.specs.Joins.{own_number}
-use Rattle.pin_graph.specs.Nodes.{node_number, pin_under, tran_under, node_bound}
+use Rattle.pin_graph.specs.Nodes.{node_number, pin_under, tran_under}
 use Rattle.pin_graph.specs.Graphs.{Graphed, IsGraph}
 use Rattle.pin_graph.proofs.NodeLaws.{number_again}
 use Rattle.edit_reach.specs.Reach.{is_in, HasSeeds, AreBehind}
@@ -37,7 +37,7 @@ use Rattle.carried_times.specs.Ordered.{AreSame}
 use Rattle.carried_times.specs.Carry.{time_of}
 use Rattle.carried_times.specs.Sides.{time_at, AreCarriedTimes}
 use Rattle.affected_cone.specs.declared.ends.EndSlacks.{EndSlacks}
-use Rattle.affected_cone.specs.Analysed.{is_end, ends_of, slack_in, IsEnd}
+use Rattle.affected_cone.specs.Analysed.{ends_of, slack_in, IsEnd}
 use Rattle.affected_cone.specs.Bounds.{is_reached, is_other_reached, HasRoom, HasRooms, IsAlone, IsKeptSlack, IsLeftNode, AreLeftNodes, IsSlackAt}
 use Rattle.affected_cone.proofs.BoundedEnds.{slack_kept}
 use Rattle.affected_cone.proofs.MapLaws.{item_of}
@@ -169,6 +169,9 @@ not_true false e = refl
 -- what holds of a value that is there
 pub told_some : {X : Type 0} (P : X → Type 0) (o : Option X) (x : X) → o ≡ Some x → IfSome o P → P x
 told_some {X} P o x e h = subst (λ (p : Option X). IfSome p P) e h
+
+pub some_told : {X : Type 0} (P : X → Type 0) (o : Option X) (x : X) → o ≡ Some x → P x → IfSome o P
+some_told {X} P o x e h = subst (λ (p : Option X). IfSome p P) (sym e) h
 
 -- the pins of an instance are in range
 pub own_lows : (s : Stored) (n top : ℕ) → top ≡ length s.pins → top < 2 ^ 31 → (pins : List ℕ) → pins ≡ inst_pins_at s n → All (λ q. q < 2 ^ 31) pins

@@ -1,6 +1,6 @@
 -- An endpoint keeps its slack where its tests are kept and the times that are carried to its nodes leave more.
 
-use Rattle.std.proofs.Common.{◌≡◌, ◌⊎◌, ℕ, ◌+ℤ◌, ◌-ℤ◌, ℤ, pos, Bool, true, false, List, [], Option, None, Some, refl, sym, ap, subst, ◌∙◌, inl, inr, arith}
+use Rattle.std.proofs.Common.{◌≡◌, ◌⊎◌, ℕ, ◌+ℤ◌, ◌-ℤ◌, ℤ, pos, false, List, [], Option, None, Some, refl, sym, ap, subst, ◌∙◌, inl, inr, arith}
 use Rattle.std.specs.Prelude.{Contains, find, IfSome, ◌&&◌, ◌<ℤ◌, nat_eq, option_map, option_and_then}
 use Rattle.std.specs.Option.{option_map_or}
 use Rattle.std.proofs.lemmas.Bool.{cases_Bool, false≢true, and_parts, eqb-true}
@@ -14,15 +14,15 @@ use Rattle.timing_defs.specs.declared.kinds.Kind.TheVariants.{Setup, Hold}
 use Rattle.timing_defs.specs.declared.design.Design.{Design}
 use Rattle.timing_defs.specs.Netlist.{Pin, Node, name_of, same_tran}
 use Rattle.timing_defs.specs.Cones.{Touch, is_seed}
-use Rattle.timing_defs.specs.Paths.{Named, named, node_named, IsSlack}
+use Rattle.timing_defs.specs.Paths.{node_named, IsSlack}
 use Rattle.timing_defs.specs.Rows.{arrival, empty_row, row, time_on, times_in}
 use Rattle.timing_defs.specs.Tests.{Test, data_split, tests_at}
 use Rattle.timing_defs.proofs.Members.{some_is, found_in, found_passes}
-use Rattle.netlist_store.specs.Numbering.{Stored, name_at, number_of, IsNumbered}
+use Rattle.netlist_store.specs.Numbering.{name_at, number_of, IsNumbered}
 use Rattle.netlist_store.specs.Applying.{IsEditOf}
 use Rattle.eco_laws.proofs.EditOf.{numbers_kept}
 use Rattle.store_pins.proofs.PinLaws.{HasNumber, pin_told}
-use Rattle.pin_graph.specs.Nodes.{node_number, number_at, node_at}
+use Rattle.pin_graph.specs.Nodes.{node_number, number_at}
 use Rattle.pin_graph.specs.Graphs.{Graphed, IsGraph}
 use Rattle.pin_graph.specs.RowTables.{row_numbered}
 use Rattle.pin_graph.proofs.JoinLaws.{then_back, mapped_back}
@@ -32,14 +32,14 @@ use Rattle.calm_laws.proofs.NoSeedCalm.{no_seed_calm}
 use Rattle.calm_laws.proofs.QuietNodes.{told_node, named_in}
 use Rattle.edit_reach.specs.Reach.{HasSeeds, AreBehind}
 use Rattle.edit_reach.proofs.QuietReach.{linked, linked2}
-use Rattle.bounded_changes.specs.Agreed.{Steps, tests_of}
-use Rattle.bounded_changes.specs.Carried.{arrival_named, AreArrivals, IsLowest, room, Arrives, IsShieldedFrom, IsShielded}
+use Rattle.bounded_changes.specs.Agreed.{tests_of}
+use Rattle.bounded_changes.specs.Carried.{room, Arrives, IsShieldedFrom, IsShielded}
 use Rattle.bounded_changes.proofs.Shielded.{slack_stays}
 use Rattle.carried_times.specs.declared.walking.CarriedTimes.{CarriedTimes}
 use Rattle.carried_times.specs.Carry.{time_of}
 use Rattle.carried_times.specs.KeptPins.{IsKeptPin}
 use Rattle.carried_times.specs.Sides.{time_at, AreCarriedTimes}
-use Rattle.carried_times.specs.Times.{AreTimes, gone_time, time_or, time_named}
+use Rattle.carried_times.specs.Times.{gone_time, time_or, time_named}
 use Rattle.carried_times.specs.Unseeded.{steps_left}
 use Rattle.carried_times.proofs.KeptEnds.{one as pin_of_end, kept_end}
 use Rattle.carried_times.proofs.StepPairs.{numbered, one_number}

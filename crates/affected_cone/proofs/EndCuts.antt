@@ -1,14 +1,13 @@
 -- Endpoints that keep their slacks, by rising numbers of those that are searched again.
 
 use Rattle.std.proofs.Common.{◌≡◌, ℕ, zero, suc, ◌+◌, ◌<◌, ◌≤◌, Bool, false, not, List, [], ◌∷◌, ◌-◌, cond, length, get_or, take, drop, Option, Some, None, refl, sym, ap, subst, ◌∙◌, inl, inr, arith}
-use Rattle.std.specs.Prelude.{nat_eq, nat_lt, Contains, ◌||◌, if◌then◌else◌, slice_index}
-use Rattle.std.specs.List.{position, position_or_len, IsDistinct}
+use Rattle.std.specs.Prelude.{nat_lt, Contains, ◌||◌, if◌then◌else◌, slice_index}
+use Rattle.std.specs.List.{position, position_or_len}
 use Rattle.std.specs.List.Sorted.{IsStrictlyIncreasing}
 use Rattle.std.proofs.lemmas.Bool.{cases_lt, lt-ltb, le-ltb, cases_eq, eq-eqb, ne_eqb}
 use Rattle.std.proofs.lemmas.List.{get_or_default, take_all, length-drop}
 use Rattle.timing_defs.proofs.Members.{some_is, first_in, later_in}
 use Rattle.netlist_store.specs.Numbering.{Stored}
-use Rattle.level_cone.proofs.Counts.{rising_distinct}
 use Rattle.edit_reach.specs.Reach.{is_in}
 use Rattle.affected_cone.specs.declared.ends.EndSlacks.{EndSlacks}
 use Rattle.affected_cone.specs.Cuts.{from_number, begins_with, cut_end, IsRisingOf}
@@ -135,9 +134,6 @@ module _ (dirty rest more : List ℕ) (ends : List EndSlacks) (i : ℕ) (other :
 -- numbers put in rising order
 pub rising_pins : (numbers sorted pins : List ℕ) → IsRisingOf numbers sorted → pins ≡ sorted → IsStrictlyIncreasing pins
 rising_pins numbers sorted pins is e = subst (λ (xs : List ℕ). IsStrictlyIncreasing xs) (sym e) is.rising
-
-pub pins_distinct : (numbers sorted pins : List ℕ) → IsRisingOf numbers sorted → pins ≡ sorted → IsDistinct nat_eq pins
-pins_distinct numbers sorted pins is e = rising_distinct pins (rising_pins numbers sorted pins is e)
 
 pub rising_kept : (base edited : Stored) (dirty numbers sorted pins : List ℕ) → numbers ≡ dirty → IsRisingOf numbers sorted → pins ≡ sorted → AreKeptEnds base edited dirty
     → AreKeptEnds base edited pins

@@ -57,6 +57,10 @@ is_other_reached nodes pin other = not (nat_eq other pin) && is_reached nodes ot
 abbrev pub IsAlone : Stored → List ℕ → ℕ → Type 0
 IsAlone s nodes pin = (k inst : ℕ) → is_in nodes k ≡ true → owner_number s pin ≡ Some inst → owner_number s (pin_under k) ≡ Some inst → pin_under k ≡ pin
 
+-- times are carried, and none to another pin of a pin's instance
+abbrev pub StandsAlone : Weighed → ℕ → Type 0
+StandsAlone w pin = IfSome w.carried (λ c. IsAlone w.search.now.store.now c.nodes.keys pin)
+
 -- a node that is no seed and off the clock network, with the slew that it had in a split
 pub record IsLeftNode (base : Stored) (g : Graphed) (seeds : List ℕ) (split : Split) (node : ℕ) : Type 0 where
   pub unseeded : is_in seeds node ≡ false

@@ -73,14 +73,19 @@ impl Analysis {
     {
         store.laws();
         graph.laws();
-        let found = find_all(rt, alloc, store, &graph, workers, gate)?;
-        Ok(Analysis {
-            graph,
-            arrivals: found.arrivals,
-            required: found.required,
-            tree: found.tree,
-            ends: found.ends,
-        })
+        match find_all(rt, alloc, store, &graph, workers, gate) {
+            Ok(found) => Ok(Analysis {
+                graph,
+                arrivals: found.arrivals,
+                required: found.required,
+                tree: found.tree,
+                ends: found.ends,
+            }),
+            Err(fault) => {
+                graph.discard();
+                Err(fault)
+            }
+        }
     }
 
     /// The analysis of the store that an ECO made of this analysis's store; `touched` is what the ECO
@@ -122,16 +127,21 @@ impl Analysis {
             tree: &self.tree,
             ends: self.ends.as_slice(),
         };
-        let found = find_after(
+        match find_after(
             rt, alloc, &base, store, &graph, touched, workers, gate, steps,
-        )?;
-        Ok(Analysis {
-            graph,
-            arrivals: found.arrivals,
-            required: found.required,
-            tree: found.tree,
-            ends: found.ends,
-        })
+        ) {
+            Ok(found) => Ok(Analysis {
+                graph,
+                arrivals: found.arrivals,
+                required: found.required,
+                tree: found.tree,
+                ends: found.ends,
+            }),
+            Err(fault) => {
+                graph.discard();
+                Err(fault)
+            }
+        }
     }
 
     /// What every analysis keeps, told to the proofs of callers; the call does nothing.

@@ -3,16 +3,16 @@
 ghost use Rattle.std.specs.Prelude.{◌≡◌, ◌<◌, ◌<ℤ◌, ◌^◌, ℤ, true, All, Some, IfOk, IfSome, option_map};
 ghost use Rattle.std.specs.List.{list_any};
 ghost use Rattle.timing_defs.specs.Rows.{slew_in};
-ghost use Rattle.timing_defs.specs.Tests.{data_split};
 ghost use Rattle.netlist_store.specs.Numbering.{is_number};
 ghost use Rattle.netlist_store.specs.Applying.{IsEditOf};
 ghost use Rattle.pin_graph.specs.Nodes.{node_bound, pin_under};
 ghost use Rattle.edit_reach.specs.Reach.{HasSeeds, AreBehind};
 ghost use Rattle.bounded_changes.specs.Carried.{room};
 ghost use Rattle.carried_times.specs.KeptPins.{IsKeptPin};
+ghost use Rattle.carried_times.specs.Sides.{AreCarriedTimes};
 ghost use Rattle.required_engine.specs.Updated.{touch_of};
 ghost use Rattle.affected_cone.specs.Analysed.{is_end, slack_in, IsEnd, IsSearch};
-ghost use Rattle.affected_cone.specs.Bounds.{is_reached, is_other_reached, HasRoom, HasRooms, IsAlone, IsKeptSlack, IsLeftNode, AreLeftNodes, IsSlackAt, IsWeighed};
+ghost use Rattle.affected_cone.specs.Bounds.{is_reached, is_other_reached, HasRoom, HasRooms, IsAlone, StandsAlone, IsKeptSlack, IsLeftNode, AreLeftNodes, IsSlackAt, IsWeighed};
 ghost use Rattle.affected_cone.specs.Updated.{IsBase};
 
 use crate::ends::{EndSlacks, Search, find_end, is_end};
@@ -24,15 +24,50 @@ use netlist_store::Touched;
 use path_search::{Sources, end_low, worst_slack};
 use sta_units::{Fs, Memory};
 use std::alloc::Global;
-use timing_defs::{Kind, NodeRow, Rows, Split};
+use timing_defs::{Kind, NodeRow, Split};
 
-/// What tells of an endpoint of an edited store whether it keeps its slacks. Where times are far from 0 nothing is
-/// carried, and none is told to keep them.
+/// What tells of an endpoint of an edited store whether it keeps its slacks. Where times are far from 0, or nodes behind
+/// the ECO are many, nothing is carried, and none is told to keep them.
 #[derive(Drop)]
 pub(crate) struct Weighed<'a> {
     pub(crate) base: &'a Base<'a>,
     pub(crate) search: &'a Search<'a>,
     pub(crate) carried: Option<CarriedTimes>,
+}
+
+/// More nodes than that are behind an ECO at the clock network, as a rule: few of its endpoints would keep their
+/// slacks, and no times are carried to them.
+const MOST_BEHIND: usize = 4096;
+
+/// The times carried from the seeds of an ECO to the nodes behind them; none where these are many.
+fn carried_behind(
+    alloc: Global,
+    base: &Base<'_>,
+    search: &Search<'_>,
+    touched: &Touched,
+    seeds: &[u32],
+    nodes: &[u32],
+) -> Result<Option<CarriedTimes>, Memory>
+    requires base { IsBase base.now }
+    requires search { IsSearch search.now }
+    requires made { IsEditOf base.now.graph.now.stored (touch_of touched.now) search.now.store.now }
+    requires seeds { HasSeeds base.now.graph.now.stored search.now.store.now (touch_of touched.now) seeds.now }
+    requires behind { AreBehind search.now.graph.now seeds.now nodes.now }
+    ensures { IfOk result (λ found. IfSome found (AreCarriedTimes base.now.graph.now.stored search.now.graph.now.stored seeds.now nodes.now)) }
+{
+    if nodes.len() > MOST_BEHIND {
+        return Ok(None);
+    }
+    carried_times(
+        alloc,
+        base.graph,
+        base.arrivals,
+        search.graph,
+        search.arrivals,
+        touched,
+        seeds,
+        nodes,
+    )
 }
 
 /// The same, by the seeds of an ECO and the nodes behind them.
@@ -53,31 +88,12 @@ pub(crate) fn weigh<'a>(
     ensures base { IfOk result (λ w. w.base.now ≡ base.now) }
     ensures search { IfOk result (λ w. w.search.now ≡ search.now) }
 {
-    let carried = carried_times(
-        alloc,
-        base.graph,
-        base.arrivals,
-        search.graph,
-        search.arrivals,
-        touched,
-        seeds,
-        nodes,
-    )?;
+    let carried = carried_behind(alloc, base, search, touched, seeds, nodes)?;
     Ok(Weighed {
         base,
         search,
         carried,
     })
-}
-
-/// The split of the data that a kind of test compares.
-fn data_split(kind: Kind) -> Split
-    ensures { result ≡ data_split kind }
-{
-    match kind {
-        Kind::Setup => Split::Late,
-        Kind::Hold => Split::Early,
-    }
 }
 
 /// Whether what a time leaves of a lowest slack is more than a slack; it is where one of the two is not there.
@@ -144,7 +160,7 @@ fn has_room(
         kind,
     };
     let row = base.arrivals.row(node);
-    let low = end_low(alloc, &sources, node, row.times(data_split(kind)))?;
+    let low = end_low(alloc, &sources, node, row.times(kind.data_split()))?;
     Ok(is_more(kind, low, time, slack))
 }
 
@@ -165,7 +181,7 @@ fn has_rooms(
     requires low { pin < 2 ^ 31 }
     ensures { IfOk result (λ is. is ≡ true → HasRooms base.now.graph.now.stored search.now.store.now carried.now kind pin slack.0) }
 {
-    let split = data_split(kind);
+    let split = kind.data_split();
     let rise = carried.at(2 * pin).of(split);
     let fall = carried.at(2 * pin + 1).of(split);
     if has_room(alloc, base, search, kind, 2 * pin, rise, slack)? {
@@ -226,6 +242,17 @@ fn is_alone(
     }
 }
 
+/// Whether times are carried, and none to another pin of a pin's instance.
+fn stands_alone(alloc: Global, weighed: &Weighed<'_>, pin: u32) -> Result<bool, Memory>
+    requires { is_number weighed.now.search.now.store.now.pins pin ≡ true }
+    ensures { IfOk result (λ is. is ≡ true → StandsAlone weighed.now pin) }
+{
+    match &weighed.carried {
+        Some(carried) => is_alone(alloc, weighed.search, carried, pin),
+        None => Ok(false),
+    }
+}
+
 /// Whether a node is no seed, was there before, and keeps its slew in a split, off the clock network.
 fn is_left(
     base: &Base<'_>,
@@ -265,38 +292,37 @@ fn are_left(
         && is_left(base, search, carried, split, 2 * pin + 1)
 }
 
-/// Whether the tests of an endpoint are kept.
+/// Whether the tests of an endpoint are kept, by whether it is alone.
 fn keeps_tests(
-    alloc: Global,
     base: &Base<'_>,
     search: &Search<'_>,
     carried: &CarriedTimes,
+    alone: bool,
     split: Split,
     pin: u32,
-) -> Result<bool, Memory>
+) -> bool
     requires base { IsBase base.now }
     requires search { IsSearch search.now }
     requires there { is_number search.now.store.now.pins pin ≡ true }
     requires low { pin < 2 ^ 31 }
-    ensures { IfOk result (λ is. is ≡ true → IsKeptPin base.now.graph.now.stored search.now.graph.now carried.now.seeds.keys carried.now.nodes.keys split pin) }
+    requires alone { alone ≡ true → IsAlone search.now.store.now carried.now.nodes.keys pin }
+    ensures { result ≡ true → IsKeptPin base.now.graph.now.stored search.now.graph.now carried.now.seeds.keys carried.now.nodes.keys split pin }
 {
-    if are_left(base, search, carried, split, pin) {
-        is_alone(alloc, search, carried, pin)
-    } else {
-        Ok(false)
-    }
+    alone && are_left(base, search, carried, split, pin)
 }
 
-/// Whether an endpoint keeps a slack of a kind, if it had it.
+/// Whether an endpoint keeps a slack of a kind, if it had it, by whether it is alone.
 fn keeps(
     alloc: Global,
     weighed: &Weighed<'_>,
+    alone: bool,
     kind: Kind,
     slack: Fs,
     pin: u32,
 ) -> Result<bool, Memory>
     requires weighed { IsWeighed weighed.now }
     requires there { is_number weighed.now.search.now.store.now.pins pin ≡ true }
+    requires alone { alone ≡ true → StandsAlone weighed.now pin }
     ensures { IfOk result (λ is. is ≡ true → IsKeptSlack weighed.now.base.now.graph.now.stored weighed.now.search.now.store.now kind pin slack.0) }
 {
     let Some(carried) = &weighed.carried else {
@@ -310,7 +336,7 @@ fn keeps(
     search.store.laws();
     // All pins' numbers are below that.
     let _ = search.store.pin_bound();
-    if keeps_tests(alloc, base, search, carried, data_split(kind), pin)? {
+    if keeps_tests(base, search, carried, alone, kind.data_split(), pin) {
         has_rooms(alloc, base, search, carried, kind, slack, pin)
     } else {
         Ok(false)
@@ -336,39 +362,43 @@ fn old_slack(base: &Base<'_>, kind: Kind, pin: u32) -> Option<Fs>
     slack_of(&end, kind)
 }
 
-/// The slack of a kind that an endpoint keeps; none where it has to be searched for.
+/// The slack of a kind that an endpoint keeps, by whether it is alone; none where it has to be searched for.
 fn kept_slack(
     alloc: Global,
     weighed: &Weighed<'_>,
+    alone: bool,
     kind: Kind,
     pin: u32,
 ) -> Result<Option<Fs>, Memory>
     requires weighed { IsWeighed weighed.now }
     requires there { is_number weighed.now.search.now.store.now.pins pin ≡ true }
+    requires alone { alone ≡ true → StandsAlone weighed.now pin }
     ensures { IfOk result (λ kept. IfSome kept (λ slack. IsSlackAt weighed.now.search.now.store.now kind pin (Some slack.0))) }
 {
     let Some(slack) = old_slack(weighed.base, kind, pin) else {
         return Ok(None);
     };
-    if keeps(alloc, weighed, kind, slack, pin)? {
+    if keeps(alloc, weighed, alone, kind, slack, pin)? {
         Ok(Some(slack))
     } else {
         Ok(None)
     }
 }
 
-/// The slack of a kind of an endpoint: that which it keeps, or else by a search.
+/// The slack of a kind of an endpoint: that which it keeps, by whether it is alone, or else by a search.
 fn slack_after(
     alloc: Global,
     weighed: &Weighed<'_>,
+    alone: bool,
     kind: Kind,
     pin: u32,
 ) -> Result<Option<Fs>, Memory>
     requires weighed { IsWeighed weighed.now }
     requires pin { is_end weighed.now.search.now.store.now pin ≡ true }
+    requires alone { alone ≡ true → StandsAlone weighed.now pin }
     ensures { IfOk result (λ slack. IsSlackAt weighed.now.search.now.store.now kind pin (option_map (λ s. s.0) slack)) }
 {
-    if let Some(slack) = kept_slack(alloc, weighed, kind, pin)? {
+    if let Some(slack) = kept_slack(alloc, weighed, alone, kind, pin)? {
         return Ok(Some(slack));
     }
     let Search {
@@ -388,8 +418,9 @@ pub(crate) fn end_after(alloc: Global, weighed: &Weighed<'_>, pin: u32) -> Resul
     requires pin { is_end weighed.now.search.now.store.now pin ≡ true }
     ensures { IfOk result (IsEnd weighed.now.search.now.store.now pin) }
 {
-    let setup = slack_after(alloc, weighed, Kind::Setup, pin)?;
-    let hold = slack_after(alloc, weighed, Kind::Hold, pin)?;
+    let alone = stands_alone(alloc, weighed, pin)?;
+    let setup = slack_after(alloc, weighed, alone, Kind::Setup, pin)?;
+    let hold = slack_after(alloc, weighed, alone, Kind::Hold, pin)?;
     Ok(EndSlacks { pin, setup, hold })
 }
 

@@ -237,6 +237,57 @@ fn rising(alloc: Global, numbers: &[u32]) -> Result<Items<u32>, Memory>
     Ok(distinct(copy))
 }
 
+/// The endpoints of a base that keep their slacks, and those found anew, in the order of their numbers.
+fn joined(
+    alloc: Global,
+    dirty: &[u32],
+    ends: &[EndSlacks],
+    found: &[EndSlacks],
+) -> Result<Items<EndSlacks>, Memory>
+    requires dirty { IsStrictlyIncreasing dirty.now }
+    requires ends { AreRising ends.now }
+    ensures { IfOk result (IsInOrder (filter_map (kept_end dirty.now) ends.now ++ found.now)) }
+{
+    let mut all = kept_ends(alloc, dirty, ends)?;
+    add_ends(&mut all, found)?;
+    in_order(all)
+}
+
+/// The slacks of all endpoints of an edited store, by those of the base, and the pins to which the edit leads, with the
+/// endpoints among them.
+fn renewed_with<H: Threads + Sync>(
+    rt: &H,
+    alloc: Global,
+    weighed: &Weighed<'_>,
+    pins: &[u32],
+    again: &[u32],
+) -> Result<Items<EndSlacks>, Memory>
+    requires weighed { IsWeighed weighed.now }
+    requires kept { AreKeptEnds weighed.now.base.now.graph.now.stored weighed.now.search.now.store.now pins.now }
+    requires rising { IsStrictlyIncreasing pins.now }
+    requires again { again.now ≡ filter_map (end_number weighed.now.search.now.store.now) pins.now }
+    ensures { IfOk result (IsMap (IsEnd weighed.now.search.now.store.now) (ends_of weighed.now.search.now.store.now)) }
+{
+    let found = searched(rt, alloc, weighed, again)?;
+    joined(alloc, pins, weighed.base.ends, found.as_slice())
+}
+
+/// The same, by rising pins to which the edit leads.
+fn renewed_at<H: Threads + Sync>(
+    rt: &H,
+    alloc: Global,
+    weighed: &Weighed<'_>,
+    pins: &[u32],
+) -> Result<Items<EndSlacks>, Memory>
+    requires weighed { IsWeighed weighed.now }
+    requires kept { AreKeptEnds weighed.now.base.now.graph.now.stored weighed.now.search.now.store.now pins.now }
+    requires rising { IsStrictlyIncreasing pins.now }
+    ensures { IfOk result (IsMap (IsEnd weighed.now.search.now.store.now) (ends_of weighed.now.search.now.store.now)) }
+{
+    let again = ends_among(alloc, weighed.search.store, pins)?;
+    renewed_with(rt, alloc, weighed, pins, again.as_slice())
+}
+
 /// The slacks of all endpoints of an edited store, by those of the base, the pins to which the edit leads,
 /// and those of the base that are gone.
 fn renewed<H: Threads + Sync>(
@@ -250,13 +301,7 @@ fn renewed<H: Threads + Sync>(
     ensures { IfOk result (IsMap (IsEnd weighed.now.search.now.store.now) (ends_of weighed.now.search.now.store.now)) }
 {
     let numbers = rising(alloc, dirty)?;
-    let pins = numbers.as_slice();
-    let mut all = kept_ends(alloc, pins, weighed.base.ends)?;
-    let again = ends_among(alloc, weighed.search.store, pins)?;
-    let found = searched(rt, alloc, weighed, again.as_slice())?;
-    add_ends(&mut all, found.as_slice())?;
-    let sorted = in_order(all)?;
-    Ok(sorted)
+    renewed_at(rt, alloc, weighed, numbers.as_slice())
 }
 
 /// The pins to which the edit leads, and those of the base that are gone: every other one is an endpoint in both
@@ -288,7 +333,7 @@ fn other_pins(
 /// The slacks of all endpoints of the store that an ECO made of a base, by those of the base's. `seeds` are
 /// the nodes at which the ECO begins to change paths, and `nodes` these and all behind them. An endpoint is
 /// weighed where one of `nodes` is of it or of another pin of its instance, and searched for where paths through
-/// what changed may have less slack; every other one keeps its slacks. Takes time of these nodes and searches, and
+/// what changed may have less slack, or where `nodes` are thousands; every other one keeps its slacks. Takes time of these nodes and searches, and
 /// goes through the list of endpoints a few times.
 pub(crate) fn ends_after<H: Threads + Sync>(
     rt: &H,

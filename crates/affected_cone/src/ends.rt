@@ -112,7 +112,7 @@ pub(crate) fn all_ends(alloc: Global, store: &Store) -> Result<Items<u32>, Memor
 }
 
 /// The slacks of an endpoint, by a search for each kind.
-pub(crate) fn end_slacks(alloc: Global, search: &Search<'_>, pin: u32) -> Result<EndSlacks, Memory>
+fn end_slacks(alloc: Global, search: &Search<'_>, pin: u32) -> Result<EndSlacks, Memory>
     requires search { IsSearch search.now }
     requires pin { is_end search.now.store.now pin ≡ true }
     ensures { IfOk result (IsEnd search.now.store.now pin) }

@@ -1,6 +1,5 @@
-use Rattle.std.proofs.Common.{◌≡◌, Bool, true, false, not, sym, ap, ◌∙◌}
+use Rattle.std.proofs.Common.{sym, ap, ◌∙◌}
 use Rattle.std.specs.List.{list_any}
-use Rattle.std.proofs.lemmas.Bool.{false≢true}
 use Rattle.affected_cone.specs.Bounds.{is_other_reached}
 use Rattle.affected_cone.proofs.BoundLaws.{alone, port_alone, own_lows, not_true}
 use Rattle.affected_cone.proofs.bounds.is_alone.Goals as goal

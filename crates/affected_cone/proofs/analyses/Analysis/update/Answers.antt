@@ -17,5 +17,5 @@ find_after-requires-clause-made g c κs within =
 
 pub invariant_of-result : goal.invariant_of-result
 invariant_of-result g c =
-    found_analysis c.args.store.now c.args.graph c.in_ok-found.found c.requires.graph c.requires.sound c.laws.ensures.numbered c.laws.ensures.linked c.laws-2.ensures
-    c.in_ok-found.ensures.found
+    found_analysis c.args.store.now c.args.graph c.in-Ok.found c.requires.graph c.requires.sound c.laws.ensures.numbered c.laws.ensures.linked c.laws-2.ensures
+    c.in-Ok.ensures.found

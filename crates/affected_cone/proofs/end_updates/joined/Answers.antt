@@ -1,0 +1,12 @@
+use Rattle.std.proofs.Common.{◌++◌, List, ap, subst, ◌∙◌}
+use Rattle.affected_cone.specs.declared.ends.EndSlacks.{EndSlacks}
+use Rattle.affected_cone.specs.Cuts.{IsInOrder}
+use Rattle.affected_cone.proofs.SearchLaws.{ok_more}
+use Rattle.affected_cone.proofs.end_updates.joined.Goals as goal
+
+pub returns : goal.returns
+returns c =
+    ok_more c.in_order.result
+    (λ sorted h.
+    subst (λ (all : List EndSlacks). IsInOrder all sorted) (c.in_ok-add_ends.ensures ∙ ap (λ (es : List EndSlacks). es ++ c.args.found.now) c.in_ok-all.ensures) h)
+    c.in_order.ensures
