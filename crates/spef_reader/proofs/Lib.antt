@@ -1,4 +1,5 @@
 pub mod NameMapLemmas
+pub mod WordLemmas
 pub mod NodeLemmas
 pub mod JoinLemmas
 pub mod ValueLemmas

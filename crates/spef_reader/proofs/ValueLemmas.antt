@@ -1,8 +1,9 @@
 -- The form of a decimal is the same in all units, and a value with a size has no fault.
-use Rattle.std.proofs.Common.{◌≡◌, ℕ, ◌+◌, Bool, true, false, not, ◌&&◌, List, ◌++◌, length, refl, sym, ◌∙◌}
-use Rattle.std.specs.Prelude.{ℤ, pos, ◌+ℤ◌, ◌-ℤ◌, ◌||◌, nat_lt, Option, Some, None, is_some, option_and_then, Ok, Err}
+use Rattle.std.proofs.Common.{◌≡◌, ℕ, ◌+◌, Bool, true, false, not, ◌&&◌, List, ◌++◌, length, refl, sym, ap, ◌∙◌}
+use Rattle.std.specs.Prelude.{ℤ, pos, ◌+ℤ◌, ◌-ℤ◌, ◌||◌, nat_lt, Option, Some, None, is_some, option_and_then, Result, Ok, Err}
 use Rattle.std.proofs.lemmas.Bool.{cond_both}
 use Rattle.sta_units.specs.Numbers.{is_within}
+use Rattle.sta_units.specs.declared.decimals.DecFault.{DecFault}
 use Rattle.sta_units.specs.declared.decimals.DecFault.TheVariants.{TooLong, OutOfUnitRange}
 use Rattle.sta_units.specs.declared.units.Unit.{Unit as Power}
 use Rattle.sta_units.specs.Decimal.{Written, written_of, number_on, signed, scaled, in_range, value_or_fault, decimal_of}
@@ -22,6 +23,34 @@ written_form (Some w) ten =
 pub decimal_in_any : (word : List ℕ) → is_decimal word ≡ has_form (decimal_of word (pos 40))
 unfolding decimal_of
 decimal_in_any word = written_form (written_of word) (pos 0) ∙ sym (written_form (written_of word) (pos 40))
+
+-- a word with a size is a decimal
+form_of_size : (r : Result ℤ DecFault) → is_some (size_of r) ≡ true → has_form r ≡ true
+form_of_size (Ok z) h = refl
+form_of_size (Err e) h = cc
+
+sized_decimal : (unit : Option Power) (word : List ℕ) → is_some (size_in unit word) ≡ true → is_decimal word ≡ true
+unfolding decimal_of
+sized_decimal None word h = cc
+sized_decimal (Some power) word h =
+    written_form (written_of word) (pos 0) ∙ sym (written_form (written_of word) power.ten) ∙ form_of_size (decimal_of word power.ten) h
+
+alone : (word : List ℕ) → is_decimal word ≡ true → written word ≡ Some word
+unfolding written
+alone word h = rw h refl
+
+-- a decimal with a size is the value itself
+pub sized_value : (unit : Option Power) (word : List ℕ) (n : ℕ) → size_in unit word ≡ Some n → value_of unit word ≡ Some n
+sized_value unit word n h =
+    ap (option_and_then (size_in unit)) (alone word (sized_decimal unit word (ap is_some h))) ∙ h
+
+-- what has a size has the form of a value
+pub sized_form : (unit : Option Power) (word : List ℕ) → is_some (value_of unit word) ≡ true → is_some (written word) ≡ true
+sized_form unit word h = by (written word) h
+  where
+    by : (found : Option (List ℕ)) → is_some (option_and_then (size_in unit) found) ≡ true → is_some found ≡ true
+    by None g = cc
+    by (Some text) g = refl
 
 same_twice : (b : Bool) → (b && b) ≡ b
 same_twice true = refl

@@ -33,6 +33,10 @@ is_this (Some mark) b = b == mark
 abbrev pub unescaped : Bus → ℕ → ℕ
 unescaped bus b = (if is_this bus.opening b then 91 else (if is_this bus.closing b then 93 else b))
 
+-- a byte that stands for itself wherever it stands
+abbrev pub is_plain : Bus → ℕ → Bool
+is_plain bus b = not (b == 92) && unescaped bus b == b
+
 -- the name that a word spells; its first byte may be escaped
 unfoldable pub spelled : Bus → Bool → List ℕ → List ℕ
 spelled bus escaped [] = []

@@ -1,23 +1,24 @@
 //! The sections of nets: connections, capacitances and resistances.
 
-ghost use Rattle.std.specs.Prelude.{◌≡◌, ◌++◌, ◌∷◌, List, true, false, not, is_some, codes, IfOk};
+ghost use Rattle.std.specs.Prelude.{◌≡◌, ◌++◌, ◌∷◌, List, true, false, not, is_some, codes, ◌&&◌, IfOk, MatchOption};
 ghost use Rattle.sta_text.specs.Tokens.{tok_of};
 ghost use Rattle.spef_reader.specs.declared.events.Event.{Event};
 ghost use Rattle.spef_reader.specs.declared.events.Event.TheVariants as event;
 ghost use Rattle.spef_reader.specs.Ahead.{first_fits};
-ghost use Rattle.spef_reader.specs.Words.{is_pin_row, is_no_value, value_of};
+ghost use Rattle.spef_reader.specs.Words.{is_pin_row, is_no_value, value_of, written};
 ghost use Rattle.spef_reader.specs.Nodes.{name_of};
-ghost use Rattle.spef_reader.specs.Grammar.{is_text, noted, unknown_name, bad_number, events, net_name, total, behind_total, width, parts, conn_row, conn_node, direction, cap_row, cap_node, cap_next, cap_value, res_row, res_first, res_second, res_value, section};
+ghost use Rattle.spef_reader.specs.Grammar.{is_text, is_word, noted, unknown_name, bad_number, events, net_name, total, behind_total, width, parts, conn_row, conn_node, direction, cap_row, cap_node, cap_next, cap_value, res_row, res_first, res_second, res_value, section};
 ghost use Rattle.spef_reader.specs.Reads.{Reads, ReadsValue, ReadsRow, conn_place};
 
 use crate::context::Context;
 use crate::events::Event;
 use crate::nodes::{name_of, node};
+use crate::sizes::Size;
 use crate::tokens::{Stop, Tokens, any, is, is_bad, is_word, leave_out, note, push, unexpected};
-use crate::values::{value, written};
+use crate::values::{formed_value, note_value, value};
 use crate::words::{is_direction, is_net_word, is_pin_row, is_reference, is_section, is_whole};
 use sta_text::Token;
-use sta_units::Memory;
+use sta_units::{Memory, Unit};
 use std::alloc::Global;
 use timing_defs::{Code, Name, RcNode};
 
@@ -295,16 +296,29 @@ fn cap_value<'a>(
     Ok(())
 }
 
-/// Writes a capacitance to ground, of which the value was taken.
+/// The size of a token that is a value; none where it is none.
+fn value_in(unit: Option<Unit>, token: &Token<'_>) -> Option<Option<Size>>
+    ensures { MatchOption result ((is_word (tok_of token.now) && is_some (written (tok_of token.now).text)) ≡ false) (λ size. ((is_word (tok_of token.now) && is_some (written (tok_of token.now).text)) ≡ true) × (size ≡ value_of unit (tok_of token.now).text)) }
+{
+    if is_word(token) {
+        formed_value(unit, token.text)
+    } else {
+        None
+    }
+}
+
+/// Writes a capacitance to ground, of which the value was taken and has this size.
 fn ground(
     context: &Context<'_>,
     out: &mut Vec<Event>,
     a: Option<RcNode>,
     word: &Token<'_>,
+    size: Option<Size>,
 ) -> Result<(), Memory>
+    requires { size ≡ value_of context.now.header.farad (tok_of word.now).text }
     ensures { IfOk result (λ _. (rest : List Event) → out.new.items ++ rest ≡ out.old.items ++ noted (is_no_value context.now.header.farad (tok_of word.now).text) (bad_number word.now.start) (event.Ground a (value_of context.now.header.farad (tok_of word.now).text) ∷ rest)) }
 {
-    let size = value(out, context.header.farad, word)?;
+    note_value(out, context.header.farad, word, &size)?;
     push(out, Event::Ground(a, size))
 }
 
@@ -322,8 +336,8 @@ fn cap_next<'a>(
     ensures { Reads result context.now (cap_next net.now at a) context.now (cap_row net.now true) tokens.old tokens.new out.old.items out.new.items }
 {
     let word = any(context, tokens, out)?;
-    if is_word(&word) && written(word.text).is_some() {
-        ground(context, out, a, &word)?;
+    if let Some(size) = value_in(context.header.farad, &word) {
+        ground(context, out, a, &word, size)?;
         return Ok(());
     }
     let b = node(alloc, context, out, net, word)?;

@@ -11,7 +11,7 @@ ghost use Rattle.spef_reader.specs.Grammar.{fault, is_text, is_word, is_string, 
 
 use crate::context::Context;
 use crate::events::Event;
-use crate::words::{is_header_word, is_index, is_pin_row, is_whole, mark_of};
+use crate::words::{is_header_word, is_index, is_pin_row, is_text, is_whole, mark_of};
 use sta_text::{Cursor, Token, Wrong, begins};
 use sta_units::Memory;
 use std::alloc::AllocFailed;
@@ -68,7 +68,7 @@ impl<'a> Model for Tokens<'a> {
 pub(crate) fn is(token: &Token<'_>, text: &[u8]) -> bool
     ensures { result ≡ is_text (tok_of token.now) text.now }
 {
-    token.text == text
+    is_text(token.text, text)
 }
 
 pub(crate) fn is_word(token: &Token<'_>) -> bool

@@ -1,6 +1,6 @@
 //! The values of a text of parasitics, and the factors of its units.
 
-ghost use Rattle.std.specs.Prelude.{◌≡◌, ◌≤◌, ◌++◌, List, length, Some, None, is_some, option_and_then, not, take, IfOk, IfSome, MatchOption};
+ghost use Rattle.std.specs.Prelude.{◌≡◌, ◌≤◌, ◌++◌, List, length, Some, None, is_some, true, false, option_and_then, not, take, IfOk, IfSome, MatchOption};
 ghost use Rattle.std.specs.List.{list_all, prefix_len};
 ghost use Rattle.sta_units.specs.Decimal.{decimal_of};
 ghost use Rattle.sta_text.specs.Tokens.{tok_of};
@@ -92,13 +92,36 @@ fn size_in(unit: Option<Unit>, text: &[u8]) -> Option<Size>
     }
 }
 
-/// The size of a value in a unit; none where it is no value, or the unit is not known.
+/// The size of a value in a unit; none where it is no value, or the unit is not known. A decimal alone is looked at once.
+#[tactic(auto, using(crate::proofs::ValueLemmas::sized_value))]
 pub(crate) fn value_of(unit: Option<Unit>, word: &[u8]) -> Option<Size>
+    ensures { result ≡ value_of unit word.now }
+{
+    match size_in(unit, word) {
+        Some(size) => Some(size),
+        None => written_size(unit, word),
+    }
+}
+
+fn written_size(unit: Option<Unit>, word: &[u8]) -> Option<Size>
     ensures { result ≡ value_of unit word.now }
 {
     match written(word) {
         None => None,
         Some(text) => size_in(unit, text),
+    }
+}
+
+/// The size of a word that has the form of a value; none where it has not.
+#[tactic(auto, using(crate::proofs::ValueLemmas::sized_form))]
+pub(crate) fn formed_value(unit: Option<Unit>, word: &[u8]) -> Option<Option<Size>>
+    ensures { MatchOption result (is_some (written word.now) ≡ false) (λ size. (is_some (written word.now) ≡ true) × (size ≡ value_of unit word.now)) }
+{
+    let size = value_of(unit, word);
+    if size.is_some() || written(word).is_some() {
+        Some(size)
+    } else {
+        None
     }
 }
 
@@ -124,8 +147,22 @@ fn is_no_value(unit: Option<Unit>, word: &[u8]) -> bool
     }
 }
 
-/// Reads a value, and notes its fault.
+/// Notes the fault of a value, of which this is the size.
 #[tactic(auto, using(crate::proofs::ValueLemmas::flawed_unsized))]
+pub(crate) fn note_value(
+    out: &mut Vec<Event>,
+    unit: Option<Unit>,
+    token: &Token<'_>,
+    size: &Option<Size>,
+) -> Result<(), Memory>
+    requires { size.now ≡ value_of unit (tok_of token.now).text }
+    ensures { IfOk result (λ _. (rest : List Event) → out.new.items ++ rest ≡ out.old.items ++ noted (is_no_value unit (tok_of token.now).text) (bad_number token.now.start) rest) }
+{
+    let flawed = size.is_none() && is_no_value(unit, token.text);
+    note(out, flawed, Code::SpefBadNumber, token.start)
+}
+
+/// Reads a value, and notes its fault.
 pub(crate) fn value(
     out: &mut Vec<Event>,
     unit: Option<Unit>,
@@ -134,8 +171,7 @@ pub(crate) fn value(
     ensures { IfOk result (λ size. (size ≡ value_of unit (tok_of token.now).text) × ((rest : List Event) → out.new.items ++ rest ≡ out.old.items ++ noted (is_no_value unit (tok_of token.now).text) (bad_number token.now.start) rest)) }
 {
     let size = value_of(unit, token.text);
-    let flawed = size.is_none() && is_no_value(unit, token.text);
-    note(out, flawed, Code::SpefBadNumber, token.start)?;
+    note_value(out, unit, token, &size)?;
     Ok(size)
 }
 

@@ -1,11 +1,12 @@
 //! The words of a text of parasitics.
 
-ghost use Rattle.std.specs.Prelude.{◌≡◌, ◌<◌, ◌≤◌, ◌++◌, ◌∷◌, [], false, length, None, IfOk, IfSome, if◌then◌else◌};
+ghost use Rattle.std.specs.Prelude.{◌≡◌, ◌<◌, ◌≤◌, ◌++◌, ◌∷◌, [], false, length, drop, ◌&&◌, ◌==◌, None, IfOk, IfSome, if◌then◌else◌};
 ghost use Rattle.std.specs.Char.{is_ascii_digit};
 ghost use Rattle.std.specs.List.{list_all, prefix_len};
+ghost use Rattle.std.specs.Str.{bytes_eq};
 ghost use Rattle.sta_units.specs.Decimal.{is_whole};
 ghost use Rattle.timing_defs.specs.Names.{is_graphic};
-ghost use Rattle.spef_reader.specs.Words.{is_mark, begins_mark, escapes, is_this, unescaped, spelled, behind, is_zero, is_index, index_of, is_spelled, is_reference, last_at, parts_of, sides_of, are_references, begins_digit, is_node, mark_of, is_pin_delimiter, delimiter_of, is_text_word, is_header_word, is_other_unit, is_passed, is_attribute, is_port_word, is_left_out, is_section, is_net_word, is_direction, is_pin_row};
+ghost use Rattle.spef_reader.specs.Words.{is_mark, begins_mark, escapes, is_this, unescaped, spelled, is_plain, behind, is_zero, is_index, index_of, is_spelled, is_reference, last_at, parts_of, sides_of, are_references, begins_digit, is_node, mark_of, is_pin_delimiter, delimiter_of, is_text_word, is_header_word, is_other_unit, is_passed, is_attribute, is_port_word, is_left_out, is_section, is_net_word, is_direction, is_pin_row};
 
 use crate::context::Bus;
 use sta_text::begins;
@@ -91,16 +92,56 @@ fn push_spelled(
     }
 }
 
+/// Whether the byte stands for itself wherever it stands.
+fn is_plain(bus: Bus, byte: u8) -> bool
+    ensures { result ≡ is_plain bus byte }
+{
+    byte != b'\\' && bus.unescaped(byte) == byte
+}
+
+/// How many bytes that stand for themselves the word begins with.
+fn plain_len(bus: Bus, word: &[u8]) -> usize
+    ensures value { result ≡ prefix_len (is_plain bus) word.now }
+    ensures within { result ≤ length word.now }
+{
+    word.iter().take_while(|byte| is_plain(bus, **byte)).count()
+}
+
+fn is_at_once(escaped: bool, run: usize) -> bool
+    ensures { result ≡ (escaped && run == 0) }
+{
+    escaped && run == 0
+}
+
+/// Adds what the first byte of a word and the plain bytes behind it spell: how many these are, and
+/// whether the next byte is escaped.
+#[tactic(auto, using(crate::proofs::WordLemmas::spelled_piece))]
+fn add_piece(
+    name: &mut Vec<u8>,
+    bus: Bus,
+    escaped: bool,
+    byte: u8,
+    rest: &[u8],
+) -> Result<(usize, bool), Memory>
+    ensures value { IfOk result (λ piece. name.new.items ++ spelled bus piece.1 (drop piece.0 rest.now) ≡ name.old.items ++ spelled bus escaped (byte ∷ rest.now)) }
+    ensures within { IfOk result (λ piece. piece.0 ≤ length rest.now) }
+{
+    push_spelled(name, bus, escaped, byte, rest)?;
+    let run = plain_len(bus, rest);
+    name.extend_from_slice(rest.split_at(run).0)?;
+    Ok((run, is_at_once(escapes(escaped, byte, rest), run)))
+}
+
 /// Adds the bytes of the name that a word spells.
-#[tactic(auto, unfolding(crate::specs::Words::spelled), using(std::proofs::lemmas::List::drop_more))]
 pub(crate) fn add_spelled(name: &mut Vec<u8>, bus: Bus, word: &[u8]) -> Result<(), Memory>
     ensures { IfOk result (λ _. name.new.items ≡ name.old.items ++ spelled bus false word.now) }
 {
     let mut escaped = false;
-    for (i, byte) in word.iter().enumerate() {
-        let rest = word.split_at(i + 1).1;
-        push_spelled(name, bus, escaped, *byte, rest)?;
-        escaped = escapes(escaped, *byte, rest);
+    let mut rest = word;
+    'pieces: while let Some((byte, behind)) = rest.split_first() {
+        let (run, next) = add_piece(name, bus, escaped, *byte, behind)?;
+        escaped = next;
+        rest = behind.split_at(run).1;
     }
     Ok(())
 }
@@ -121,6 +162,17 @@ fn behind(word: &[u8]) -> &[u8]
         None => word,
         Some((_, rest)) => rest,
     }
+}
+
+/// Whether the word is these bytes. Words mostly differ in their length.
+#[tactic(auto, using(crate::proofs::WordLemmas::unlike))]
+pub(crate) fn is_text(word: &[u8], text: &[u8]) -> bool
+    ensures { result ≡ bytes_eq word.now text.now }
+{
+    if word.len() != text.len() {
+        return false;
+    }
+    word == text
 }
 
 fn all_digits(word: &[u8]) -> bool
@@ -289,10 +341,10 @@ pub(crate) fn is_header_word(word: &[u8]) -> bool
 pub(crate) fn is_passed(word: &[u8]) -> bool
     ensures { result ≡ is_passed word.now }
 {
-    word == b"*PORTS".as_slice()
-        || word == b"*PHYSICAL_PORTS".as_slice()
-        || word == b"*POWER_NETS".as_slice()
-        || word == b"*GROUND_NETS".as_slice()
+    is_text(word, b"*PORTS")
+        || is_text(word, b"*PHYSICAL_PORTS")
+        || is_text(word, b"*POWER_NETS")
+        || is_text(word, b"*GROUND_NETS")
 }
 
 /// Whether the word begins an attribute of a port.
@@ -317,12 +369,12 @@ pub(crate) fn is_port_word(delimiter: Option<u8>, word: &[u8]) -> bool
 pub(crate) fn is_left_out(word: &[u8]) -> bool
     ensures { result ≡ is_left_out word.now }
 {
-    word == b"*R_NET".as_slice()
-        || word == b"*D_PNET".as_slice()
-        || word == b"*R_PNET".as_slice()
-        || word == b"*DEFINE".as_slice()
-        || word == b"*PDEFINE".as_slice()
-        || word == b"*VARIATION_PARAMETERS".as_slice()
+    is_text(word, b"*R_NET")
+        || is_text(word, b"*D_PNET")
+        || is_text(word, b"*R_PNET")
+        || is_text(word, b"*DEFINE")
+        || is_text(word, b"*PDEFINE")
+        || is_text(word, b"*VARIATION_PARAMETERS")
 }
 
 /// Whether the word begins a section.
@@ -330,10 +382,7 @@ pub(crate) fn is_left_out(word: &[u8]) -> bool
 pub(crate) fn is_section(word: &[u8]) -> bool
     ensures { result ≡ is_section word.now }
 {
-    word == b"*NAME_MAP".as_slice()
-        || word == b"*D_NET".as_slice()
-        || is_passed(word)
-        || is_left_out(word)
+    is_text(word, b"*NAME_MAP") || is_text(word, b"*D_NET") || is_passed(word) || is_left_out(word)
 }
 
 /// Whether the word begins a part of a net, or ends the net.
@@ -341,23 +390,23 @@ pub(crate) fn is_section(word: &[u8]) -> bool
 pub(crate) fn is_net_word(word: &[u8]) -> bool
     ensures { result ≡ is_net_word word.now }
 {
-    word == b"*CONN".as_slice()
-        || word == b"*CAP".as_slice()
-        || word == b"*RES".as_slice()
-        || word == b"*INDUC".as_slice()
-        || word == b"*END".as_slice()
+    is_text(word, b"*CONN")
+        || is_text(word, b"*CAP")
+        || is_text(word, b"*RES")
+        || is_text(word, b"*INDUC")
+        || is_text(word, b"*END")
 }
 
 /// Whether the word is the direction of a connection.
 pub(crate) fn is_direction(word: &[u8]) -> bool
     ensures { result ≡ is_direction word.now }
 {
-    word == b"I".as_slice() || word == b"O".as_slice() || word == b"B".as_slice()
+    is_text(word, b"I") || is_text(word, b"O") || is_text(word, b"B")
 }
 
 /// Whether the word begins a connection of a port or of an instance's pin.
 pub(crate) fn is_pin_row(word: &[u8]) -> bool
     ensures { result ≡ is_pin_row word.now }
 {
-    word == b"*P".as_slice() || word == b"*I".as_slice()
+    is_text(word, b"*P") || is_text(word, b"*I")
 }
