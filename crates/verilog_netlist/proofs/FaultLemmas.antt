@@ -1,16 +1,14 @@
 -- The least fault of lists of faults that stand one behind another.
 use Rattle.std.proofs.Common.{◌≡◌, ℕ, List, [], ◌∷◌, ◌++◌, Bool, true, false, if◌then◌else◌, Option, Some, None, refl, ap, ◌∙◌}
 use Rattle.std.specs.Prelude.{is_some}
-use Rattle.std.proofs.lemmas.Bool.{false≢true}
 use Rattle.sta_text.specs.declared.faults.Wrong.{Wrong}
 use Rattle.sta_text.specs.Faults.{least_from}
 use Rattle.sta_text.proofs.FaultsLemmas.{least_append, least_none}
 use Rattle.sta_text.specs.Tokens.{Tok}
 use Rattle.verilog_netlist.specs.declared.events.Event.{Event}
-use Rattle.verilog_netlist.specs.declared.events.Event.TheVariants.{Module, Header, Declared, CellWord, Instance, Pin, Connection, Fault}
+use Rattle.verilog_netlist.specs.declared.events.Event.TheVariants.{Module, Fault}
 use Rattle.verilog_netlist.specs.Grammar.{events, start, events_of}
 use Rattle.verilog_netlist.specs.Modules.{module_name}
-use Rattle.verilog_netlist.specs.Events.{is_instance}
 use Rattle.verilog_netlist.specs.Faults.{is_empty, wrongs, strays, header_doubles, declaration_faults, nothing, instance_doubles, instance_excess, pin_doubles, whole_vectors, all_vectors, all_directed, all_declared, undirected, undeclared_bits, net_excess, stops, early_faults, net_faults, whole_faults, faults_of}
 
 pub least_early : (best : Option Wrong) (es : List Event) → least_from best (early_faults es)
@@ -96,15 +94,3 @@ has_name size (t ∷ u ∷ us) h = either _ _ _ (either _ _ _ (named _ _) (fault
 
 pub is_named : (bytes : List ℕ) → faults_of (events_of bytes) ≡ [] → is_some (module_name (events_of bytes)) ≡ true
 is_named bytes h = has_name _ _ (front (wrongs (events_of bytes)) (strays [] (events_of bytes)) (no_stop (events_of bytes) h))
-
--- the pins of an instance are looked at by themselves
-pub restarts : (names : List (List ℕ)) (e : Event) (es : List Event) → is_instance e ≡ true → pin_doubles names (e ∷ es) ≡ pin_doubles [] (e ∷ es)
-unfolding pin_doubles
-restarts names (Instance cell name at) es h = refl
-restarts names (Module name) es h = absurd (false≢true h)
-restarts names (Header name at) es h = absurd (false≢true h)
-restarts names (Declared kind name at) es h = absurd (false≢true h)
-restarts names (CellWord at) es h = absurd (false≢true h)
-restarts names (Pin name at) es h = absurd (false≢true h)
-restarts names (Connection pin net) es h = absurd (false≢true h)
-restarts names (Fault w) es h = absurd (false≢true h)

@@ -46,6 +46,12 @@ insts_of [] = []
 insts_of (Instance cell name at ∷ es) = record { name = name; cell = cell; conns = conns_of es } ∷ insts_of es
 insts_of (e ∷ es) = insts_of es
 
+-- the instances of these events, where one has begun before them: they have more connections of it
+abbrev pub begun_insts : Option Inst → List Event → List Inst
+begun_insts None es = insts_of es
+begun_insts (Some inst) es =
+    record { name = inst.name; cell = inst.cell; conns = inst.conns ++ conns_of es } ∷ insts_of es
+
 unfoldable pub module_name : List Event → Option (List ℕ)
 module_name [] = None
 module_name (Named name ∷ es) = Some name

@@ -7,11 +7,11 @@ ghost use Rattle.sta_text.specs.Names.{stands};
 ghost use Rattle.sta_text.specs.declared.faults.Wrong.{Wrong};
 ghost use Rattle.verilog_netlist.specs.declared.events.Event.{Event};
 ghost use Rattle.verilog_netlist.specs.declared.events.Event.TheVariants as event;
-ghost use Rattle.verilog_netlist.specs.Events.{is_instance};
 ghost use Rattle.verilog_netlist.specs.Faults.{wrongs, strays, header_doubles, instance_doubles, pin_doubles, whole_vectors, all_vectors, all_directed, undirected, vectors_with, with_name, instance_excess, limit, wrong};
 
 use crate::declarations::LIMIT;
 use crate::events::{Event, Kind, Net, Span};
+use crate::few::FewNames;
 use sta_text::{Names, Wrong, lesser};
 use sta_units::Memory;
 use std::alloc::Global;
@@ -230,34 +230,43 @@ pub(crate) fn instance_excess(events: &[Event], best: Option<Wrong>) -> Option<W
     best
 }
 
-/// Whether an instance begins.
-fn is_instance(event: &Event) -> bool
-    ensures { result ≡ is_instance event.now }
+/// Notes a pin's name that stands twice.
+fn note_pin<'a>(
+    names: &mut FewNames<'a>,
+    name: &'a Name,
+    at: usize,
+    best: Option<Wrong>,
+) -> Result<Option<Wrong>, Memory>
+    ensures { IfOk result (λ least. (names.new ≡ with_name names.old name.entry.now) × ((rest : List Wrong) → least_from least rest ≡ least_from best (if stands names.old name.entry.now then wrong Code.VerilogDoubleName at ∷ rest else rest))) }
 {
-    match event {
-        Event::Instance(_, _, _) => true,
-        _ => false,
+    if names.add(name.as_bytes())? {
+        return Ok(best);
     }
+    Ok(note(best, Code::VerilogDoubleName, at))
 }
 
-/// Notes a pin that is connected twice.
+/// Notes a pin that is connected twice; the pins of an instance are looked at by themselves.
 #[tactic(auto, unfolding(crate::specs::Faults::pin_doubles))]
 fn pin_double<'a>(
-    names: &mut Names<'a>,
+    alloc: Global,
+    names: &mut FewNames<'a>,
     event: &'a Event,
     best: Option<Wrong>,
 ) -> Result<Option<Wrong>, Memory>
-    requires { is_instance event.now ≡ true → names.old ≡ [] }
     ensures { IfOk result (λ least. (rest : List Event) → least_from least (pin_doubles names.new rest) ≡ least_from best (pin_doubles names.old (event.entry.now ∷ rest))) }
 {
     match event {
-        Event::Pin(name, at) => note_double(names, name, *at, best),
+        Event::Instance(_, _, _) => {
+            names.clear(alloc);
+            Ok(best)
+        }
+        Event::Pin(name, at) => note_pin(names, name, *at, best),
         _ => Ok(best),
     }
 }
 
 /// Pins that are connected twice.
-#[tactic(auto, unfolding(crate::specs::Faults::pin_doubles, sta_text::specs::Faults::least_from), using(std::proofs::lemmas::List::drop_more, crate::proofs::FaultLemmas::restarts))]
+#[tactic(auto, unfolding(crate::specs::Faults::pin_doubles, sta_text::specs::Faults::least_from), using(std::proofs::lemmas::List::drop_more))]
 pub(crate) fn pin_doubles(
     alloc: Global,
     events: &[Event],
@@ -265,32 +274,33 @@ pub(crate) fn pin_doubles(
 ) -> Result<Option<Wrong>, Memory>
     ensures { IfOk result (λ least. least ≡ least_from best (pin_doubles [] events.now)) }
 {
-    let mut names = Names::new(alloc);
+    let mut names = FewNames::new(alloc);
     let mut least = best;
     for event in events {
-        if is_instance(event) {
-            names = Names::new(alloc);
-        }
-        least = pin_double(&mut names, event, least)?;
+        least = pin_double(alloc, &mut names, event, least)?;
     }
     Ok(least)
 }
 
 /// Adds a declared name where it is a vector.
-fn add_vector<'a>(vectors: &mut Names<'a>, span: Option<Span>, name: &'a Name) -> Result<(), Memory>
+fn add_vector<'a>(
+    vectors: &mut FewNames<'a>,
+    span: Option<Span>,
+    name: &'a Name,
+) -> Result<(), Memory>
     ensures { IfOk result (λ _. vectors.new ≡ vectors_with vectors.old span name.entry.now) }
 {
     match span {
         None => Ok(()),
         Some(_) => {
-            let _ = is_new(vectors, name)?;
+            let _ = vectors.add(name.as_bytes())?;
             Ok(())
         }
     }
 }
 
 #[tactic(auto, unfolding(crate::specs::Faults::all_vectors))]
-fn vector<'a>(vectors: &mut Names<'a>, event: &'a Event) -> Result<(), Memory>
+fn vector<'a>(vectors: &mut FewNames<'a>, event: &'a Event) -> Result<(), Memory>
     ensures { IfOk result (λ _. (rest : List Event) → all_vectors vectors.new rest ≡ all_vectors vectors.old (event.entry.now ∷ rest)) }
 {
     match event {
@@ -301,10 +311,10 @@ fn vector<'a>(vectors: &mut Names<'a>, event: &'a Event) -> Result<(), Memory>
 
 /// All vectors.
 #[tactic(auto, unfolding(crate::specs::Faults::all_vectors), using(std::proofs::lemmas::List::drop_more))]
-pub(crate) fn all_vectors<'a>(alloc: Global, events: &'a [Event]) -> Result<Names<'a>, Memory>
+pub(crate) fn all_vectors<'a>(alloc: Global, events: &'a [Event]) -> Result<FewNames<'a>, Memory>
     ensures { IfOk result (λ vectors. vectors ≡ all_vectors [] events.entry.now) }
 {
-    let mut vectors = Names::new(alloc);
+    let mut vectors = FewNames::new(alloc);
     for event in events {
         vector(&mut vectors, event)?;
     }
@@ -313,7 +323,7 @@ pub(crate) fn all_vectors<'a>(alloc: Global, events: &'a [Event]) -> Result<Name
 
 /// Notes a vector that is connected whole.
 #[tactic(auto, unfolding(crate::specs::Faults::whole_vectors))]
-fn whole_net(vectors: &Names<'_>, net: &Net, best: Option<Wrong>) -> Option<Wrong>
+fn whole_net(vectors: &FewNames<'_>, net: &Net, best: Option<Wrong>) -> Option<Wrong>
     ensures { (pin : List ℕ) (rest : List Event) → least_from result (whole_vectors vectors.now rest) ≡ least_from best (whole_vectors vectors.now (event.Connection pin net.now ∷ rest)) }
 {
     match net {
@@ -329,7 +339,7 @@ fn whole_net(vectors: &Names<'_>, net: &Net, best: Option<Wrong>) -> Option<Wron
 
 #[tactic(auto, unfolding(crate::specs::Faults::whole_vectors))]
 fn whole_vector<'a>(
-    vectors: &mut Names<'a>,
+    vectors: &mut FewNames<'a>,
     event: &'a Event,
     best: Option<Wrong>,
 ) -> Result<Option<Wrong>, Memory>
@@ -348,7 +358,7 @@ fn whole_vector<'a>(
 /// Vectors that are connected whole, where these are known already.
 #[tactic(auto, unfolding(crate::specs::Faults::whole_vectors, sta_text::specs::Faults::least_from), using(std::proofs::lemmas::List::drop_more))]
 pub(crate) fn whole_vectors<'a>(
-    known: Names<'a>,
+    known: FewNames<'a>,
     events: &'a [Event],
     best: Option<Wrong>,
 ) -> Result<Option<Wrong>, Memory>

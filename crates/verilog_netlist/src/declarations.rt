@@ -12,10 +12,11 @@ ghost use Rattle.verilog_netlist.specs.Faults.{clashes, alike, declaring, is_wid
 
 use crate::checks::note;
 use crate::events::{Event, Kind, Net, Role, Span};
+use crate::few::FewNames;
 use crate::known::{Declared, Known};
 use crate::names::nets_of;
 use crate::nets::NetSet;
-use sta_text::{Names, Wrong};
+use sta_text::Wrong;
 use sta_units::Memory;
 use std::alloc::Global;
 use timing_defs::{Code, Items, Name};
@@ -230,7 +231,7 @@ fn add_implicit(
     alloc: Global,
     nets: &mut NetSet,
     declared: &Declared<'_>,
-    vectors: &Names<'_>,
+    vectors: &FewNames<'_>,
     name: &Name,
 ) -> Result<(), Memory>
     ensures { IfOk result (λ _. nets.new ≡ with_implicit declared.now vectors.now nets.old name.now) }
@@ -269,7 +270,7 @@ fn add_nets(
     alloc: Global,
     nets: &mut NetSet,
     declared: &Declared<'_>,
-    vectors: &Names<'_>,
+    vectors: &FewNames<'_>,
     event: &Event,
 ) -> Result<Option<Wrong>, Memory>
     ensures fault { IfOk result (λ found. (rest : List Event) → net_excess declared.now vectors.now nets.old (event.now ∷ rest) ≡ told found (net_excess declared.now vectors.now nets.new rest)) }
@@ -290,7 +291,7 @@ fn add_nets(
 pub(crate) fn all_nets(
     alloc: Global,
     declared: &Declared<'_>,
-    vectors: &Names<'_>,
+    vectors: &FewNames<'_>,
     events: &[Event],
 ) -> Result<Result<NetSet, Wrong>, Memory>
     ensures { IfOk result (λ found. MatchResult found (λ nets. (net_excess declared.now vectors.now [] events.now ≡ []) × (nets ≡ all_nets declared.now vectors.now [] events.now)) (λ w. net_excess declared.now vectors.now [] events.now ≡ w ∷ [])) }

@@ -8,6 +8,7 @@ mod covers;
 mod cursor;
 mod declarations;
 mod events;
+mod few;
 mod header;
 mod known;
 mod late;

@@ -5,13 +5,14 @@ ghost use Rattle.timing_defs.specs.declared.netlist.Conn.{Conn};
 ghost use Rattle.verilog_netlist.specs.declared.events.Event.{Event};
 ghost use Rattle.verilog_netlist.specs.declared.events.Event.TheVariants as event;
 ghost use Rattle.verilog_netlist.specs.Nets.{nets_of};
-ghost use Rattle.verilog_netlist.specs.Modules.{dir_of, port_of, ports_of, net_name, conns_of, insts_of, module_name, module_nets, module_of};
+ghost use Rattle.verilog_netlist.specs.Modules.{dir_of, port_of, ports_of, net_name, conns_of, insts_of, begun_insts, module_name, module_nets, module_of};
 
 use crate::events::{Event, Kind, Net, Role};
 use crate::names::nets_of;
 use crate::nets::NetSet;
 use sta_units::Memory;
 use std::alloc::Global;
+use std::mem;
 use timing_defs::{Conn, Dir, Inst, Items, Module, Name, Port};
 
 fn dir_of(role: Role) -> Dir
@@ -66,88 +67,91 @@ fn ports_of(alloc: Global, events: &[Event]) -> Result<Items<Port>, Memory>
     Ok(ports)
 }
 
-fn net_name(alloc: Global, net: &Net) -> Result<Option<Name>, Memory>
-    ensures { IfOk result (λ name. name ≡ net_name net.now) }
+/// The net of a connection; none for a constant or nothing.
+fn net_name(net: Net) -> Option<Name>
+    ensures { result ≡ net_name net }
 {
     match net {
-        Net::Tied => Ok(None),
-        Net::Alone(name, _) | Net::Bit(name, _) => Ok(Some(name.copied(alloc)?)),
+        Net::Tied => None,
+        Net::Alone(name, _) | Net::Bit(name, _) => Some(name),
     }
 }
 
-fn add_conn(alloc: Global, conns: &mut Items<Conn>, pin: &Name, net: &Net) -> Result<(), Memory>
-    ensures { IfOk result (λ _. conns.new ≡ conns.old ++ record { pin = pin.now; net = net_name net.now } ∷ []) }
-{
-    conns.push(Conn {
-        pin: pin.copied(alloc)?,
-        net: net_name(alloc, net)?,
-    })
-}
-
-/// Adds the connection of an event; whether the instance goes on.
-#[tactic(auto, unfolding(crate::specs::Modules::conns_of))]
-fn add_connected(alloc: Global, conns: &mut Items<Conn>, event: &Event) -> Result<bool, Memory>
-    ensures { IfOk result (λ more. (rest : List Event) → conns.old ++ conns_of (event.now ∷ rest) ≡ (if more then conns.new ++ conns_of rest else conns.new)) }
-{
-    match event {
-        Event::Connection(pin, net) => {
-            add_conn(alloc, conns, pin, net)?;
-            Ok(true)
-        }
-        Event::Instance(_, _, _) => Ok(false),
-        _ => Ok(true),
-    }
-}
-
-/// The connections up to the next instance.
-#[tactic(auto, unfolding(crate::specs::Modules::conns_of), using(std::proofs::lemmas::List::drop_more))]
-fn conns_of(alloc: Global, events: &[Event]) -> Result<Items<Conn>, Memory>
-    ensures { IfOk result (λ conns. conns ≡ conns_of events.now) }
-{
-    let mut conns = Items::new(alloc);
-    for event in events {
-        if !add_connected(alloc, &mut conns, event)? {
-            return Ok(conns);
-        }
-    }
-    Ok(conns)
-}
-
-fn inst(alloc: Global, cell: &Name, name: &Name, behind: &[Event]) -> Result<Inst, Memory>
-    ensures { IfOk result (λ inst. inst ≡ record { name = name.now; cell = cell.now; conns = conns_of behind.now }) }
-{
-    Ok(Inst {
-        name: name.copied(alloc)?,
-        cell: cell.copied(alloc)?,
-        conns: conns_of(alloc, behind)?,
-    })
-}
-
-/// Adds the instance of an event, of which the connections stand behind it.
-#[tactic(auto, unfolding(crate::specs::Modules::insts_of))]
-fn add_inst(
+/// Begins an instance; the one that had begun before has all its connections.
+#[tactic(auto, unfolding(crate::specs::Modules::insts_of, crate::specs::Modules::conns_of))]
+fn begin(
     alloc: Global,
     insts: &mut Items<Inst>,
-    event: &Event,
-    behind: &[Event],
+    begun: &mut Option<Inst>,
+    cell: Name,
+    name: Name,
 ) -> Result<(), Memory>
-    ensures { IfOk result (λ _. insts.new ++ insts_of behind.now ≡ insts.old ++ insts_of (event.now ∷ behind.now)) }
+    ensures { IfOk result (λ _. (at : ℕ) (rest : List Event) → insts.new ++ begun_insts begun.new rest ≡ insts.old ++ begun_insts begun.old (event.Instance cell name at ∷ rest)) }
+{
+    let inst = Inst {
+        name,
+        cell,
+        conns: Items::new(alloc),
+    };
+    match mem::replace(begun, Some(inst)) {
+        None => Ok(()),
+        Some(before) => insts.push(before),
+    }
+}
+
+/// Adds a connection to the instance that has begun, where one has.
+#[tactic(auto, unfolding(crate::specs::Modules::insts_of, crate::specs::Modules::conns_of))]
+fn join(begun: &mut Option<Inst>, pin: Name, net: Net) -> Result<(), Memory>
+    ensures { IfOk result (λ _. (rest : List Event) → begun_insts begun.new rest ≡ begun_insts begun.old (event.Connection pin net ∷ rest)) }
+{
+    match begun {
+        None => Ok(()),
+        Some(inst) => inst.conns.push(Conn {
+            pin,
+            net: net_name(net),
+        }),
+    }
+}
+
+/// Takes an event.
+#[tactic(auto, unfolding(crate::specs::Modules::insts_of, crate::specs::Modules::conns_of))]
+fn take_event(
+    alloc: Global,
+    insts: &mut Items<Inst>,
+    begun: &mut Option<Inst>,
+    event: Event,
+) -> Result<(), Memory>
+    ensures { IfOk result (λ _. (rest : List Event) → insts.new ++ begun_insts begun.new rest ≡ insts.old ++ begun_insts begun.old (event ∷ rest)) }
 {
     match event {
-        Event::Instance(cell, name, _) => insts.push(inst(alloc, cell, name, behind)?),
+        Event::Instance(cell, name, _) => begin(alloc, insts, begun, cell, name),
+        Event::Connection(pin, net) => join(begun, pin, net),
         _ => Ok(()),
     }
 }
 
+/// Adds the instance that has begun, where one has.
+#[tactic(auto, unfolding(crate::specs::Modules::insts_of, crate::specs::Modules::conns_of))]
+fn end(insts: &mut Items<Inst>, begun: Option<Inst>) -> Result<(), Memory>
+    ensures { IfOk result (λ _. insts.new ≡ insts.old ++ begun_insts begun []) }
+{
+    match begun {
+        None => Ok(()),
+        Some(inst) => insts.push(inst),
+    }
+}
+
 /// The instances, in the order of the text.
-#[tactic(auto, unfolding(crate::specs::Modules::insts_of), using(std::proofs::lemmas::List::drop_more))]
-fn insts_of(alloc: Global, events: &[Event]) -> Result<Items<Inst>, Memory>
-    ensures { IfOk result (λ insts. insts ≡ insts_of events.now) }
+#[tactic(auto, unfolding(crate::specs::Modules::insts_of), using(crate::proofs::ModuleLemmas::begun_last))]
+fn insts_of(alloc: Global, events: Vec<Event>) -> Result<Items<Inst>, Memory>
+    ensures { IfOk result (λ insts. insts ≡ insts_of events.items) }
 {
     let mut insts = Items::new(alloc);
-    for (i, event) in events.iter().enumerate() {
-        add_inst(alloc, &mut insts, event, events.split_at(i + 1).1)?;
+    let mut begun = None;
+    for event in events {
+        take_event(alloc, &mut insts, &mut begun, event)?;
     }
+    end(&mut insts, begun)?;
     Ok(insts)
 }
 
@@ -176,15 +180,15 @@ fn module_name(alloc: Global, events: &[Event]) -> Result<Name, Memory>
 }
 
 /// The module of a text without faults, of which these are the nets.
-pub(crate) fn module_of(alloc: Global, events: &[Event], nets: &NetSet) -> Result<Module, Memory>
-    requires named { is_some (module_name events.now) ≡ true }
-    requires nets { nets.now ≡ module_nets events.now }
-    ensures { IfOk result (λ module_. module_of events.now ≡ Some module_) }
+pub(crate) fn module_of(alloc: Global, events: Vec<Event>, nets: NetSet) -> Result<Module, Memory>
+    requires named { is_some (module_name events.items) ≡ true }
+    requires nets { nets ≡ module_nets events.items }
+    ensures { IfOk result (λ module_. module_of events.items ≡ Some module_) }
 {
     Ok(Module {
-        name: module_name(alloc, events)?,
-        ports: ports_of(alloc, events)?,
-        nets: nets.to_items(alloc)?,
+        name: module_name(alloc, events.as_slice())?,
+        ports: ports_of(alloc, events.as_slice())?,
+        nets: nets.into_items(alloc)?,
         insts: insts_of(alloc, events)?,
     })
 }

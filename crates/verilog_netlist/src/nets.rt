@@ -26,13 +26,13 @@ fn set_add(names: &mut IndexSet<Name>, name: Name) -> Result<bool, AllocFailed<N
     names.insert(name)
 }
 
-#[tactic(auto, using(std::proofs::lemmas::List::drop_more))]
-fn copies(alloc: Global, names: &[Name]) -> Result<Items<Name>, Memory>
-    ensures { IfOk result (λ found. found ≡ names.now) }
+/// The nets of a set, in its order.
+fn taken(alloc: Global, names: IndexSet<Name>) -> Result<Items<Name>, Memory>
+    ensures { IfOk result (λ found. found ≡ names.keys) }
 {
-    let mut found = Items::new(alloc);
+    let mut found = Items::with_room(alloc, names.len())?;
     for name in names {
-        found.push(name.copied(alloc)?)?;
+        found.push(name)?;
     }
     Ok(found)
 }
@@ -137,9 +137,10 @@ impl NetSet {
     }
 
     /// The nets, in the order in which they were added.
-    pub(crate) fn to_items(&self, alloc: Global) -> Result<Items<Name>, Memory>
-        ensures { IfOk result (λ nets. nets ≡ self.now) }
+    pub(crate) fn into_items(self, alloc: Global) -> Result<Items<Name>, Memory>
+        ensures { IfOk result (λ nets. nets ≡ self) }
     {
-        copies(alloc, self.names.as_slice())
+        let NetSet { names } = self;
+        taken(alloc, names)
     }
 }

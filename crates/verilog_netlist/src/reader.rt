@@ -15,10 +15,11 @@ use crate::checks::{
 };
 use crate::declarations::{Declarations, all_nets, declared_nets, undeclared_bits};
 use crate::events::Event;
+use crate::few::FewNames;
 use crate::known::Declared;
 use crate::modules::module_of;
 use crate::nets::NetSet;
-use sta_text::{Names, Wrong, lesser};
+use sta_text::{Wrong, lesser};
 use sta_units::Memory;
 use std::alloc::Global;
 use timing_defs::{Module, ReadFault};
@@ -110,7 +111,7 @@ fn check_broken(alloc: Global, events: &[Event], best: Option<Wrong>) -> Result<
     ensures { IfOk result (λ checked. checked.fault ≡ least_from best (whole_vectors [] events.now)) }
 {
     Ok(Checked {
-        fault: whole_vectors(Names::new(alloc), events, best)?,
+        fault: whole_vectors(FewNames::new(alloc), events, best)?,
         nets: NetSet::new(alloc),
     })
 }
@@ -153,10 +154,10 @@ fn whole_module(alloc: Global, bytes: &[u8]) -> Result<Module, ReadFault>
     ensures { MatchResult result (λ m. (faults_of (events_of bytes.now) ≡ []) × (module_of (events_of bytes.now) ≡ Some m)) (λ e. Fails e (faults_of (events_of bytes.now))) }
 {
     let events = events_of(alloc, bytes)?;
-    let checked = check(alloc, events.as_slice())?;
-    match checked.fault {
+    let Checked { fault, nets } = check(alloc, events.as_slice())?;
+    match fault {
         Some(wrong) => Err(wrong.told()),
-        None => Ok(module_of(alloc, events.as_slice(), &checked.nets)?),
+        None => Ok(module_of(alloc, events, nets)?),
     }
 }
 
