@@ -218,29 +218,30 @@ fn add_first<R: Wait + Abort>(
     board.publish(rt, seat, 0, next)
 }
 
+/// Asserts the notes of a log.
+fn assert_notes(rt: &impl Abort, log: &Log, want: &[Note]) {
+    assert_eq!(rt; log.notes.as_slice(), want);
+}
+
 #[test]
 fn a_late_seat_is_given_the_version_that_came_first(rt: HostRuntime) {
     let alloc = rt.alloc();
     let (board, mut one, mut two) = opened(&rt, alloc);
-    let first = Note { seat: 2, number: 0 };
     let count = add_first(&rt, alloc, &board, &mut two, 2)
         .ok()
         .expect(&rt, "a publication");
     assert_eq!(rt; count, 1);
     match add_first(&rt, alloc, &board, &mut one, 1) {
         Err(Unpublished::Moved { newest, back }) => {
-            assert_eq!(rt; newest.notes.as_slice(), [first].as_slice());
-            assert_eq!(rt;
-                back.notes.as_slice(),
-                [Note { seat: 1, number: 0 }].as_slice()
-            );
+            assert_notes(&rt, &newest, &[Note { seat: 2, number: 0 }]);
+            assert_notes(&rt, &back, &[Note { seat: 1, number: 0 }]);
         }
         _other => assert!(rt; false, "not moved"),
     }
     let taken = board.take(&rt, &mut one).expect(&rt, "memory");
-    assert_eq!(rt; taken.notes.as_slice(), [first].as_slice());
+    assert_notes(&rt, &taken, &[Note { seat: 2, number: 0 }]);
     let last = closed(&rt, alloc, board, one, two);
-    assert_eq!(rt; last.notes.as_slice(), [first].as_slice());
+    assert_notes(&rt, &last, &[Note { seat: 2, number: 0 }]);
 }
 
 #[test]

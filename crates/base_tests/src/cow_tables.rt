@@ -116,6 +116,25 @@ fn write_all<R: Threads + Sync + Abort>(
         .expect(rt, "memory")
 }
 
+/// Asserts that all items are zeros.
+fn assert_zeros(rt: &impl Abort, table: &CowTable<u64>) {
+    for i in 0..table.len() {
+        assert_eq!(rt; *table.get(i), 0, "at {i}");
+    }
+}
+
+/// Asserts that threads fill a table, and write it and not its copy.
+fn assert_written<R: Threads + Sync + Abort>(rt: &R, alloc: Global, workers: u32, count: u32) {
+    let len = count as usize;
+    let mut table = zeros(rt, alloc, workers, len);
+    assert_eq!(rt; table.len(), len);
+    let before = table.copy().expect(rt, "memory");
+    let refused = write_all(rt, alloc, workers, &mut table, count, count);
+    assert!(rt; refused.is_none());
+    assert_counted(rt, &table, len, 0);
+    assert_zeros(rt, &before);
+}
+
 #[test]
 fn threads_fill_a_table_and_write_it(rt: HostRuntime) {
     for &(count, workers) in &[
@@ -126,29 +145,23 @@ fn threads_fill_a_table_and_write_it(rt: HostRuntime) {
         (8_192, 3),
         (20_000, 4),
     ] {
-        let len = count as usize;
-        let mut table = zeros(&rt, rt.alloc(), workers, len);
-        assert_eq!(rt; table.len(), len);
-        let before = table.copy().expect(&rt, "memory");
-        assert_eq!(rt;
-            write_all(&rt, rt.alloc(), workers, &mut table, count, count),
-            None
-        );
-        assert_counted(&rt, &table, len, 0);
-        for i in 0..before.len() {
-            assert_eq!(rt; *before.get(i), 0, "at {i}");
-        }
+        assert_written(&rt, rt.alloc(), workers, count);
     }
+}
+
+/// Asserts that the error at one place comes back, and that the table keeps its length.
+fn assert_refused<R: Threads + Sync + Abort>(rt: &R, alloc: Global, workers: u32, count: u32) {
+    let len = count as usize;
+    let mut table = zeros(rt, alloc, workers, len);
+    let refused = write_all(rt, alloc, workers, &mut table, count, 7);
+    assert_eq!(rt; refused, Some(Memory));
+    assert_eq!(rt; table.len(), len);
 }
 
 #[test]
 fn the_first_error_comes_back(rt: HostRuntime) {
     for &(count, workers) in &[(10, 1), (4_096, 2), (9_000, 3)] {
-        let len = count as usize;
-        let mut table = zeros(&rt, rt.alloc(), workers, len);
-        let refused = write_all(&rt, rt.alloc(), workers, &mut table, count, 7);
-        assert_eq!(rt; refused, Some(Memory));
-        assert_eq!(rt; table.len(), len);
+        assert_refused(&rt, rt.alloc(), workers, count);
     }
 }
 

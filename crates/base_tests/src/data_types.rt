@@ -32,6 +32,16 @@ fn times(rt: &impl Abort, alloc: Global, count: u32) -> EdgeTimes {
     times
 }
 
+/// Asserts that a text that is a name keeps its bytes, as does the name's copy.
+fn assert_kept(rt: &impl Abort, alloc: Global, text: &str) {
+    let bytes = Vec::from_slice(alloc, text.as_bytes()).expect(rt, "memory");
+    if let Some(name) = Name::from_vec(bytes) {
+        assert_eq!(rt; name.as_bytes(), text.as_bytes());
+        let copy = name.copied(alloc).expect(rt, "memory");
+        assert_eq!(rt; copy.into_vec().as_slice(), text.as_bytes());
+    }
+}
+
 #[test]
 fn names_have_printable_bytes(rt: HostRuntime) {
     let alloc = rt.alloc();
@@ -49,12 +59,7 @@ fn names_have_printable_bytes(rt: HostRuntime) {
     ] {
         let found = Name::from_bytes(alloc, text.as_bytes()).expect(&rt, "memory");
         assert_eq!(rt; found.is_some(), wanted, "{text}");
-        let bytes = Vec::from_slice(alloc, text.as_bytes()).expect(&rt, "memory");
-        if let Some(name) = Name::from_vec(bytes) {
-            assert_eq!(rt; name.as_bytes(), text.as_bytes());
-            let copy = name.copied(alloc).expect(&rt, "memory");
-            assert_eq!(rt; copy.into_vec().as_slice(), text.as_bytes());
-        }
+        assert_kept(&rt, alloc, text);
     }
 }
 
@@ -80,6 +85,11 @@ fn lists_keep_their_order(rt: HostRuntime) {
     assert_eq!(rt; copy.as_slice(), items.as_slice());
     assert_eq!(rt; items.get(4).copied(), Some(4));
     assert_eq!(rt; items.into_vec().len(), 5);
+}
+
+#[test]
+fn times_keep_their_order(rt: HostRuntime) {
+    let alloc = rt.alloc();
     let times = times(&rt, alloc, 5);
     assert_eq!(rt; times.len(), 5);
     let copy = times.again(alloc).expect(&rt, "memory");

@@ -3,6 +3,7 @@
 use level_workers::map_level;
 use sta_outside::{Gate, NoGate, Point};
 use sta_units::Memory;
+use std::process::Abort;
 use std::sync::atomic::{AtomicU64, Ordering};
 
 /// How many turns a piece waits for the other.
@@ -39,6 +40,15 @@ impl Gate for BothBegin {
     }
 }
 
+impl BothBegin {
+    /// Asserts that both pieces began, that nothing else did, and that nobody waited in vain.
+    fn check(&self, rt: &impl Abort) {
+        assert_eq!(rt; self.begun.load(Ordering::SeqCst), (1 << 32) + 1);
+        assert_eq!(rt; self.other.load(Ordering::SeqCst), 0);
+        assert_eq!(rt; self.given_up.load(Ordering::SeqCst), 0);
+    }
+}
+
 /// Holds piece 1 of level 8 until five items are mapped, or until it has waited for all its turns.
 #[derive(Drop)]
 struct HoldsOne {
@@ -60,6 +70,11 @@ impl Gate for HoldsOne {
     }
 }
 
+/// Asserts the doubles of the items 1 to 5.
+fn assert_doubled(rt: &impl Abort, found: &[u32]) {
+    assert_eq!(rt; found, [2, 4, 6, 8, 10].as_slice());
+}
+
 fn doubled(x: &u32) -> Result<u32, Memory> {
     Ok(x.wrapping_mul(2))
 }
@@ -72,7 +87,7 @@ fn map_is_the_plain_map_for_every_number_of_workers(rt: HostRuntime) {
         let found = map_level(&rt, alloc, workers, 0, &items, &doubled, &NoGate).expect(
             &rt, "memory",
         );
-        assert_eq!(rt; found.as_slice(), [2, 4, 6, 8, 10].as_slice());
+        assert_doubled(&rt, found.as_slice());
     }
     let none: [u32; 0] = [];
     let found = map_level(&rt, alloc, 4, 0, &none, &doubled, &NoGate).expect(&rt, "memory");
@@ -89,10 +104,8 @@ fn gates_pieces(rt: HostRuntime) {
     let found = map_level(&rt, rt.alloc(), 2, 7, &[1, 2, 3, 4, 5], &doubled, &gate).expect(
         &rt, "memory",
     );
-    assert_eq!(rt; found.as_slice(), [2, 4, 6, 8, 10].as_slice());
-    assert_eq!(rt; gate.begun.load(Ordering::SeqCst), (1 << 32) + 1);
-    assert_eq!(rt; gate.other.load(Ordering::SeqCst), 0);
-    assert_eq!(rt; gate.given_up.load(Ordering::SeqCst), 0);
+    assert_doubled(&rt, found.as_slice());
+    gate.check(&rt);
 }
 
 #[test]
@@ -108,7 +121,7 @@ fn blocks_of_a_piece_that_is_held_are_taken_over(rt: HostRuntime) {
     let found = map_level(&rt, rt.alloc(), 2, 8, &[1, 2, 3, 4, 5], &count, &gate).expect(
         &rt, "memory",
     );
-    assert_eq!(rt; found.as_slice(), [2, 4, 6, 8, 10].as_slice());
+    assert_doubled(&rt, found.as_slice());
     assert_eq!(rt; gate.mapped.load(Ordering::SeqCst), 5);
     assert_eq!(rt; gate.given_up.load(Ordering::SeqCst), 0);
 }

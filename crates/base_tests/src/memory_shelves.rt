@@ -18,6 +18,20 @@ fn failing_shelf(rt: &impl Abort, alloc: Global) -> MemShelf {
     MemShelf::new(names, docs, vec![in alloc; 1, 4].expect(rt, "memory"))
 }
 
+/// Asserts what a fetch has answered.
+fn assert_fetched(
+    rt: &impl Abort,
+    fetched: &Result<Vec<u8>, Fetch>,
+    wanted: Result<&str, Fetch>,
+    name: &str,
+) {
+    match (fetched, wanted) {
+        (Ok(doc), Ok(text)) => assert_eq!(rt; doc.as_slice(), text.as_bytes(), "at {name}"),
+        (Err(fault), Err(cause)) => assert_eq!(rt; *fault, cause, "at {name}"),
+        _ => assert!(rt; false, "at {name}: {fetched:?}"),
+    }
+}
+
 #[test]
 fn a_shelf_in_memory_answers_by_its_plan_and_its_names(rt: HostRuntime) {
     let mut shelf = failing_shelf(&rt, rt.alloc());
@@ -29,11 +43,7 @@ fn a_shelf_in_memory_answers_by_its_plan_and_its_names(rt: HostRuntime) {
         ("s1", Ok(""), 2),
     ] {
         let fetched = shelf.fetch(rt.alloc(), name);
-        match (&fetched, wanted) {
-            (Ok(doc), Ok(text)) => assert_eq!(rt; doc.as_slice(), text.as_bytes(), "at {name}"),
-            (Err(fault), Err(cause)) => assert_eq!(rt; *fault, cause, "at {name}"),
-            _ => assert!(rt; false, "at {name}: {fetched:?}"),
-        }
+        assert_fetched(&rt, &fetched, wanted, name);
         assert_eq!(rt; shelf.fault_count(), faults, "at {name}");
     }
 }
