@@ -12,7 +12,8 @@ functions whose file, line and path contain WORD.
 --proved leaves that proof out, where `rt ci` has kept it of these very sources; LOG is what that run said. All plants then go into one check beside the
 unchanged calls, and the functions of the crate get proofs that are holes, so that a plant which calls them is checked over their contracts, which is
 all that its proof sees of them (functions that call each other in a ring are proved where they are called). The methods of traits are left out, and
---max counts what does not compile, too. What the checks said is kept in out/plants.
+--max counts what does not compile, too. What the checks said is kept in out/plants, and what they checked, so that a run whose minutes were too few
+goes on where it ended when it is begun again.
 
 Printed are the rows of `rt plant` (the plants that pass, and the functions without a clause), and at the end a table: of each crate its functions, the
 plants that were tried, and what they came to. It is no verdict on a crate. The status is 0 where each crate was planted in.
@@ -145,7 +146,9 @@ def over_contracts(tool, crate, log):
             self.assumed = {try_edits.write_hole(pathlib.Path(folder), crate, it) for it in found}
             self.empty({tuple(it.split("::")[-2:]) for it in found if "+" not in it} | {("", it) for it in found if "::" not in it})
             self.count, self.log = 0, TOP / "out" / "plants"
-            self.log.mkdir(parents=True, exist_ok=True)
+            # A check that is ended is not lost: the next one takes what it had checked.
+            self.memory = self.log / f"memory-{crate}"
+            self.memory.mkdir(parents=True, exist_ok=True)
 
         def empty(self, paths):
             """Takes the bodies away of the functions that are not proved, which cost their walks all the same; each line stays at its place."""
@@ -184,7 +187,8 @@ def over_contracts(tool, crate, log):
             self.count += 1
             log = self.log / f"{crate}-{self.count}.txt"
             asked = [it for name in names for it in ("--only", name)]
-            words = [*tool.rt.guarded(), tool.rt.RATTLE, "check", *self.crate.words([*self.flags, *asked]), "--progress"]
+            words = [*tool.rt.guarded(), tool.rt.RATTLE, "check", *self.crate.words([*self.flags, *asked])]
+            words += ["--incremental", str(self.memory), "--progress"]
             with open(log, "w", encoding="utf-8") as out, contextlib.suppress(subprocess.TimeoutExpired):
                 left = max(self.end - began, 0)
                 subprocess.run(words, cwd=self.folder, stdin=subprocess.DEVNULL, stdout=out, stderr=subprocess.STDOUT, timeout=left, check=False)
@@ -206,6 +210,26 @@ def over_contracts(tool, crate, log):
     tool.plant = lambda of, *words: at_once(tool, *words)
 
 
+def with_kept_tokens(tokens, folder):
+    """Reads the tokens of a file, or takes those of an earlier run where it has the same text: on a busy machine the libraries' files cost minutes."""
+    folder.mkdir(parents=True, exist_ok=True)
+
+    def read(source, file):
+        data = pathlib.Path(source.folder, file).read_bytes()
+        kept = folder / hashlib.sha256(data).hexdigest()
+        if kept.is_file():
+            return [tuple(it) for it in json.loads(kept.read_text(encoding="utf-8"))], data
+        rows, data = tokens(source, file)
+        # a variant's comment is no part of its name
+        rows = [it for it in rows if not it[4].startswith("///")]
+        part = kept.with_suffix(f".{os.getpid()}")
+        part.write_text(json.dumps(rows), encoding="utf-8")
+        part.rename(kept)
+        return rows, data
+
+    return read
+
+
 def lay_memory(crate):
     """Lets the check begin with what check_over_kept.py and try_edits.py have checked of the crate."""
     kept, to = TOP / "out" / "kept_libraries" / f"memory-{crate}", TOP / "crates" / crate / "out" / "incremental"
@@ -218,9 +242,9 @@ def plant(crate, given):
     sys.dont_write_bytecode = True
     kit = pathlib.Path(os.path.realpath(shutil.which("rt"))).parent
     tool = load(kit / "rt-plant")
-    # A variant's comment is no part of its name.
-    tokens = tool.bodies.Source.tokens
-    tool.bodies.Source.tokens = lambda *words: (lambda rows, data: ([it for it in rows if not it[4].startswith("///")], data))(*tokens(*words))
+    # Another toolchain may cut a text into other tokens.
+    made = os.stat(kit / "rattle")
+    tool.bodies.Source.tokens = with_kept_tokens(tool.bodies.Source.tokens, TOP / "out" / "plants" / f"tokens-{made.st_size}-{int(made.st_mtime)}")
     # Each crate's sum holds those of all below it, which would be made anew on every way down.
     tool.rt.Crate.stamp = functools.lru_cache(None)(tool.rt.Crate.stamp)
     gone = lay_below(tool.rt, over.crates(), crate)

@@ -5,7 +5,7 @@ One run of `rt ci` reckons with more memory for a crate than its proof takes, so
 the other, also where they do not wait for each other. This tool starts `rt ci NAME` for each crate by itself, at most N beside each other
 (default: as many as there are processors), in copies of the repository without the edits that must be refused. What is proved is kept by rt
 for later runs, the gate's among them. It prints a line as each begins and ends; the status is 0 where all were proved. What each run said is kept in
-out/prove_by_crate (`tools/plant_over_kept.py --proved` wants it). Crates that are
+out/prove_by_crate (`tools/plant_over_kept.py --proved` wants it), but that of a run that found the crate proved beside an earlier one's. Crates that are
 below these and not named have to be kept already, else each run proves them again.
 """
 import argparse
@@ -40,14 +40,20 @@ def begin(name, folder):
         return subprocess.Popen(["rt", "ci", name], cwd=copy, stdout=log, stderr=subprocess.STDOUT)
 
 
+def keep_log(name, log):
+    """Keeps what a run said of a crate; where it found the crate proved, what an earlier run said of its functions stays."""
+    LOGS.mkdir(parents=True, exist_ok=True)
+    if f"rt: {name} is kept" not in log.read_text(errors="replace") or not (LOGS / log.name).exists():
+        shutil.copyfile(log, LOGS / log.name)
+
+
 def prove(names, lanes, folder):
     """Runs all crates in their order; gives those that were not proved, with those that wait for them."""
     uses, left, running, failed = crates(), list(names), {}, []
     while left or running:
         for name in [it for it, run in running.items() if run.poll() is not None]:
             status = running.pop(name).returncode
-            LOGS.mkdir(parents=True, exist_ok=True)
-            shutil.copyfile(folder / f"{name}.log", LOGS / f"{name}.log")
+            keep_log(name, folder / f"{name}.log")
             print(time.strftime("%H:%M:%S"), name, "proved" if status == 0 else f"not proved, see {folder}/{name}.log", flush=True)
             failed += [name] if status else []
         for name in list(left):

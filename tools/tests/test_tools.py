@@ -3,6 +3,7 @@ import json
 import pathlib
 import shutil
 import tempfile
+import types
 import unittest
 
 import common
@@ -10,6 +11,7 @@ from common import CONSTRAINTS, LIBRARY, NETLIST, SPEF
 import check_setup
 import design_documents as documents
 import explain_fault
+import plant_over_kept
 import read_answers
 import test_faults
 
@@ -287,6 +289,27 @@ class SetUp(unittest.TestCase):
         self.assertEqual(status, 1)
         self.assertIn("1 endpoints without a tested setup path, by the program\n  r2:D\n", out)
         self.assertNotIn("tested hold path", out)
+
+
+class Plants(unittest.TestCase):
+    def test_tokens_are_read_once_for_each_text(self):
+        folder, asked = pathlib.Path(tempfile.mkdtemp()), []
+        self.addCleanup(shutil.rmtree, folder)
+
+        def tokens(source, file):
+            asked.append(file)
+            return [(1, 0, 5, "Literal", "/// One"), (2, 6, 8, "Code", "fn")], (folder / file).read_bytes()
+
+        read = plant_over_kept.with_kept_tokens(tokens, folder / "kept")
+        source = types.SimpleNamespace(folder=str(folder))
+        (folder / "a.rt").write_text("/// One\nfn")
+        (folder / "b.rt").write_text("/// One\nfn")
+        for file in ("a.rt", "b.rt", "a.rt"):
+            self.assertEqual(read(source, file), ([(2, 6, 8, "Code", "fn")], b"/// One\nfn"))
+        self.assertEqual(asked, ["a.rt"])
+        (folder / "b.rt").write_text("/// Two\nfn")
+        self.assertEqual(read(source, "b.rt")[1], b"/// Two\nfn")
+        self.assertEqual(asked, ["a.rt", "b.rt"])
 
 
 class Helps(unittest.TestCase):
