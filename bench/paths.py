@@ -4,7 +4,9 @@
 A design of N cells (default: 50000; several N one after the other) is made by bench/design.py with parasitics by bench/spef.py; its deepest
 endpoint is the data pin of a register with the most gates before it, on the way that has most. Each question is asked many times in a
 run of its own, a run without questions is made beside it, and what a question takes is the difference by the number of questions:
-seconds of processors (of user and system) and page faults. So a run's start is left out, and what is given up at a run's end is in.
+seconds of processors (of user and system) since the session's thread began, and page faults. So reading and the first analysis are left out
+(since_thread.c beside this script, compiled and loaded before the C library, tells the time since the last thread began), and what is
+written and given up at a run's end is in.
 The questions are
 
   report_path PIN setup           the worst path, 20 T times
@@ -29,6 +31,7 @@ import design
 import ecos
 
 MOST = 10000
+COMPILER = os.environ.get("CC", "cc")
 
 
 def deepest(cells):
@@ -50,16 +53,17 @@ def deepest(cells):
 
 
 def run(program, folder, question, times, workers):
-    """The output of a run with a question so many times, its seconds of processors, its page faults and its MB."""
+    """The output of a run with a question so many times, its seconds of processors since its session began, its page faults and its MB."""
     (folder / "asked.eco").write_text((question + "\n") * times)
     words = [program, "run", "bench.lib", "bench.lib", "bench.v", "bench.sdc", "bench.spef", str(workers), "asked.eco"]
-    out = folder / "output"
+    out, since = folder / "output", folder / "since"
+    since.unlink(missing_ok=True)
     with open(out, "wb") as sink:
-        child = subprocess.Popen(words, cwd=folder, stdout=sink)
+        child = subprocess.Popen(words, cwd=folder, stdout=sink, env={**os.environ, "LD_PRELOAD": str(folder / "since.so"), "SINCE_FILE": str(since)})
         _, status, used = os.wait4(child.pid, 0)
     if status:
         sys.exit(f"paths.py: a run of {program} ended with the wait status {status}: {out.read_bytes()[:300]}")
-    return out.read_bytes(), used.ru_utime + used.ru_stime, used.ru_minflt, used.ru_maxrss / 1000
+    return out.read_bytes(), int(since.read_text()) / 1e9, used.ru_minflt, used.ru_maxrss / 1000
 
 
 def spread(pins, count):
@@ -133,6 +137,7 @@ def main():
         with tempfile.TemporaryDirectory() as name:
             folder = pathlib.Path(name)
             ecos.made(folder, cells)
+            subprocess.run([COMPILER, "-O2", "-shared", "-fPIC", "-o", folder / "since.so", ecos.TOP / "bench/since_thread.c", "-ldl"], check=True)
             asked = questions(programs[0], folder, pin, words)
             print(f"{cells} cells, {pin}: at most {gates} gates before it; {words.rounds} rounds, {words.workers} "
                   f"worker{'' if words.workers == 1 else 's'}; per question, of processors", flush=True)
