@@ -29,9 +29,9 @@ import tempfile
 
 import design
 import ecos
+import trials
 
 MOST = 10000
-COMPILER = os.environ.get("CC", "cc")
 
 
 def deepest(cells):
@@ -59,7 +59,7 @@ def run(program, folder, question, times, workers):
     out, since = folder / "output", folder / "since"
     since.unlink(missing_ok=True)
     with open(out, "wb") as sink:
-        child = subprocess.Popen(words, cwd=folder, stdout=sink, env={**os.environ, "LD_PRELOAD": str(folder / "since.so"), "SINCE_FILE": str(since)})
+        child = subprocess.Popen(words, cwd=folder, stdout=sink, env={**os.environ, "LD_PRELOAD": str(folder / "since_thread.so"), "SINCE_FILE": str(since)})
         _, status, used = os.wait4(child.pid, 0)
     if status:
         sys.exit(f"paths.py: a run of {program} ended with the wait status {status}: {out.read_bytes()[:300]}")
@@ -137,7 +137,7 @@ def main():
         with tempfile.TemporaryDirectory() as name:
             folder = pathlib.Path(name)
             ecos.made(folder, cells)
-            subprocess.run([COMPILER, "-O2", "-shared", "-fPIC", "-o", folder / "since.so", ecos.TOP / "bench/since_thread.c", "-ldl"], check=True)
+            trials.compiled("since_thread.c", folder)
             asked = questions(programs[0], folder, pin, words)
             print(f"{cells} cells, {pin}: at most {gates} gates before it; {words.rounds} rounds, {words.workers} "
                   f"worker{'' if words.workers == 1 else 's'}; per question, of processors", flush=True)

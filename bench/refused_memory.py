@@ -29,7 +29,6 @@ import dataclasses
 import os
 import pathlib
 import random
-import shutil
 import signal
 import struct
 import subprocess
@@ -197,16 +196,6 @@ def try_all(it, given, rand):
     return tried
 
 
-def compiled(folder):
-    """The library that refuses."""
-    compiler = next((it for it in ("cc", "gcc", "clang") if shutil.which(it)), None)
-    if not compiler:
-        sys.exit("refused_memory.py needs a C compiler (cc, gcc or clang)")
-    shim = folder / "refuse_memory.so"
-    subprocess.run([compiler, "-O2", "-shared", "-fPIC", "-o", shim, trials.HERE / "refuse_memory.c", "-ldl"], check=True)
-    return shim
-
-
 def designs():
     """The runs: documents, and words of their own."""
     it = {design.name: design for design in trials.gate_designs()}
@@ -235,7 +224,7 @@ def main():
     given = parser.parse_args()
     program, rows = trials.find_program(given.program), []
     with tempfile.TemporaryDirectory() as name:
-        shim = compiled(pathlib.Path(name))
+        shim = trials.compiled("refuse_memory.c", pathlib.Path(name))
         for design in designs():
             if given.only and design.name not in given.only:
                 continue

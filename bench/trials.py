@@ -8,6 +8,7 @@ import os
 import pathlib
 import re
 import resource
+import shutil
 import signal
 import subprocess
 import sys
@@ -30,6 +31,16 @@ ANSWERS = [
 DONE = [rb"accepted", rb"taken", rb"reached", rb"not_yet [0-9]+"]
 TRIED = [rb"tried", rb"dropped", rb"no_draft"]
 NO_ANSWER = rb"no Q[123] %s" % NAME
+
+
+def compiled(name, folder):
+    """A C file beside this one, made in a folder into a library to be loaded before the C library (LD_PRELOAD)."""
+    compiler = next((it for it in ("cc", "gcc", "clang") if shutil.which(it)), None)
+    if not compiler:
+        sys.exit(f"{pathlib.Path(sys.argv[0]).name} needs a C compiler (cc, gcc or clang)")
+    library = (folder / name).with_suffix(".so")
+    subprocess.run([compiler, "-O2", "-shared", "-fPIC", "-o", library, HERE / name, "-ldl"], check=True)
+    return library
 
 
 class Deviates(Exception):
