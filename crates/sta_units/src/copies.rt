@@ -11,6 +11,12 @@ pub trait Again: Sized {
         ensures { IfOk result (λ copy. copy ≡ self.now) };
 }
 
+impl Again for bool {
+    fn again(&self, _alloc: Global) -> Result<bool, Memory> {
+        Ok(*self)
+    }
+}
+
 impl Again for u32 {
     fn again(&self, _alloc: Global) -> Result<u32, Memory> {
         Ok(*self)

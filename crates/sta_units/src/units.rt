@@ -2,7 +2,7 @@
 
 ghost use Rattle.std.specs.Prelude.{◌≡◌};
 
-use std::alloc::AllocError;
+use std::alloc::{AllocError, AllocFailed};
 
 /// A time or a slew in whole femtoseconds.
 #[derive(Debug, Clone, Copy, PartialEq, Eq, PartialOrd, Ord, Default, Drop)]
@@ -31,6 +31,14 @@ impl From<AllocError> for Memory {
     ghost from_gives = { λ _ told. told ≡ record {} };
 
     fn from(_refused: AllocError) -> Memory {
+        Memory
+    }
+}
+
+impl<T: Drop> From<AllocFailed<T>> for Memory {
+    ghost from_gives = { λ _ told. told ≡ record {} };
+
+    fn from(_refused: AllocFailed<T>) -> Memory {
         Memory
     }
 }
