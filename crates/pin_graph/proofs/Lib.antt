@@ -41,3 +41,5 @@ pub mod TurnedLaws
 pub mod TablesAfter
 pub mod AfterLaws
 pub mod NodesAfter
+pub mod MarkWalks
+pub mod MarksLeft

@@ -32,7 +32,7 @@ option_in : (o : Option ℕ) (x : ℕ) → Contains (option_to_list o) x → o �
 option_in None x c = absurd (none_in x c)
 option_in (Some y) x c = elim (in_cases y [] x c) [ inl e ↦ ap Some e | inr d ↦ absurd (none_in x d) ]
 
-flag_is : (b : Bool) → is_one (flag_of b) ≡ b
+pub flag_is : (b : Bool) → is_one (flag_of b) ≡ b
 flag_is true = refl
 flag_is false = refl
 
@@ -195,7 +195,7 @@ module _ (s : Stored) (num : IsNumbered s) (linked : IsLinked s.design) where
   feeds_low t settled = flags_low t (λ a. list_any (nat_eq a) (clock_pins s) || list_any (is_set t) (network_heads s a)) settled.count (λ a low. settled.each a low refl)
 
   -- a graph's levels and flags are those that the rules give, also at numbers past all pins
-  levels_are : (t : List ℕ) → AreLevels (length s.pins) (pin_links s) t → (pin : ℕ) → slice_index t pin ≡ pin_level s t pin
+  pub levels_are : (t : List ℕ) → AreLevels (length s.pins) (pin_links s) t → (pin : ℕ) → slice_index t pin ≡ pin_level s t pin
   levels_are t is pin = elim (cases_lt pin (length s.pins)) [
     | inl low ↦ is.level pin low ∙ ap (level_over t) (fan_in_is s pin low)
     | inr past ↦
@@ -206,7 +206,7 @@ module _ (s : Stored) (num : IsNumbered s) (linked : IsLinked s.design) where
   ]
 
   module _ (fault : net_fault s.design ≡ None) where
-    fed_are : (t : List ℕ) → AreReached (length s.pins) (network_links s) (clock_ports s) (map is_one t) → ((pin : ℕ) → slice_index t pin ≤ 1)
+    pub fed_are : (t : List ℕ) → AreReached (length s.pins) (network_links s) (clock_ports s) (map is_one t) → ((pin : ℕ) → slice_index t pin ≤ 1)
         → (pin : ℕ) → slice_index t pin ≡ fed_flag s t pin
     fed_are t is few pin = elim (cases_lt pin (length s.pins)) [
       | inl low ↦
@@ -221,7 +221,7 @@ module _ (s : Stored) (num : IsNumbered s) (linked : IsLinked s.design) where
           ∙ no_more (list_any (nat_eq pin) (clock_ports s)) (none_past (length s.pins) pin (clock_ports s) (ports_within s num linked fault) past))
     ]
 
-    feeds_are : (t : List ℕ) → AreReached (length s.pins) (map turned (network_links s)) (clock_pins s) (map is_one t) → ((pin : ℕ) → slice_index t pin ≤ 1)
+    pub feeds_are : (t : List ℕ) → AreReached (length s.pins) (map turned (network_links s)) (clock_pins s) (map is_one t) → ((pin : ℕ) → slice_index t pin ≤ 1)
         → (pin : ℕ) → slice_index t pin ≡ feeds_flag s t pin
     feeds_are t is few pin = elim (cases_lt pin (length s.pins)) [
       | inl low ↦

@@ -52,6 +52,17 @@ and_right false b e = absurd (true≢false (sym e))
 count_push : (test : ℕ → Bool) (xs : List ℕ) (x : ℕ) → count_by test xs ≤ count_by test (xs ++ x ∷ [])
 count_push test xs x = let e = sum_by_push (λ (y : ℕ). cond {A = ℕ} (test y) 1 0) xs x in omega (arith, e)
 
+-- the marks of the network are those of both flags, also at numbers past all pins
+pub marks_of : (s : Stored) (t : Tables) → AreTables s t → (pin : ℕ) → marked t.network pin ≡ (is_one (slice_index t.fed pin) && is_one (slice_index t.feeds pin))
+marks_of s t base pin = elim (cases_lt pin (length s.pins)) [
+  | inl l ↦ base.flags.clocked.each pin l ∙ (λ k. one_at t.fed pin k && one_at t.feeds pin k)
+  | inr h ↦
+      let a = base.flags.clocked.count in
+      let b = base.flags.clocked.forth.count in
+      beyond t.network pin (omega (arith, a, h))
+      ∙ sym ((λ k. sym (one_at t.fed pin) k && is_one (slice_index t.feeds pin)) ∙ (λ k. beyond (map is_one t.fed) pin (omega (arith, b, h)) k && is_one (slice_index t.feeds pin)))
+]
+
 module _ (s s2 : Stored) (t t2 : Tables) (noted : ℕ → Bool) (base : AreTables s t) (new : IsRenewed s s2 t t2 noted) where
   -- a pin that is of the network is not noted
   pub unnoted : (pin : ℕ) → marked t2.network pin ≡ true → noted pin ≡ false
@@ -67,20 +78,10 @@ module _ (s s2 : Stored) (t t2 : Tables) (noted : ℕ → Bool) (base : AreTable
       same : noted pin ≡ false → (is_one (slice_index t2.fed pin) && is_one (slice_index t2.feeds pin)) ≡ (is_one (slice_index t.fed pin) && is_one (slice_index t.feeds pin))
       same e = λ k. is_one (new.fed pin e k) && is_one (new.feeds pin e k)
 
-      old : marked t.network pin ≡ (is_one (slice_index t.fed pin) && is_one (slice_index t.feeds pin))
-      old = elim (cases_lt pin (length s.pins)) [
-        | inl l ↦ base.flags.clocked.each pin l ∙ (λ k. one_at t.fed pin k && one_at t.feeds pin k)
-        | inr h ↦
-            let a = base.flags.clocked.count in
-            let b = base.flags.clocked.forth.count in
-            beyond t.network pin (omega (arith, a, h))
-            ∙ sym ((λ k. sym (one_at t.fed pin) k && is_one (slice_index t.feeds pin)) ∙ (λ k. beyond (map is_one t.fed) pin (omega (arith, b, h)) k && is_one (slice_index t.feeds pin)))
-      ]
-
       told : marked t.network pin ≡ (is_one (slice_index t2.fed pin) && is_one (slice_index t2.feeds pin))
       told = elim (cases_Bool (noted pin)) [
         | inl e ↦ let o = new.off pin e in o.0 ∙ sym o.1
-        | inr e ↦ old ∙ sym (same e)
+        | inr e ↦ marks_of s t base pin ∙ sym (same e)
       ]
 
   -- an arc into a pin of the network is one of the base

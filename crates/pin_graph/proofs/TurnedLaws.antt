@@ -1,12 +1,10 @@
 -- A node that no edit touched is not turned, where the clock network is left.
 
-use Rattle.std.proofs.Common.{◌≡◌, ℕ, zero, suc, ◌<◌, Bool, true, false, not, List, [], ◌∷◌, length, take, drop, get_or, refl, sym, ap, subst, ◌∙◌, inl, inr, arith}
+use Rattle.std.proofs.Common.{◌≡◌, ℕ, ◌<◌, Bool, true, false, not, List, [], ◌∷◌, refl, sym, ap, subst, ◌∙◌, inl, inr, arith}
 use Rattle.std.specs.Prelude.{nat_eq, is_some, Contains, ◌&&◌, ◌||◌, if◌then◌else◌}
 use Rattle.std.specs.List.{list_any, list_all}
 use Rattle.std.specs.Option.{option_map_or}
-use Rattle.std.specs.Cmp.Lexicographic.{pointwise}
-use Rattle.std.proofs.Math.Bool.{beq}
-use Rattle.std.proofs.lemmas.Bool.{cases_Bool, false≢true, and_parts, and_from, not-true, eqb-true, eq-eqb}
+use Rattle.std.proofs.lemmas.Bool.{cases_Bool, and_parts, and_from, eqb-true, eq-eqb}
 use Rattle.timing_defs.specs.Cones.{Touch, same_truth}
 use Rattle.netlist_store.specs.Applying.{IsEditOf}
 use Rattle.netlist_store.specs.Numbering.{is_number, IsNumbered}
@@ -111,36 +109,6 @@ module _ (g g2 : Graphed) (touch : Touch) (made : IsEditOf g.stored touch g2.sto
 -- the fans of a graph that is kept
 pub joined_in : (g : Graphed) → IsKeptGraph g → (node : ℕ) → node < node_bound g.stored → AreJoined (raw_into g.stored g.network node) (fan_at g.ins node)
 joined_in g k node low = subst (λ (h : Graphed). AreJoined (raw_into g.stored h.network node) (fan_at h.ins node)) (sym k.same) (k.kept.tables.joined node low)
-
--- marks that are the same, and no further ones
-beq_is : (a b : Bool) → beq a b ≡ true → a ≡ b
-beq_is true true e = refl
-beq_is true false e = absurd (false≢true e)
-beq_is false true e = absurd (false≢true e)
-beq_is false false e = refl
-
-pub marks_equal : (xs ys : List Bool) → pointwise beq xs ys ≡ true → xs ≡ ys
-marks_equal [] [] e = refl
-marks_equal [] (y ∷ ys) e = absurd (false≢true e)
-marks_equal (x ∷ xs) [] e = absurd (false≢true e)
-marks_equal (x ∷ xs) (y ∷ ys) e =
-    let parts = and_parts (beq x y) (pointwise beq xs ys) e in
-    λ k. beq_is x y parts.0 k ∷ marks_equal xs ys parts.1 k
-
-none_marked : (marks : List Bool) → list_all not marks ≡ true → (pin : ℕ) → get_or marks pin false ≡ false
-none_marked [] e pin = refl
-none_marked (m ∷ ms) e zero = not-true m (and_parts (not m) (list_all not ms) e).0
-none_marked (m ∷ ms) e (suc pin) = none_marked ms (and_parts (not m) (list_all not ms) e).1 pin
-
-pub marks_same : (before after : List Bool) → take (length before) after ≡ before → list_all not (drop (length before) after) ≡ true
-    → (pin : ℕ) → get_or after pin false ≡ get_or before pin false
-marks_same [] after e none pin = none_marked after none pin
-marks_same (m ∷ ms) [] e none pin = absurd (cc)
-marks_same (m ∷ ms) (k ∷ ks) e none zero = ap (λ (xs : List Bool). get_or xs 0 false) e
-marks_same (m ∷ ms) (k ∷ ks) e none (suc pin) = marks_same ms ks (tail_is (take (length ms) ks) ms e) none pin
-  where
-    tail_is : (xs ys : List Bool) → (k ∷ xs) ≡ (m ∷ ys) → xs ≡ ys
-    tail_is xs ys h = cc
 
 -- as the calls have it
 pub left_or : (t a b : Bool) → a ≡ b → (t || a) ≡ (t || b)

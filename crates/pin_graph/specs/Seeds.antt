@@ -11,7 +11,7 @@ use Rattle.timing_defs.specs.Cones.{Touch, same_truth, is_seed}
 use Rattle.netlist_store.specs.Numbering.{Stored, is_number, pin_numbered}
 use Rattle.eco_laws.specs.Kept.{is_on_any, is_touched_pin}
 use Rattle.pin_graph.specs.declared.arcs.GraphArc.{GraphArc}
-use Rattle.pin_graph.specs.NodeArcs.{is_cell}
+use Rattle.pin_graph.specs.NodeArcs.{is_cell, marked}
 use Rattle.pin_graph.specs.Nodes.{node_number, node_bound, pin_under}
 use Rattle.pin_graph.specs.Graphs.{Graphed, fan_at, network_at, of_node}
 
@@ -53,6 +53,10 @@ is_moved base g touch node = is_touched_at g.stored touch (pin_under node) || is
 
 abbrev pub turned_at : Graphed → Graphed → ℕ → Option ℕ
 turned_at base g node = (if is_turned_at base g node then Some node else None)
+
+-- a pin that is of the clock network neither in the base nor in the edited design
+abbrev pub is_unmarked : Graphed → Graphed → ℕ → Bool
+is_unmarked base g pin = not (marked base.network pin) && not (marked g.network pin)
 
 -- a number that stands for no pin
 abbrev pub gone_at : Stored → ℕ → Option ℕ

@@ -6,7 +6,7 @@ ghost use Rattle.netlist_store.specs.Linked.{IsLinked};
 ghost use Rattle.netlist_store.specs.Numbering.{is_number, IsNumbered};
 ghost use Rattle.pin_graph.specs.Refusals.{IsGraphRefused};
 ghost use Rattle.pin_graph.specs.Nodes.{node_bound, number_at, pin_under, tran_under};
-ghost use Rattle.pin_graph.specs.NodeArcs.{node_arcs, AreMerged};
+ghost use Rattle.pin_graph.specs.NodeArcs.{marked, node_arcs, AreMerged};
 ghost use Rattle.pin_graph.specs.NodeGraphs.{IsFound};
 ghost use Rattle.pin_graph.specs.Kept.{graph_in, IsKept, IsKeptGraph, HaveSameLinks};
 ghost use Rattle.netlist_store.specs.Applying.{IsEditOf};
@@ -26,6 +26,7 @@ use crate::places::places;
 use crate::replacing::replaced;
 use crate::tables::{NodeGraph, Tables, node_tables, pin_tables, tables_of};
 use crate::trees::check_tree;
+use crate::updates::is_marked;
 use cow_table::Held;
 use netlist_store::{Store, Touched};
 use sta_units::Memory;
@@ -62,7 +63,7 @@ fn merged_arcs(alloc: Global, store: &Store, pins: &PinGraph) -> Result<Items<Gr
     let raw = node_arcs(
         alloc,
         store,
-        pins.network.as_slice(),
+        &pins.network,
         pins.befores.as_slice(),
         pins.arcs.as_slice(),
     )?;
@@ -88,7 +89,7 @@ fn node_graph(
     let placed = places(
         alloc,
         n,
-        pins.network.as_slice(),
+        &pins.network,
         ports.as_slice(),
         arcs,
         levels.as_slice(),
@@ -156,7 +157,7 @@ impl Graph {
         ensures refused { IfErr result (IsGraphRefused store.now.design) }
     {
         let pins = pin_graph(alloc, store)?;
-        check_tree(alloc, store, pins.network.as_slice(), pins.arcs.as_slice())?;
+        check_tree(alloc, store, &pins.network, pins.arcs.as_slice())?;
         Ok(graph_of(alloc, store, &pins)?)
     }
 
@@ -194,9 +195,8 @@ impl Graph {
     /// ECO touched. Where the ECO left all links (it sets parasitics, or gives instances cells with the same
     /// pins, arcs and tests, in one order) the tables are shared, in the time of the change. Where it changed
     /// links and left the clock network, it takes time of what it touched and of the pins and nodes whose level
-    /// changes, and a byte of each pin is copied. The graph is found anew where the ECO changed the clock network,
-    /// where a walk is cyclic or levels are not found in turns enough, and where fewer pin numbers are in use than
-    /// in the base.
+    /// changes. The graph is found anew where the ECO changed the clock network, where a walk is cyclic or levels
+    /// are not found in turns enough, and where fewer pin numbers are in use than in the base.
     pub fn update(&self, alloc: Global, store: &Store, touched: &Touched) -> Result<Graph, Fault>
         requires fault { net_fault store.now.design ≡ None }
         requires made { IsEditOf self.now.stored (record { insts = touched.now.insts; nets = touched.now.nets }) store.now }
@@ -312,14 +312,14 @@ impl Graph {
         requires { node < node_bound self.now.stored }
         ensures { result ≡ network_at self.now node }
     {
-        self.tables.get().network.get().as_slice()[pin_under(node) as usize]
+        *self.tables.get().network.get(pin_under(node) as usize)
     }
 
-    /// Whether each pin is of the clock network.
-    pub(crate) fn network(&self) -> &[bool]
-        ensures { result.now ≡ self.now.network }
+    /// Whether the pin of a number is of the clock network; that of a number past all pins is not.
+    pub(crate) fn is_marked(&self, pin: u32) -> bool
+        ensures { result ≡ marked self.now.network pin }
     {
-        self.tables.get().network.get().as_slice()
+        is_marked(&self.tables.get().network, pin)
     }
 
     /// The nodes of the clock network that have places, in the order of these.

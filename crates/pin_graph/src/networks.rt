@@ -12,6 +12,7 @@ ghost use Rattle.pin_graph.specs.Networks.{comb_link, network_links, turned, inp
 
 use crate::pin_arcs::{PinArc, own_number};
 use crate::pin_links::net_links;
+use cow_table::CowTable;
 use levelizer::{Link, reached};
 use netlist_store::Store;
 use sta_units::Memory;
@@ -277,12 +278,12 @@ fn both_at(a: &[bool], b: &[bool], at: usize) -> bool
 
 /// The pins that are marked in both.
 #[tactic(auto, using(crate::proofs::StartLaws::both_none, crate::proofs::StartLaws::both_more))]
-pub(crate) fn both(alloc: Global, a: &[bool], b: &[bool]) -> Result<Items<bool>, Memory>
+pub(crate) fn both(alloc: Global, a: &[bool], b: &[bool]) -> Result<CowTable<bool>, Memory>
     requires { length a.now ≡ length b.now }
     ensures count { IfOk result (λ marks. length marks ≡ length a.now) }
     ensures each { IfOk result (λ marks. (m : ℕ) → m < length a.now → slice_index_or marks m false ≡ (slice_index_or a.now m false && slice_index_or b.now m false)) }
 {
-    let mut marks = Items::with_room(alloc, a.len())?;
+    let mut marks = CowTable::new(alloc);
     for at in 0..a.len() {
         marks.push(both_at(a, b, at))?;
     }

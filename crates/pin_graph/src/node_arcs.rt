@@ -1,49 +1,40 @@
 //! Arcs between nodes: those of nets and those of cells that stand.
 
-ghost use Rattle.std.specs.Prelude.{◌≡◌, ◌++◌, ◌<◌, ◌≤◌, ◌^◌, ℕ, All, length, IfOk, OnOk};
+ghost use Rattle.std.specs.Prelude.{◌≡◌, ◌++◌, ◌<◌, ◌≤◌, ◌^◌, All, length, IfOk, OnOk};
 ghost use Rattle.std.specs.List.{filter_map};
 ghost use Rattle.std.specs.Option.{option_to_list};
-ghost use Rattle.pin_graph.specs.Joins.{before, befores, pin_arcs};
-ghost use Rattle.timing_defs.specs.Clocking.{comb_kind};
+ghost use Rattle.pin_graph.specs.Joins.{befores, pin_arcs};
 ghost use Rattle.pin_graph.specs.Nodes.{node_number};
-ghost use Rattle.pin_graph.specs.NodeArcs.{marked, may_enter, stands, node_arc, standing_arc, net_arc, net_pair, net_arcs_into, net_node_arcs, node_arcs};
+ghost use Rattle.pin_graph.specs.NodeArcs.{may_enter, stands, node_arc, standing_arc, net_arc, net_pair, net_arcs_into, net_node_arcs, node_arcs};
 
 use crate::arcs::{GraphArc, GraphKind};
 use crate::nodes::node_number;
 use crate::pin_arcs::PinArc;
+use cow_table::CowTable;
 use netlist_store::Store;
 use sta_units::Memory;
 use std::alloc::Global;
 use timing_defs::{ArcKind, Items, Tran};
 
 /// Whether an arc may lead from a pin to a pin: a network pin is entered from network pins alone.
-pub(crate) fn may_enter(network: &[bool], from: u32, to: u32) -> bool
+pub(crate) fn may_enter(network: &CowTable<bool>, from: u32, to: u32) -> bool
     requires from { from < length network.now }
     requires to { to < length network.now }
     ensures { result ≡ may_enter network.now from to }
 {
-    !network[to as usize] || network[from as usize]
+    !*network.get(to as usize) || *network.get(from as usize)
 }
 
 /// Whether a library arc stands: a register arc only where its clock pin is a network pin and its
 /// output is not.
-fn stands(network: &[bool], arc: PinArc) -> bool
+fn stands(network: &CowTable<bool>, arc: PinArc) -> bool
     requires from { arc.from < length network.now }
     requires to { arc.to < length network.now }
     ensures { result ≡ stands network.now arc }
 {
     match arc.kind {
         ArcKind::Comb => true,
-        ArcKind::Edge => network[arc.from as usize] && !network[arc.to as usize],
-    }
-}
-
-fn is_comb(kind: ArcKind) -> bool
-    ensures { result ≡ comb_kind kind }
-{
-    match kind {
-        ArcKind::Comb => true,
-        ArcKind::Edge => false,
+        ArcKind::Edge => *network.get(arc.from as usize) && !*network.get(arc.to as usize),
     }
 }
 
@@ -53,7 +44,7 @@ fn node_arc(arc: PinArc) -> GraphArc
     requires to { arc.to < 2 ^ 31 }
     ensures { result ≡ node_arc arc }
 {
-    let comb = is_comb(arc.kind);
+    let comb = arc.kind.is_comb();
     GraphArc {
         from: node_number(arc.from, arc.from_tran),
         to: node_number(arc.to, arc.to_tran),
@@ -67,7 +58,7 @@ fn node_arc(arc: PinArc) -> GraphArc
 }
 
 /// A library arc between nodes, where it stands.
-pub(crate) fn standing_arc(network: &[bool], arc: PinArc) -> Option<GraphArc>
+pub(crate) fn standing_arc(network: &CowTable<bool>, arc: PinArc) -> Option<GraphArc>
     requires long { length network.now ≤ 2 ^ 31 }
     requires from { arc.from < length network.now }
     requires to { arc.to < length network.now }
@@ -94,7 +85,7 @@ pub(crate) fn add_arc(arcs: &mut Items<GraphArc>, arc: Option<GraphArc>) -> Resu
 #[tactic(auto, using(crate::proofs::ArcLaws::mapped_more))]
 fn add_cell_arcs(
     arcs: &mut Items<GraphArc>,
-    network: &[bool],
+    network: &CowTable<bool>,
     library: &[PinArc],
 ) -> Result<(), Memory>
     requires long { length network.now ≤ 2 ^ 31 }
@@ -124,7 +115,7 @@ pub(crate) fn net_arc(from: u32, to: u32, tran: Tran) -> GraphArc
 /// Adds the net arcs from a pin to a pin.
 fn add_net_pair(
     arcs: &mut Items<GraphArc>,
-    network: &[bool],
+    network: &CowTable<bool>,
     to: u32,
     from: u32,
 ) -> Result<(), Memory>
@@ -144,7 +135,7 @@ fn add_net_pair(
 fn add_net_arcs(
     arcs: &mut Items<GraphArc>,
     store: &Store,
-    network: &[bool],
+    network: &CowTable<bool>,
     table: &[Option<u32>],
     pin: u32,
 ) -> Result<(), Memory>
@@ -165,7 +156,7 @@ fn add_net_arcs(
 fn net_node_arcs(
     alloc: Global,
     store: &Store,
-    network: &[bool],
+    network: &CowTable<bool>,
     table: &[Option<u32>],
 ) -> Result<Items<GraphArc>, Memory>
     requires table { table.now ≡ befores store.now }
@@ -184,7 +175,7 @@ fn net_node_arcs(
 pub(crate) fn node_arcs(
     alloc: Global,
     store: &Store,
-    network: &[bool],
+    network: &CowTable<bool>,
     table: &[Option<u32>],
     library: &[PinArc],
 ) -> Result<Items<GraphArc>, Memory>

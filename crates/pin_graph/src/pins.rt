@@ -14,6 +14,7 @@ use crate::loops::pin_levels;
 use crate::networks::{Reaches, both, reach};
 use crate::pin_arcs::{PinArc, pin_arcs};
 use crate::pin_links::pin_links;
+use cow_table::CowTable;
 use netlist_store::Store;
 use sta_units::Memory;
 use std::alloc::Global;
@@ -31,7 +32,7 @@ pub(crate) struct PinGraph {
     /// Whether clocks' ports reach the pin, and whether it reaches registers.
     pub(crate) reach: Reaches,
     /// Whether the pin is of the clock network.
-    pub(crate) network: Items<bool>,
+    pub(crate) network: CowTable<bool>,
 }
 
 /// The levels of pins, or a loop.
@@ -58,7 +59,7 @@ fn network_of(
     store: &Store,
     levels: &[u32],
     reach: &Reaches,
-) -> Result<Items<bool>, Memory>
+) -> Result<CowTable<bool>, Memory>
     requires fault { net_fault store.now.design ≡ None }
     requires levels { AreLevels (length store.now.pins) (pin_links store.now) levels.now }
     requires from { AreReached (length store.now.pins) (network_links store.now) (clock_ports store.now) reach.now.from_clocks }

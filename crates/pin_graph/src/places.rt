@@ -10,17 +10,18 @@ ghost use Rattle.pin_graph.specs.Placing.{network_link, port_nodes, at_level, le
 
 use crate::arcs::GraphArc;
 use crate::nodes::{node_number, pin_under};
+use cow_table::CowTable;
 use levelizer::{Link, reached};
 use sta_units::Memory;
 use std::alloc::Global;
 use timing_defs::{Items, Tran};
 
 /// An arc into a network node.
-fn network_link(network: &[bool], arc: GraphArc) -> Option<Link>
+fn network_link(network: &CowTable<bool>, arc: GraphArc) -> Option<Link>
     requires { pin_under arc.to < length network.now }
     ensures { result ≡ network_link network.now arc }
 {
-    if network[pin_under(arc.to) as usize] {
+    if *network.get(pin_under(arc.to) as usize) {
         Some(Link {
             from: arc.from,
             to: arc.to,
@@ -42,7 +43,11 @@ fn add_link(links: &mut Items<Link>, link: Option<Link>) -> Result<(), Memory>
 
 /// The arcs into network nodes.
 #[tactic(auto, using(crate::proofs::ArcLaws::first_mapped_more))]
-fn network_links(alloc: Global, network: &[bool], arcs: &[GraphArc]) -> Result<Items<Link>, Memory>
+fn network_links(
+    alloc: Global,
+    network: &CowTable<bool>,
+    arcs: &[GraphArc],
+) -> Result<Items<Link>, Memory>
     requires { All (λ arc. pin_under arc.to < length network.now) arcs.now }
     ensures { IfOk result (λ links. links ≡ filter_map (network_link network.now) arcs.now) }
 {
@@ -54,12 +59,12 @@ fn network_links(alloc: Global, network: &[bool], arcs: &[GraphArc]) -> Result<I
 }
 
 /// Adds the nodes of a pin, where it is of the network.
-fn add_port_nodes(nodes: &mut Items<u32>, network: &[bool], port: u32) -> Result<(), Memory>
+fn add_port_nodes(nodes: &mut Items<u32>, network: &CowTable<bool>, port: u32) -> Result<(), Memory>
     requires long { length network.now ≤ 2 ^ 31 }
     requires port { port < length network.now }
     ensures { OnOk result (nodes.new ≡ nodes.old ++ port_nodes network.now port) }
 {
-    if !network[port as usize] {
+    if !*network.get(port as usize) {
         return Ok(());
     }
     nodes.push(node_number(port, Tran::Rise))?;
@@ -67,7 +72,7 @@ fn add_port_nodes(nodes: &mut Items<u32>, network: &[bool], port: u32) -> Result
 }
 
 /// The nodes of the clocks' ports that are of the network.
-fn ports_nodes(alloc: Global, network: &[bool], ports: &[u32]) -> Result<Items<u32>, Memory>
+fn ports_nodes(alloc: Global, network: &CowTable<bool>, ports: &[u32]) -> Result<Items<u32>, Memory>
     requires long { length network.now ≤ 2 ^ 31 }
     requires ports { All (λ port. port < length network.now) ports.now }
     ensures { IfOk result (λ nodes. nodes ≡ flat_map (port_nodes network.now) ports.now) }
@@ -162,7 +167,7 @@ fn places_in(alloc: Global, n: u32, nodes: &[AtLevel]) -> Result<Items<Option<u3
 fn clocked(
     alloc: Global,
     n: u32,
-    network: &[bool],
+    network: &CowTable<bool>,
     ports: &[u32],
     arcs: &[GraphArc],
 ) -> Result<Items<bool>, Memory>
@@ -199,7 +204,7 @@ pub(crate) struct NodePlaces {
 pub(crate) fn places(
     alloc: Global,
     n: u32,
-    network: &[bool],
+    network: &CowTable<bool>,
     ports: &[u32],
     arcs: &[GraphArc],
     levels: &[u32],

@@ -18,13 +18,14 @@ use crate::node_arcs::{add_arc, may_enter, net_arc, standing_arc};
 use crate::nodes::node_number;
 use crate::pin_arcs::PinArc;
 use crate::pulls::{arcs_into, driver_of};
+use cow_table::CowTable;
 use netlist_store::Store;
 use sta_units::Memory;
 use std::alloc::Global;
 use timing_defs::{Items, Tran};
 
 /// The arc into a node from the pin that drives its net.
-fn driven_arc(network: &[bool], pin: u32, tran: Tran, from: u32) -> Option<GraphArc>
+fn driven_arc(network: &CowTable<bool>, pin: u32, tran: Tran, from: u32) -> Option<GraphArc>
     requires long { length network.now ≤ 2 ^ 31 }
     requires from { from < length network.now }
     requires pin { pin < length network.now }
@@ -38,7 +39,12 @@ fn driven_arc(network: &[bool], pin: u32, tran: Tran, from: u32) -> Option<Graph
 }
 
 /// The same, where some pin drives the net.
-fn driven_into(network: &[bool], before: Option<u32>, pin: u32, tran: Tran) -> Option<GraphArc>
+fn driven_into(
+    network: &CowTable<bool>,
+    before: Option<u32>,
+    pin: u32,
+    tran: Tran,
+) -> Option<GraphArc>
     requires long { length network.now ≤ 2 ^ 31 }
     requires before { IfSome before (λ from. from < length network.now) }
     requires pin { pin < length network.now }
@@ -51,7 +57,7 @@ fn driven_into(network: &[bool], before: Option<u32>, pin: u32, tran: Tran) -> O
 }
 
 /// A library arc that stands and leads to a node.
-fn standing_into(network: &[bool], node: u32, arc: PinArc) -> Option<GraphArc>
+fn standing_into(network: &CowTable<bool>, node: u32, arc: PinArc) -> Option<GraphArc>
     requires long { length network.now ≤ 2 ^ 31 }
     requires from { arc.from < length network.now }
     requires to { arc.to < length network.now }
@@ -68,7 +74,7 @@ fn standing_into(network: &[bool], node: u32, arc: PinArc) -> Option<GraphArc>
 #[tactic(auto, using(crate::proofs::ArcLaws::mapped_more))]
 fn add_standing(
     arcs: &mut Items<GraphArc>,
-    network: &[bool],
+    network: &CowTable<bool>,
     node: u32,
     library: &[PinArc],
 ) -> Result<(), Memory>
@@ -85,7 +91,7 @@ fn add_standing(
 /// The arcs into a pin's node: several from one node where several library arcs are.
 fn pulled(
     alloc: Global,
-    network: &[bool],
+    network: &CowTable<bool>,
     before: Option<u32>,
     library: &[PinArc],
     pin: u32,
@@ -202,7 +208,7 @@ fn put_all(alloc: Global, outs: &mut Fans, new: &[GraphArc]) -> Result<(), Memor
 fn arcs_to(
     alloc: Global,
     store: &Store,
-    network: &[bool],
+    network: &CowTable<bool>,
     library: &[PinArc],
     pin: u32,
     tran: Tran,
@@ -275,7 +281,7 @@ fn put_node(
 fn relink_node(
     alloc: Global,
     store: &Store,
-    network: &[bool],
+    network: &CowTable<bool>,
     ins: &mut Fans,
     outs: &mut Fans,
     library: &[PinArc],
@@ -303,7 +309,7 @@ fn relink_node(
 fn relink_pin(
     alloc: Global,
     store: &Store,
-    network: &[bool],
+    network: &CowTable<bool>,
     ins: &mut Fans,
     outs: &mut Fans,
     pin: u32,
@@ -326,7 +332,7 @@ fn relink_pin(
 pub(crate) fn relink(
     alloc: Global,
     store: &Store,
-    network: &[bool],
+    network: &CowTable<bool>,
     ins: &mut Fans,
     outs: &mut Fans,
     pins: &[u32],

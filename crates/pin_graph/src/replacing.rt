@@ -56,7 +56,7 @@ pub(crate) struct BothFans {
 fn fans_after(
     alloc: Global,
     store: &Store,
-    network: &[bool],
+    network: &CowTable<bool>,
     tables: &Tables,
     dirty: &[u32],
 ) -> Result<BothFans, Memory>
@@ -83,7 +83,7 @@ fn levels_after(
     base: &Store,
     store: &Store,
     touched: &Touched,
-    network: &[bool],
+    network: &CowTable<bool>,
     tables: &Tables,
     both: &BothFans,
     pin_levels: &CowTable<u32>,
@@ -119,7 +119,7 @@ fn nodes_after(
     base: &Store,
     store: &Store,
     touched: &Touched,
-    network: &[bool],
+    network: &CowTable<bool>,
     tables: &Tables,
     pin_levels: &CowTable<u32>,
     dirty: &[u32],
@@ -165,14 +165,13 @@ fn tables_after(
     requires off { (pin : ℕ) → IsTrue (is_noted dirty.now pins pin) → IsOff tables.now.network pins pin }
     ensures { IfOk result (λ ended. IfSome ended (IsKept store.now)) }
 {
-    let network = network_after(alloc, tables.network.get().as_slice(), store.pin_bound())?;
-    let marks = network.get().as_slice();
+    let network = network_after(&tables.network, store.pin_bound())?;
     let Some(nodes) = nodes_after(
         alloc,
         base,
         store,
         touched,
-        marks,
+        &network,
         tables,
         &pins.levels,
         dirty,

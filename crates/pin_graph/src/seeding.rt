@@ -1,7 +1,7 @@
 //! The seeds of an update: the nodes of pins that an ECO touched, and those whose arcs in or membership
 //! of the clock network are other than in the base.
 
-ghost use Rattle.std.specs.Prelude.{◌≡◌, ◌&&◌, ◌||◌, ◌++◌, ◌∷◌, [], ◌<◌, ◌^◌, ℕ, not, nat_eq, true, All, IsTrue, length, IfOk, OnOk, if◌then◌else◌};
+ghost use Rattle.std.specs.Prelude.{◌≡◌, ◌&&◌, ◌||◌, ◌++◌, ◌∷◌, [], ◌<◌, ◌^◌, ℕ, not, nat_eq, true, All, IsTrue, IfOk, OnOk, if◌then◌else◌};
 ghost use Rattle.std.specs.List.{list_any, list_all, filter_map, flat_map, range_with_len};
 ghost use Rattle.std.specs.List.Sorted.{IsStrictlyIncreasing};
 ghost use Rattle.timing_defs.specs.Cones.{same_truth};
@@ -10,8 +10,7 @@ ghost use Rattle.netlist_store.specs.Numbering.{is_number};
 ghost use Rattle.pin_graph.specs.Joins.{own_number};
 ghost use Rattle.pin_graph.specs.NodeArcs.{is_cell, marked};
 ghost use Rattle.pin_graph.specs.Nodes.{node_bound, pin_under};
-ghost use Rattle.pin_graph.specs.Graphs.{fan_at, network_at};
-ghost use Rattle.pin_graph.specs.Seeds.{is_joined_at, is_owned_at, is_touched_at, numbers_of, same_graph_arc, same_fans, is_turned, is_moved, turned_at, gone_at, AreSeeds};
+ghost use Rattle.pin_graph.specs.Seeds.{is_joined_at, is_owned_at, is_touched_at, numbers_of, same_graph_arc, same_fans, is_turned, is_moved, is_unmarked, turned_at, gone_at, AreSeeds};
 
 use crate::arcs::{GraphArc, GraphKind};
 use crate::graphs::Graph;
@@ -237,57 +236,78 @@ fn turned_nodes(alloc: Global, base: &Graph, graph: &Graph) -> Result<Items<u32>
     Ok(nodes)
 }
 
-fn equal_marks(a: &[bool], b: &[bool]) -> bool
-    ensures { IsTrue result → a.now ≡ b.now }
+/// Whether a pin is of the clock network neither before nor after an ECO.
+fn is_unmarked(base: &Graph, graph: &Graph, pin: u32) -> bool
+    ensures { result ≡ is_unmarked base.now graph.now pin }
 {
-    a == b
+    !base.is_marked(pin) && !graph.is_marked(pin)
 }
 
-fn no_marks(marks: &[bool]) -> bool
-    ensures { result ≡ list_all not marks.now }
+fn are_unmarked(base: &Graph, graph: &Graph, pins: &[u32]) -> bool
+    ensures { result ≡ list_all (is_unmarked base.now graph.now) pins.now }
 {
-    marks.iter().all(|mark| !*mark)
+    pins.iter().all(|pin| is_unmarked(base, graph, *pin))
 }
 
-/// Whether marks after a change are those before it, and none of those that came is set.
-fn same_marks(before: &[bool], after: &[bool]) -> bool
-    ensures { IsTrue result → (pin : ℕ) → marked after.now pin ≡ marked before.now pin }
+/// Whether no pin at which an ECO changed links is of the clock network before or after it: then it left the
+/// network. Given the pins that it touched.
+fn leaves_marks(
+    alloc: Global,
+    base: &Graph,
+    graph: &Graph,
+    touched: &Touched,
+    pins: &[u32],
+) -> Result<bool, Memory>
+    requires made { IsEditOf base.now.stored (record { insts = touched.now.insts; nets = touched.now.nets }) graph.now.stored }
+    requires pins { (pin : ℕ) → list_any (nat_eq pin) pins.now ≡ is_touched_at graph.now.stored (record { insts = touched.now.insts; nets = touched.now.nets }) pin }
+    ensures { IfOk result (λ left. IsTrue left → (pin : ℕ) → marked graph.now.network pin ≡ marked base.now.network pin) }
 {
-    if before.len() > after.len() {
-        return false;
+    base.kept();
+    graph.kept();
+    if !are_unmarked(base, graph, pins) {
+        return Ok(false);
     }
-    let (first, more) = after.split_at(before.len());
-    equal_marks(first, before) && no_marks(more)
+    let gone = gone_pins(alloc, base, graph, touched)?;
+    Ok(are_unmarked(base, graph, gone.as_slice()))
 }
 
-/// Whether the ECO left all links, or the clock network: then only nodes of touched pins are turned. In the time
-/// of the change, and of a comparison of the marks of pins.
-fn leaves_nodes(base: &Graph, graph: &Graph, touched: &Touched) -> bool
-    requires { IsEditOf base.now.stored (record { insts = touched.now.insts; nets = touched.now.nets }) graph.now.stored }
-    ensures { IsTrue result → (node : ℕ) → is_moved base.now graph.now (record { insts = touched.now.insts; nets = touched.now.nets }) node ≡ is_touched_at graph.now.stored (record { insts = touched.now.insts; nets = touched.now.nets }) (pin_under node) }
+/// Whether the ECO left all links, or the clock network: then only nodes of touched pins are turned. Given
+/// these, in the time of the change.
+fn leaves_nodes(
+    alloc: Global,
+    base: &Graph,
+    graph: &Graph,
+    touched: &Touched,
+    pins: &[u32],
+) -> Result<bool, Memory>
+    requires made { IsEditOf base.now.stored (record { insts = touched.now.insts; nets = touched.now.nets }) graph.now.stored }
+    requires pins { (pin : ℕ) → list_any (nat_eq pin) pins.now ≡ is_touched_at graph.now.stored (record { insts = touched.now.insts; nets = touched.now.nets }) pin }
+    ensures { IfOk result (λ left. IsTrue left → (node : ℕ) → is_moved base.now graph.now (record { insts = touched.now.insts; nets = touched.now.nets }) node ≡ is_touched_at graph.now.stored (record { insts = touched.now.insts; nets = touched.now.nets }) (pin_under node)) }
 {
     base.kept();
     graph.kept();
     if keeps_links(base.store(), graph.store(), touched) {
-        return true;
+        return Ok(true);
     }
-    same_marks(base.network(), graph.network())
+    leaves_marks(alloc, base, graph, touched, pins)
 }
 
-/// Nodes that are turned, all but those of touched pins. Goes over all nodes and arcs where the ECO changed the
-/// clock network.
+/// Nodes that are turned, all but those of touched pins, which are given. Goes over all nodes and arcs where
+/// the ECO changed links at a pin that is of the clock network before or after it.
 fn changed_nodes(
     alloc: Global,
     base: &Graph,
     graph: &Graph,
     touched: &Touched,
+    pins: &[u32],
 ) -> Result<Items<u32>, Memory>
-    requires { IsEditOf base.now.stored (record { insts = touched.now.insts; nets = touched.now.nets }) graph.now.stored }
+    requires made { IsEditOf base.now.stored (record { insts = touched.now.insts; nets = touched.now.nets }) graph.now.stored }
+    requires pins { (pin : ℕ) → list_any (nat_eq pin) pins.now ≡ is_touched_at graph.now.stored (record { insts = touched.now.insts; nets = touched.now.nets }) pin }
     ensures { IfOk result (λ nodes. (node : ℕ) → (is_touched_at graph.now.stored (record { insts = touched.now.insts; nets = touched.now.nets }) (pin_under node) || list_any (nat_eq node) nodes) ≡ is_moved base.now graph.now (record { insts = touched.now.insts; nets = touched.now.nets }) node) }
 {
     base.kept();
     graph.kept();
-    if leaves_nodes(base, graph, touched) {
+    if leaves_nodes(alloc, base, graph, touched, pins)? {
         return Ok(Items::new(alloc));
     }
     turned_nodes(alloc, base, graph)
@@ -316,15 +336,15 @@ fn found_nodes(
 {
     let pins = touched_pins(alloc, graph.store(), touched)?;
     let mut nodes = nodes_of(alloc, pins.as_slice())?;
-    let turned = changed_nodes(alloc, base, graph, touched)?;
+    let turned = changed_nodes(alloc, base, graph, touched, pins.as_slice())?;
     add_all(&mut nodes, turned.as_slice())?;
     Ok(nodes)
 }
 
 /// The seeds of the update of an analysis: the numbers of the nodes of pins that the ECO touched, and of
 /// those that the base lacks or whose arcs in or membership of the clock network are other than in the base,
-/// in rising order. In the time of the change and of a comparison of the marks of pins where the ECO left the
-/// clock network, and else of the nodes and arcs.
+/// in rising order. In the time of the change; where the ECO changed links at a pin that is of the clock network
+/// before or after it, in that of all nodes and arcs.
 pub fn seeds(
     alloc: Global,
     base: &Graph,

@@ -19,7 +19,7 @@ pub(crate) struct Tables {
     pub(crate) ins: Fans,
     pub(crate) outs: Fans,
     /// Whether a pin is of the clock network.
-    pub(crate) network: Held<Items<bool>>,
+    pub(crate) network: CowTable<bool>,
     /// 1 where clocks' ports reach a pin, else 0.
     pub(crate) fed: CowTable<u32>,
     /// 1 where a pin reaches a register's clock pin, else 0.
@@ -57,7 +57,7 @@ pub(crate) struct NodeTables {
 /// The tables of pins.
 #[derive(Drop)]
 pub(crate) struct PinTables {
-    pub(crate) network: Held<Items<bool>>,
+    pub(crate) network: CowTable<bool>,
     pub(crate) fed: CowTable<u32>,
     pub(crate) feeds: CowTable<u32>,
     pub(crate) levels: CowTable<u32>,
@@ -128,9 +128,9 @@ pub(crate) fn pin_tables(alloc: Global, pins: &PinGraph) -> Result<PinTables, Me
     let fed = flag_table(alloc, pins.reach.from_clocks.as_slice())?;
     let feeds = flag_table(alloc, pins.reach.to_registers.as_slice())?;
     let levels = number_table(alloc, pins.levels.as_slice())?;
-    let network = Items::from_slice(alloc, pins.network.as_slice())?;
+    let network = pins.network.copy()?;
     Ok(PinTables {
-        network: Held::of(alloc, network)?,
+        network,
         fed,
         feeds,
         levels,

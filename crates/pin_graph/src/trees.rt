@@ -1,7 +1,6 @@
 //! Whether the clock network is a tree: each of its pins is entered from one pin, and with one sense.
 
-ghost use Rattle.std.specs.Prelude.{◌≡◌, ◌<◌, [], None, Some, true, false, All, length, slice_index_or, if◌then◌else◌, IfOk, IfErr, OnOk};
-ghost use Rattle.timing_defs.specs.Netlist.{same_tran};
+ghost use Rattle.std.specs.Prelude.{◌≡◌, ◌<◌, [], None, Some, false, All, length, slice_index_or, if◌then◌else◌, IfOk, IfErr, OnOk};
 ghost use Rattle.timing_defs.specs.Checks.{net_fault, clock_not_tree, HasNoLoop};
 ghost use Rattle.pin_graph.specs.Refusals.{IsGraphRefused};
 ghost use Rattle.pin_graph.specs.Networks.{IsNetwork};
@@ -10,10 +9,11 @@ ghost use Rattle.pin_graph.specs.Trees.{enters, entry_of, same_entry, noted_entr
 
 use crate::loops::{least_place, names_of};
 use crate::pin_arcs::PinArc;
+use cow_table::CowTable;
 use netlist_store::Store;
 use sta_units::Memory;
 use std::alloc::Global;
-use timing_defs::{ArcKind, Fault, Items, Name, Tran};
+use timing_defs::{ArcKind, Fault, Items, Name};
 
 /// How an arc enters a pin: from which pin, and whether it keeps the transition.
 #[derive(Clone, Copy, Drop)]
@@ -23,24 +23,14 @@ pub(crate) struct Entry {
 }
 
 /// Whether an arc is combinational and between pins of the network.
-fn enters(network: &[bool], arc: PinArc) -> bool
+fn enters(network: &CowTable<bool>, arc: PinArc) -> bool
     requires from { arc.from < length network.now }
     requires to { arc.to < length network.now }
     ensures { result ≡ enters network.now arc }
 {
     match arc.kind {
-        ArcKind::Comb => network[arc.from as usize] && network[arc.to as usize],
+        ArcKind::Comb => *network.get(arc.from as usize) && *network.get(arc.to as usize),
         ArcKind::Edge => false,
-    }
-}
-
-/// Whether two transitions are the same.
-fn same_tran(a: Tran, b: Tran) -> bool
-    ensures { result ≡ same_tran a b }
-{
-    match (a, b) {
-        (Tran::Rise, Tran::Rise) | (Tran::Fall, Tran::Fall) => true,
-        (Tran::Rise, Tran::Fall) | (Tran::Fall, Tran::Rise) => false,
     }
 }
 
@@ -49,7 +39,7 @@ fn entry_of(arc: PinArc) -> Entry
 {
     Entry {
         from: arc.from,
-        keeps: same_tran(arc.from_tran, arc.to_tran),
+        keeps: arc.from_tran.is(arc.to_tran),
     }
 }
 
@@ -61,7 +51,7 @@ fn same_entry(a: Entry, b: Entry) -> bool
 
 /// Notes how an arc enters its pin, and the pin where another arc entered it in another way.
 fn note(
-    network: &[bool],
+    network: &CowTable<bool>,
     entries: &mut [Option<Entry>],
     apart: &mut Items<u32>,
     arc: PinArc,
@@ -85,7 +75,11 @@ fn note(
 }
 
 /// The pins that arcs of the network enter in different ways.
-fn pins_apart(alloc: Global, network: &[bool], arcs: &[PinArc]) -> Result<Items<u32>, Memory>
+fn pins_apart(
+    alloc: Global,
+    network: &CowTable<bool>,
+    arcs: &[PinArc],
+) -> Result<Items<u32>, Memory>
     requires { All (λ arc. (arc.from < length network.now) × (arc.to < length network.now)) arcs.now }
     ensures { IfOk result (AreAllApart network.now arcs.now) }
 {
@@ -109,7 +103,7 @@ fn name_at(alloc: Global, names: &[Name], place: usize) -> Result<Name, Memory>
 pub(crate) fn check_tree(
     alloc: Global,
     store: &Store,
-    network: &[bool],
+    network: &CowTable<bool>,
     arcs: &[PinArc],
 ) -> Result<(), Fault>
     requires fault { net_fault store.now.design ≡ None }

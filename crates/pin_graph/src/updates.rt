@@ -1,9 +1,6 @@
 //! The tables of a graph after an ECO that changed links and left the clock network.
 
-ghost use Rattle.std.specs.Prelude.{List, ℕ, ◌≡◌, ◌<◌, ◌≤◌, ◌^◌, false, nat_eq, map, All, length, slice_index, slice_index_or, IsTrue, IfOk, IfSome, OnOk, None};
-ghost use Rattle.std.specs.List.{list_any};
-ghost use Rattle.timing_defs.specs.Checks.{net_fault};
-ghost use Rattle.netlist_store.specs.Applying.{IsEditOf};
+ghost use Rattle.std.specs.Prelude.{List, ℕ, ◌≡◌, ◌<◌, ◌≤◌, ◌^◌, false, map, All, length, slice_index_or, IsTrue, IfOk, IfSome, None};
 ghost use Rattle.settling.specs.Settled.{is_among, IsRule, IsSettled};
 ghost use Rattle.levelizer.specs.Levels.{AreLevels};
 ghost use Rattle.levelizer.specs.Reaching.{AreReached};
@@ -16,7 +13,7 @@ ghost use Rattle.pin_graph.specs.Renewed.{IsEdited, AreDirty, AreResettled, AreF
 use crate::networks::clock_ports;
 use crate::pin_rules::{Fed, Feeds, PinLevels};
 use crate::tables::Tables;
-use cow_table::{CowTable, Held};
+use cow_table::CowTable;
 use netlist_store::{Store, Touched};
 use settling::{Rule, settle};
 use sta_units::Memory;
@@ -176,29 +173,31 @@ pub(crate) fn pins_after(
     Ok(Some(PinsAfter { levels, fed, feeds }))
 }
 
-/// Whether a pin is of the network before an ECO.
-fn was_marked(network: &[bool], pin: u32) -> bool
+/// Whether a pin is of the network; a number past all pins is not.
+#[tactic(auto, using(std::proofs::lemmas::List::get_or_past))]
+pub(crate) fn is_marked(network: &CowTable<bool>, pin: u32) -> bool
     ensures { result ≡ marked network.now pin }
 {
-    match network.get(pin as usize) {
-        Some(mark) => *mark,
-        None => false,
+    let at = pin as usize;
+    if network.len() <= at {
+        return false;
     }
+    *network.get(at)
 }
 
 /// Whether a pin is of the network neither before nor after an ECO.
-fn is_off(network: &[bool], pins: &PinsAfter, pin: u32) -> bool
+fn is_off(network: &CowTable<bool>, pins: &PinsAfter, pin: u32) -> bool
     requires fed { pin < length pins.now.fed.values }
     requires feeds { pin < length pins.now.feeds.values }
     ensures { IsTrue result → IsOff network.now pins.now pin }
 {
-    !was_marked(network, pin)
+    !is_marked(network, pin)
         && !(*pins.fed.values.get(pin as usize) == 1 && *pins.feeds.values.get(pin as usize) == 1)
 }
 
 /// Whether pins are of the network neither before nor after an ECO.
 #[tactic(auto, using(crate::proofs::AfterLaws::each_more, crate::proofs::AfterLaws::each_all))]
-fn are_off(network: &[bool], pins: &PinsAfter, list: &[u32]) -> bool
+fn are_off(network: &CowTable<bool>, pins: &PinsAfter, list: &[u32]) -> bool
     requires fed { All (λ pin. pin < length pins.now.fed.values) list.now }
     requires feeds { All (λ pin. pin < length pins.now.feeds.values) list.now }
     ensures { IsTrue result → All (IsOff network.now pins.now) list.now }
@@ -225,7 +224,7 @@ pub(crate) fn leaves_network(
 {
     // The store is asked for by the contract alone.
     let _ = store;
-    let network = tables.network.get().as_slice();
+    let network = &tables.network;
     if !are_off(network, pins, dirty) {
         return false;
     }
@@ -237,21 +236,17 @@ pub(crate) fn leaves_network(
 
 /// The marks of the network, false at each pin more, up to that many.
 #[tactic(auto, using(crate::proofs::AfterLaws::reads_start, crate::proofs::AfterLaws::reads_more, crate::proofs::AfterLaws::reads_end))]
-pub(crate) fn network_after(
-    alloc: Global,
-    network: &[bool],
-    n: u32,
-) -> Result<Held<Items<bool>>, Memory>
+pub(crate) fn network_after(network: &CowTable<bool>, n: u32) -> Result<CowTable<bool>, Memory>
     requires { length network.now ≤ n }
     ensures count { IfOk result (λ marks. length marks ≡ n) }
     ensures same { IfOk result (λ marks. (x : ℕ) → marked marks x ≡ marked network.now x) }
 {
-    let mut marks = Items::from_slice(alloc, network)?;
-    for at in network.len()..n as usize {
+    let mut marks = network.copy()?;
+    for at in marks.len()..n as usize {
         let _ = at;
         marks.push(false)?;
     }
-    Held::of(alloc, marks)
+    Ok(marks)
 }
 
 /// The places of nodes, none at each node more, up to that many.

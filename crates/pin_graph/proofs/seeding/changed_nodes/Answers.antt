@@ -8,11 +8,11 @@ use Rattle.pin_graph.proofs.SeedPins.{ok_each}
 use Rattle.pin_graph.proofs.TurnedLaws.{or_none}
 use Rattle.pin_graph.proofs.seeding.changed_nodes.Goals as goal
 
-pub returns-then-leaves_nodes : goal.returns-then-leaves_nodes
-returns-then-leaves_nodes c = λ node.
+pub returns-then-branch : goal.returns-then-branch
+returns-then-branch c = λ node.
     ap (λ xs. is_touched_at c.args.graph.now.stored (record { insts = c.args.touched.now.insts; nets = c.args.touched.now.nets }) (pin_under node) || list_any (nat_eq node) xs) c.new.ensures
     ∙ or_none (is_touched_at c.args.graph.now.stored (record { insts = c.args.touched.now.insts; nets = c.args.touched.now.nets }) (pin_under node))
-    ∙ sym (c.leaves_nodes.ensures c.if-leaves_nodes.true node)
+    ∙ sym (c.in_ok-leaves_nodes.ensures c.if-branch.true node)
 
 pub returns : goal.returns
 returns c =
@@ -23,5 +23,5 @@ returns c =
     ap (λ b. is_touched_at c.args.graph.now.stored (record { insts = c.args.touched.now.insts; nets = c.args.touched.now.nets }) (pin_under node) || b)
     (ap (list_any (nat_eq node)) is
     ∙ turned_list c.args.base.now c.args.graph.now c.kept.ensures.numbered c.kept-2.ensures.numbered c.kept.ensures.linked c.kept-2.ensures.linked
-    c.kept.ensures.graph c.kept-2.ensures.graph c.requires.1.numbers.pins node))
+    c.kept.ensures.graph c.kept-2.ensures.graph c.requires.made.1.numbers.pins node))
     c.turned_nodes.ensures
