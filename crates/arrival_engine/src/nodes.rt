@@ -90,9 +90,9 @@ fn befores<'a>(
     ensures { IfOk result (λ found. IsMap (IsBefore graph.now rows.now) (fan_at graph.now.ins node) found.items) }
 {
     let arcs = graph.arcs_in(node);
-    let mut found = Vec::with_capacity(alloc, arcs.len()).map_err(|_| Memory)?;
+    let mut found = Vec::with_capacity(alloc, arcs.len())?;
     for arc in arcs {
-        found.push(before(graph, rows, arc)).map_err(|_| Memory)?;
+        found.push(before(graph, rows, arc))?;
     }
     Ok(found)
 }

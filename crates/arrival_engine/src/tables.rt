@@ -83,7 +83,7 @@ pub(crate) fn sized(
 pub(crate) fn shared<T: Drop>(alloc: Global, value: T) -> Result<Arc<T>, Memory>
     ensures { IfOk result (λ owner. arc_value owner ≡ value) }
 {
-    Arc::new(alloc, value).map_err(|_| Memory)
+    Ok(Arc::new(alloc, value)?)
 }
 
 /// The ports of a store, to be shared.

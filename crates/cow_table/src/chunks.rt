@@ -44,7 +44,7 @@ impl<T: Drop> Chunk<T> {
         ensures { IfOk result (λ chunk. chunk ≡ first ∷ []) }
     {
         let mut items = Vec::new(alloc);
-        items.push(first).map_err(|_| Memory)?;
+        items.push(first)?;
         Ok(Chunk { items })
     }
 
@@ -61,7 +61,7 @@ impl<T: Drop> Chunk<T> {
         ensures ok { OnOk result (self.new ≡ self.old ++ value ∷ []) }
         ensures err { OnErr result (self.new ≡ self.old) }
     {
-        self.items.push(value).map_err(|_| Memory)
+        Ok(self.items.push(value)?)
     }
 }
 
@@ -73,7 +73,7 @@ impl<T: Again + Drop> Chunk<T> {
         let mut items = Vec::with_capacity(alloc, CHUNK)?;
         for at in 0..CHUNK {
             let _ = at;
-            items.push(item.again(alloc)?).map_err(|_| Memory)?;
+            items.push(item.again(alloc)?)?;
         }
         Ok(Chunk { items })
     }

@@ -15,7 +15,7 @@ fn full_page<T: Again + Drop>(alloc: Global, item: &T) -> Result<Arc<Page<T>>, M
     ensures { IfOk result (λ page. arc_value page ≡ replicate 4096 item.now) }
 {
     let page = Page::filled(alloc, item)?;
-    Arc::new(alloc, page).map_err(|_| Memory)
+    Ok(Arc::new(alloc, page)?)
 }
 
 /// That many full pages of copies of an item, in a list with that much room.
@@ -31,7 +31,7 @@ fn some_pages<T: Again + Drop>(
     let mut pages = Vec::with_capacity(alloc, room)?;
     for at in 0..count {
         let _ = at;
-        pages.push(full_page(alloc, item)?).map_err(|_| Memory)?;
+        pages.push(full_page(alloc, item)?)?;
     }
     Ok(pages)
 }

@@ -38,7 +38,7 @@ impl<T: Drop> Held<T> {
     pub fn of(alloc: Global, value: T) -> Result<Held<T>, Memory>
         ensures { IfOk result (λ held. held ≡ value) }
     {
-        let held = Arc::new(alloc, value).map_err(|_| Memory)?;
+        let held = Arc::new(alloc, value)?;
         Ok(Held { held })
     }
 }

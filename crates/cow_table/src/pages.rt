@@ -63,7 +63,7 @@ fn chunk_of<T: Drop>(alloc: Global, first: T) -> Result<Arc<Chunk<T>>, Memory>
     ensures { IfOk result (λ chunk. arc_value chunk ≡ first ∷ []) }
 {
     let chunk = Chunk::of(alloc, first)?;
-    Arc::new(alloc, chunk).map_err(|_| Memory)
+    Ok(Arc::new(alloc, chunk)?)
 }
 
 /// Begins a chunk with `value`, where every chunk is full.
@@ -75,7 +75,7 @@ fn begin<T: Drop>(chunks: &mut Vec<Arc<Chunk<T>>>, alloc: Global, value: T) -> R
     ensures err { OnErr result (flat_map arc_value chunks.new.items ≡ flat_map arc_value chunks.old.items) }
 {
     let chunk = chunk_of(alloc, value)?;
-    chunks.push(chunk).map_err(|_| Memory)
+    Ok(chunks.push(chunk)?)
 }
 
 /// Adds `value` to the last chunk, which has room.
@@ -163,8 +163,8 @@ impl<T: Again + Drop> Page<T> {
         for at in 0..CHUNKS {
             let _ = at;
             let chunk = Chunk::filled(alloc, item)?;
-            let chunk = Arc::new(alloc, chunk).map_err(|_| Memory)?;
-            chunks.push(chunk).map_err(|_| Memory)?;
+            let chunk = Arc::new(alloc, chunk)?;
+            chunks.push(chunk)?;
         }
         Ok(Page { chunks })
     }

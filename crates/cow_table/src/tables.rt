@@ -251,7 +251,7 @@ fn begin<T: Drop>(pages: &mut Vec<Arc<Page<T>>>, alloc: Global, value: T) -> Res
     ensures err { OnErr result (flat_map arc_value pages.new.items ≡ flat_map arc_value pages.old.items) }
 {
     let page = page_of(alloc, value)?;
-    pages.push(page).map_err(|_| Memory)
+    Ok(pages.push(page)?)
 }
 
 /// A page of one item, with one owner.
@@ -259,5 +259,5 @@ fn page_of<T: Drop>(alloc: Global, first: T) -> Result<Arc<Page<T>>, Memory>
     ensures { IfOk result (λ page. arc_value page ≡ first ∷ []) }
 {
     let page = Page::of(alloc, first)?;
-    Arc::new(alloc, page).map_err(|_| Memory)
+    Ok(Arc::new(alloc, page)?)
 }

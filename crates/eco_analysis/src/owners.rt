@@ -13,7 +13,7 @@ use std::sync::Arc;
 pub fn shared<T: Drop>(alloc: Global, value: T) -> Result<Arc<T>, Memory>
     ensures { IfOk result (λ owner. arc_value owner ≡ value) }
 {
-    Arc::new(alloc, value).map_err(|_| Memory)
+    Ok(Arc::new(alloc, value)?)
 }
 
 /// What a shared analysis keeps, told to the proofs of callers; the call does nothing.

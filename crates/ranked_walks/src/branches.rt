@@ -318,6 +318,6 @@ pub(crate) fn add(branches: &mut Vec<Branch>, made: Option<Branch>) -> Result<()
 {
     match made {
         None => Ok(()),
-        Some(branch) => branches.push(branch).map_err(|_| Memory),
+        Some(branch) => Ok(branches.push(branch)?),
     }
 }

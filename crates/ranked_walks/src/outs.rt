@@ -20,7 +20,7 @@ fn no_outs(alloc: Global, count: usize) -> Result<Vec<OutArcs>, Memory>
     let mut outs = Vec::new(alloc);
     for node in 0..count {
         let _ = node;
-        outs.push(OutArcs::new(alloc)).map_err(|_| Memory)?;
+        outs.push(OutArcs::new(alloc))?;
     }
     Ok(outs)
 }

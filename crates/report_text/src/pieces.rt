@@ -20,7 +20,7 @@ pub(crate) fn push(out: &mut Vec<u8>, text: &[u8]) -> Result<(), Memory>
 fn push_byte(out: &mut Vec<u8>, byte: u8) -> Result<(), Memory>
     ensures { OnOk result (out.new.items ≡ out.old.items ++ byte ∷ []) }
 {
-    out.push(byte).map_err(|_| Memory)
+    Ok(out.push(byte)?)
 }
 
 /// A line feed.

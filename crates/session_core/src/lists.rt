@@ -28,8 +28,8 @@ fn push_each<A: Drop, B: Drop>(
     ensures second_err { OnErr result (seconds.new.items ≡ seconds.old.items) }
 {
     seconds.reserve(1)?;
-    firsts.push(first).map_err(|_| Memory)?;
-    seconds.push(second).map_err(|_| Memory)
+    firsts.push(first)?;
+    Ok(seconds.push(second)?)
 }
 
 /// Adds an element to each of two lists, or to neither where memory is wanting.
