@@ -1,7 +1,6 @@
 //! The answers to questions.
 
 ghost use Rattle.std.specs.Prelude.{◌≡◌, true, pos, map, Some, IfOk, IfErr};
-ghost use Rattle.timing_defs.specs.Required.{back_times};
 ghost use Rattle.timing_defs.specs.Reports.{fs_value, is_plain};
 ghost use Rattle.timing_defs.specs.Questions.{Told, query_fault};
 ghost use Rattle.affected_cone.specs.Analysed.{slack_in};
@@ -23,7 +22,7 @@ use pin_graph::Graph;
 use required_engine::Required;
 use sta_units::Memory;
 use std::alloc::Global;
-use timing_defs::{BackRow, EdgeTime, Items, Kind, Name, Query, QueryFault, Report, Split, Tran};
+use timing_defs::{EdgeTime, Items, Kind, Name, Query, QueryFault, Report, Split, Tran};
 
 /// What questions are answered from: a store with the parts of its analysis.
 #[derive(Clone, Copy, Drop)]
@@ -34,16 +33,6 @@ pub(crate) struct Known<'a> {
     pub(crate) required: &'a Required,
     pub(crate) tree: &'a ClockTree,
     pub(crate) ends: &'a [EndSlacks],
-}
-
-/// The required times of a row in a split.
-fn back_times(row: &BackRow, split: Split) -> &[EdgeTime]
-    ensures { result.now ≡ back_times split row.now }
-{
-    match split {
-        Split::Early => row.early.as_slice(),
-        Split::Late => row.late.as_slice(),
-    }
 }
 
 /// A report of times.
@@ -106,7 +95,7 @@ fn required_times(
     ensures refused { IfErr result (IsRefusal (query_fault known.now.store.now.design (Query.Rat pin.now split tran))) }
 {
     let node = node_named(alloc, known.store, known.graph, pin, tran)?;
-    let report = times_report(alloc, back_times(known.required.row(node), split))?;
+    let report = times_report(alloc, known.required.row(node).times(split).as_slice())?;
     Ok(report)
 }
 

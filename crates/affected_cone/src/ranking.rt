@@ -47,7 +47,7 @@ fn ranked_ends<'a>(
     let mut found = Vec::new(alloc);
     for end in ends {
         if let Some(ranked) = ranked_end(store, end, kind) {
-            found.push(ranked).map_err(|_| Memory)?;
+            found.push(ranked)?;
         }
     }
     Ok(found)

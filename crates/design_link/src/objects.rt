@@ -2,7 +2,6 @@
 
 ghost use Rattle.std.specs.Prelude.{◌≡◌, ◌++◌, ◌∷◌, ◌&&◌, ◌||◌, [], ℕ, List, Some, true, option_map, if◌then◌else◌, IfOk, OnOk};
 ghost use Rattle.std.specs.List.{filter_map};
-ghost use Rattle.timing_defs.specs.Netlist.{same_dir};
 ghost use Rattle.timing_defs.specs.Edits.{has_colon};
 ghost use Rattle.timing_defs.specs.Rules.{is_clock_name, as_pin};
 ghost use Rattle.timing_defs.specs.Checks.{port_named, is_port, is_inst, is_pin, is_any, dangling_object, dangling_objects};
@@ -14,16 +13,6 @@ use netlist_store::Store;
 use sta_units::Memory;
 use std::alloc::Global;
 use timing_defs::{Clock, Dir, Items, Name, Object};
-
-/// Whether two directions are the same.
-fn same_dir(a: Dir, b: Dir) -> bool
-    ensures { result ≡ same_dir a b }
-{
-    match a {
-        Dir::Input => matches!(b, Dir::Input),
-        Dir::Output => matches!(b, Dir::Output),
-    }
-}
 
 /// The direction of the port that has the number of a name; none where an instance's pin has it.
 fn port_dir_at(store: &Store, pin: u32) -> Option<Dir>
@@ -53,7 +42,7 @@ pub(crate) fn is_port(store: &Store, dir: Dir, name: &Name) -> bool
     ensures { result ≡ is_port store.now.design dir name.now }
 {
     match port_dir(store, name) {
-        Some(its) => same_dir(its, dir),
+        Some(its) => its.is(dir),
         None => false,
     }
 }
@@ -103,7 +92,7 @@ fn is_any(alloc: Global, store: &Store, dir: Dir, word: &Name) -> Result<bool, M
         return Ok(true);
     }
     match port_dir(store, word) {
-        Some(its) => Ok(same_dir(its, dir)),
+        Some(its) => Ok(its.is(dir)),
         None => is_pin_or_inst(alloc, store, word),
     }
 }

@@ -3,31 +3,11 @@
 ghost use Rattle.std.specs.Prelude.{◌≡◌, ◌&&◌, ◌||◌, not, false, slice_get};
 ghost use Rattle.std.specs.List.{list_all, list_any};
 ghost use Rattle.std.specs.Option.{option_map_or};
-ghost use Rattle.timing_defs.specs.Netlist.{same_dir, same_tran};
 ghost use Rattle.timing_defs.specs.Clocking.{comb_kind};
 ghost use Rattle.timing_defs.specs.Tests.{same_kind};
 ghost use Rattle.timing_defs.specs.Edits.{same_cell_pin, same_arc, same_test, same_set, cells_agree};
 
-use timing_defs::{ArcKind, Cell, CellArc, CellPin, CellTest, Dir, Kind, Tran};
-
-/// Whether two directions are the same.
-pub(crate) fn same_dir(a: Dir, b: Dir) -> bool
-    ensures { result ≡ same_dir a b }
-{
-    match a {
-        Dir::Input => matches!(b, Dir::Input),
-        Dir::Output => matches!(b, Dir::Output),
-    }
-}
-
-fn same_tran(a: Tran, b: Tran) -> bool
-    ensures { result ≡ same_tran a b }
-{
-    match a {
-        Tran::Rise => matches!(b, Tran::Rise),
-        Tran::Fall => matches!(b, Tran::Fall),
-    }
-}
+use timing_defs::{ArcKind, Cell, CellArc, CellPin, CellTest, Kind};
 
 fn same_kind(a: Kind, b: Kind) -> bool
     ensures { result ≡ same_kind a b }
@@ -38,31 +18,25 @@ fn same_kind(a: Kind, b: Kind) -> bool
     }
 }
 
-fn is_comb(kind: ArcKind) -> bool
-    ensures { result ≡ comb_kind kind }
-{
-    matches!(kind, ArcKind::Comb)
-}
-
 fn same_pin(a: &CellPin, b: &CellPin) -> bool
     ensures { result ≡ same_cell_pin a.now b.now }
 {
-    a.name == b.name && same_dir(a.dir, b.dir)
+    a.name == b.name && a.dir.is(b.dir)
 }
 
 fn same_arc_kind(a: ArcKind, b: ArcKind) -> bool
     ensures { result ≡ ((comb_kind a && comb_kind b) || (not (comb_kind a) && not (comb_kind b))) }
 {
-    is_comb(a) == is_comb(b)
+    a.is_comb() == b.is_comb()
 }
 
 fn same_arc(a: &CellArc, b: &CellArc) -> bool
     ensures { result ≡ same_arc a.now b.now }
 {
     a.from == b.from
-        && same_tran(a.from_tran, b.from_tran)
+        && a.from_tran.is(b.from_tran)
         && a.to == b.to
-        && same_tran(a.to_tran, b.to_tran)
+        && a.to_tran.is(b.to_tran)
         && same_arc_kind(a.kind, b.kind)
 }
 
@@ -70,9 +44,9 @@ fn same_test(a: &CellTest, b: &CellTest) -> bool
     ensures { result ≡ same_test a.now b.now }
 {
     a.pin == b.pin
-        && same_tran(a.tran, b.tran)
+        && a.tran.is(b.tran)
         && a.clock == b.clock
-        && same_tran(a.active, b.active)
+        && a.active.is(b.active)
         && same_kind(a.kind, b.kind)
 }
 

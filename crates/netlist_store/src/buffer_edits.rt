@@ -11,7 +11,6 @@ ghost use Rattle.timing_defs.specs.Edits.{edit_faults, first_fault, changed, cel
 ghost use Rattle.netlist_store.specs.Numbering.{number_of};
 ghost use Rattle.netlist_store.specs.Drafts.{Follows, FollowsAll, is_pin_word, with_insts};
 
-use crate::agreement::same_dir;
 use crate::building::full_name;
 use crate::checks::usable_cell;
 use crate::stores::Store;
@@ -23,10 +22,7 @@ use timing_defs::{Cell, CellPin, Dir, Name};
 fn find_dir(cell: &Cell, dir: Dir) -> Option<&CellPin>
     ensures { option_copied result ≡ find (λ p. same_dir p.dir dir) cell.now.pins }
 {
-    cell.pins
-        .as_slice()
-        .iter()
-        .find(|pin| same_dir(pin.dir, dir))
+    cell.pins.as_slice().iter().find(|pin| pin.dir.is(dir))
 }
 
 /// The first pin of a direction of a buffer's cell.

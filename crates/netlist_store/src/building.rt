@@ -201,7 +201,7 @@ fn empty_lists(alloc: Global, count: u32) -> Result<Vec<Items<u32>>, Memory>
 {
     let mut lists = Vec::with_capacity(alloc, count as usize)?;
     for _i in 0..count {
-        lists.push(Items::new(alloc)).map_err(|_| Memory)?;
+        lists.push(Items::new(alloc))?;
     }
     Ok(lists)
 }

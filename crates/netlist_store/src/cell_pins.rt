@@ -6,7 +6,6 @@ ghost use Rattle.std.specs.Option.{option_copied};
 ghost use Rattle.timing_defs.specs.Netlist.{same_dir, conn_net};
 ghost use Rattle.timing_defs.specs.Edits.{direction_in, keeps_pin, is_buffer, is_open, pins_of_dir};
 
-use crate::agreement::same_dir;
 use crate::stores::Store;
 use timing_defs::{Cell, CellPin, Conn, Dir, Inst, Name};
 
@@ -46,7 +45,7 @@ fn keeps_pin(store: &Store, inst: &Inst, cell: &Cell, conn: &Conn) -> bool
         return false;
     };
     match direction_in(cell, pin) {
-        Some(new) => same_dir(now, new),
+        Some(new) => now.is(new),
         None => false,
     }
 }
@@ -64,7 +63,7 @@ fn count_of(pins: &[CellPin], dir: Dir) -> usize
 {
     let mut count = 0;
     for pin in pins {
-        if same_dir(pin.dir, dir) {
+        if pin.dir.is(dir) {
             count += 1;
         }
     }

@@ -9,7 +9,6 @@ ghost use Rattle.timing_defs.specs.Edits.{has_colon, before_last, need_inst, nee
 ghost use Rattle.netlist_store.specs.Applying.{IsChecked};
 ghost use Rattle.netlist_store.specs.Words.{IsLastColon};
 
-use crate::agreement::same_dir;
 use crate::cell_pins::{conn_net, direction_in};
 use crate::stores::Store;
 use crate::words::last_colon;

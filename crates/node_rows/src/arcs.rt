@@ -3,7 +3,6 @@
 ghost use Rattle.std.specs.Prelude.{◌≡◌, ◌≤◌, [], ◌∷◌, true, false, Some, filter, unsigned_abs, IfOk, IfErr};
 ghost use Rattle.std.specs.List.{list_all};
 ghost use Rattle.sta_units.specs.Numbers.{limit};
-ghost use Rattle.timing_defs.specs.Netlist.{same_tran};
 ghost use Rattle.timing_defs.specs.Clocking.{is_comb};
 ghost use Rattle.timing_defs.specs.Rows.{outer, outer_some};
 ghost use Rattle.timing_defs.specs.Lookup.{look};
@@ -28,16 +27,6 @@ pub struct ArcEnds<'a> {
 pub struct ArcValues {
     pub slew: Option<i64>,
     pub delay: Option<i64>,
-}
-
-/// Whether two transitions are the same.
-pub fn same_tran(a: Tran, b: Tran) -> bool
-    ensures { result ≡ same_tran a b }
-{
-    match (a, b) {
-        (Tran::Rise, Tran::Rise) | (Tran::Fall, Tran::Fall) => true,
-        (Tran::Rise, Tran::Fall) | (Tran::Fall, Tran::Rise) => false,
-    }
 }
 
 /// The greater of two late values, the lesser of two early ones.
@@ -76,9 +65,9 @@ fn is_between(ends: &ArcEnds<'_>, arc: &CellArc) -> bool
     ensures { result ≡ is_between ends.now arc.now }
 {
     arc.from.as_bytes() == ends.from
-        && same_tran(arc.from_tran, ends.from_tran)
+        && arc.from_tran.is(ends.from_tran)
         && arc.to.as_bytes() == ends.to
-        && same_tran(arc.to_tran, ends.to_tran)
+        && arc.to_tran.is(ends.to_tran)
         && (is_comb(arc) || ends.registers)
 }
 

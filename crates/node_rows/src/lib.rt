@@ -21,7 +21,7 @@ mod values;
 mod wire_tables;
 mod wire_updates;
 
-pub use arcs::{ArcEnds, ArcValues, arc_values, outer_some, same_tran};
+pub use arcs::{ArcEnds, ArcValues, arc_values, outer_some};
 pub use delays::BothDelays;
 pub use merges::{plus_some, time_on, times_in};
 pub use pin_wires::{NetLoad, PinWire, SinkWire, Wires};

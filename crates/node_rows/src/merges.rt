@@ -1,17 +1,17 @@
 //! What the arcs into a node bring together: its slew, and its arrivals per launch edge.
 
-ghost use Rattle.std.specs.Prelude.{◌≡◌, ◌+◌, ◌++◌, ◌≤◌, ◌*◌, [], ◌∷◌, ◌&&◌, pos, true, false, not, if◌then◌else◌, map, take, length, None, Some, option_map, unsigned_abs, IfOk, IfErr, OnOk};
-ghost use Rattle.std.specs.List.{list_any, list_all, filter_map};
-ghost use Rattle.std.specs.Option.{option_to_list, option_map_or};
-ghost use Rattle.timing_defs.specs.Netlist.{Node, same_tran};
+ghost use Rattle.std.specs.Prelude.{◌≡◌, ◌+◌, ◌++◌, ◌≤◌, ◌*◌, [], ◌∷◌, ◌&&◌, pos, true, false, not, if◌then◌else◌, map, length, None, Some, option_map, IfOk, IfErr, OnOk};
+ghost use Rattle.std.specs.List.{list_any, list_all};
+ghost use Rattle.std.specs.Option.{option_to_list};
+ghost use Rattle.timing_defs.specs.Netlist.{same_tran};
 ghost use Rattle.timing_defs.specs.Rows.{outermost, times_in, time_on, plus_some, edge_time, start_at, launch_edges, is_input_port, is_clock_at};
 ghost use Rattle.timing_defs.specs.Clocking.{is_clock_port};
 ghost use Rattle.timing_defs.specs.Range.{within_some};
 ghost use Rattle.netlist_store.specs.Numbering.{is_number, pin_numbered};
 ghost use Rattle.node_rows.specs.Between.{are_within};
-ghost use Rattle.node_rows.specs.Evaluation.{IsSetting, AreBefore, told_values, told_wide, is_row_within, node_of, IsUnfit, merged_over, told_start, arrival_over, times_on, are_wide_times, has_clock};
+ghost use Rattle.node_rows.specs.Evaluation.{IsSetting, AreBefore, told_values, told_wide, is_row_within, node_of, IsUnfit, merged_over, arrival_over, times_on, are_wide_times, has_clock};
 
-use crate::arcs::{ArcValues, outer_some, same_tran};
+use crate::arcs::{ArcValues, outer_some};
 use crate::entries::entry_of;
 use crate::settings::{Before, NodeAt, Setting};
 use crate::unfit::Unfit;
@@ -74,7 +74,7 @@ pub fn time_on(times: &[EdgeTime], clock: u32, tran: Tran) -> Option<i64>
     ensures { result ≡ time_on times.now (clock, tran) }
 {
     for time in times {
-        if time.clock == clock && same_tran(time.tran, tran) {
+        if time.clock == clock && time.tran.is(tran) {
             return Some(time.time.0);
         }
     }
@@ -156,7 +156,7 @@ fn has_port(clock: &Clock, port: &Name) -> bool
 fn is_own_edge(clocks: &[Clock], clock: u32, port: &Name, tran: Tran, own: Tran) -> bool
     ensures { result ≡ (is_clock_at clocks.now clock port.now && same_tran tran own) }
 {
-    is_clock_at(clocks, clock, port) && same_tran(tran, own)
+    is_clock_at(clocks, clock, port) && tran.is(own)
 }
 
 /// Whether a clock has a port of that name.

@@ -1,15 +1,13 @@
 //! Tables of what constraints say of ports.
 
-ghost use Rattle.std.specs.Prelude.{◌≡◌, ℕ, List, [], ◌∷◌, pos, true, None, Some, if◌then◌else◌, ◌&&◌, option_map, option_and_then, IfOk, OnOk};
+ghost use Rattle.std.specs.Prelude.{◌≡◌, ℕ, List, [], ◌∷◌, pos, true, None, Some, if◌then◌else◌, ◌&&◌, option_and_then, IfOk, OnOk};
 ghost use Rattle.std.specs.Option.{option_or, option_map_or};
 ghost use Rattle.std.specs.Str.{bytes_eq};
 ghost use Rattle.timing_defs.specs.declared.constraints.Constraints.{Constraints};
-ghost use Rattle.timing_defs.specs.Netlist.{same_split, same_tran};
 ghost use Rattle.timing_defs.specs.Wires.{port_load};
 //ghost use NLS
-ghost use Rattle.node_rows.specs.PortTables.{under, slew_in, load_in, start_of, start_in, delay_from, are_apart, slew_of_port, delay_of_port, slew_under, load_under, start_under, AreSlews, AreLoads, AreStarts, ArePorts};
+ghost use Rattle.node_rows.specs.PortTables.{under, slew_in, load_in, start_in, delay_from, are_apart, slew_of_port, delay_of_port, slew_under, load_under, start_under, AreSlews, AreLoads, AreStarts, ArePorts};
 
-use crate::arcs::same_tran;
 use indexmap::IndexMap;
 use sta_units::{Af, Fs, Memory};
 use std::alloc::Global;
@@ -62,16 +60,6 @@ pub struct Ports {
     starts: StartTables,
 }
 
-/// Whether two splits are the same.
-pub(crate) fn same_split(a: Split, b: Split) -> bool
-    ensures { result ≡ same_split a b }
-{
-    match (a, b) {
-        (Split::Early, Split::Early) | (Split::Late, Split::Late) => true,
-        (Split::Early, Split::Late) | (Split::Late, Split::Early) => false,
-    }
-}
-
 /// Adds a value under a name, where none is there.
 fn add_slew_under(alloc: Global, table: &mut Slews, name: &Name, slew: Fs) -> Result<(), Memory>
     ensures { OnOk result ((q : List ℕ) → under table.new q ≡ option_or (under table.old q) (if bytes_eq name.now q then Some slew else None)) }
@@ -95,7 +83,7 @@ fn add_slew(
 ) -> Result<(), Memory>
     ensures { OnOk result ((q : List ℕ) → under table.new q ≡ option_or (under table.old q) (slew_in (slew.now ∷ []) split tran q)) }
 {
-    if same_split(slew.split, split) && same_tran(slew.tran, tran) {
+    if slew.split.is(split) && slew.tran.is(tran) {
         add_slew_under(alloc, table, &slew.port, slew.slew)
     } else {
         Ok(())
@@ -130,7 +118,7 @@ fn add_load_under(alloc: Global, table: &mut Loads, name: &Name, load: Af) -> Re
 fn add_load(alloc: Global, table: &mut Loads, split: Split, load: &PortLoad) -> Result<(), Memory>
     ensures { OnOk result ((q : List ℕ) → under table.new q ≡ option_or (under table.old q) (load_in (load.now ∷ []) split q)) }
 {
-    if same_split(load.split, split) {
+    if load.split.is(split) {
         add_load_under(alloc, table, &load.port, load.load)
     } else {
         Ok(())
@@ -176,7 +164,7 @@ fn add_start(
 ) -> Result<(), Memory>
     ensures { OnOk result ((q : List ℕ) → under table.new q ≡ option_or (under table.old q) (start_in (input.now ∷ []) split tran q)) }
 {
-    if same_split(input.split, split) && same_tran(input.tran, tran) {
+    if input.split.is(split) && input.tran.is(tran) {
         let start = Start {
             clock: input.clock,
             delay: input.delay,

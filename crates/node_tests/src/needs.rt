@@ -8,7 +8,6 @@ ghost use Rattle.timing_defs.specs.Rows.{outer_some};
 ghost use Rattle.node_tests.specs.Needs.{is_test_between, has_table, is_need_in, greatest_need};
 
 use nldm_lookup::{OutOfRange, look_up};
-use node_rows::same_tran;
 use timing_defs::{CellTest, Kind, Split, Tran};
 
 /// A data node and a clock node of a cell, by the names of their pins in it, and a kind of test.
@@ -37,9 +36,9 @@ fn is_between(ends: &TestEnds<'_>, test: &CellTest) -> bool
 {
     same_kind(test.kind, ends.kind)
         && test.pin.as_bytes() == ends.pin
-        && same_tran(test.tran, ends.tran)
+        && test.tran.is(ends.tran)
         && test.clock.as_bytes() == ends.clock
-        && same_tran(test.active, ends.active)
+        && test.active.is(ends.active)
 }
 
 /// Whether some test stands between the two nodes.

@@ -3,41 +3,19 @@
 ghost use Rattle.std.specs.Prelude.{◌≡◌, ◌++◌, [], ◌∷◌, true, filter, map, IfOk, OnOk};
 ghost use Rattle.std.specs.List.{list_all};
 ghost use Rattle.sta_units.specs.Numbers.{is_within};
-ghost use Rattle.timing_defs.specs.Netlist.{same_split};
 ghost use Rattle.timing_defs.specs.Tests.{data_split, output_need};
 ghost use Rattle.node_tests.specs.Outputs.{is_delay_of, delay_test};
 
 use crate::node_test::NodeTest;
-use node_rows::same_tran;
 use sta_units::{Fs, Memory};
 use std::alloc::Global;
 use timing_defs::{Items, Kind, Name, PortDelay, Split, Tran};
-
-/// The split of the data that a kind of test compares.
-pub(crate) fn data_split(kind: Kind) -> Split
-    ensures { result ≡ data_split kind }
-{
-    match kind {
-        Kind::Setup => Split::Late,
-        Kind::Hold => Split::Early,
-    }
-}
-
-/// Whether two splits are the same.
-fn same_split(a: Split, b: Split) -> bool
-    ensures { result ≡ same_split a b }
-{
-    match (a, b) {
-        (Split::Early, Split::Early) | (Split::Late, Split::Late) => true,
-        (Split::Early, Split::Late) | (Split::Late, Split::Early) => false,
-    }
-}
 
 /// Whether an output delay is written for a port, a split and a transition.
 fn is_delay_of(delay: &PortDelay, port: &Name, split: Split, tran: Tran) -> bool
     ensures { result ≡ is_delay_of port.now split tran delay.now }
 {
-    delay.port == *port && same_split(delay.split, split) && same_tran(delay.tran, tran)
+    delay.port == *port && delay.split.is(split) && delay.tran.is(tran)
 }
 
 /// The time that the test of an output delay needs, in fs.
@@ -77,7 +55,7 @@ fn add_delay(
     requires { is_within delay.now.delay.0 ≡ true }
     ensures { OnOk result (tests.new ≡ tests.old ++ map (delay_test kind) (filter (is_delay_of port.now (data_split kind) tran) (delay.now ∷ []))) }
 {
-    if is_delay_of(delay, port, data_split(kind), tran) {
+    if is_delay_of(delay, port, kind.data_split(), tran) {
         tests.push(delay_test(kind, delay))
     } else {
         Ok(())

@@ -1,6 +1,6 @@
 //! The setup and hold tests of a register's data node.
 
-ghost use Rattle.std.specs.Prelude.{◌≡◌, ◌++◌, ◌<◌, ℕ, List, Bool, true, false, Some, None, Contains, option_map, option_and_then, IfOk, IfErr, OnOk, MatchResult};
+ghost use Rattle.std.specs.Prelude.{◌≡◌, ◌++◌, ◌<◌, ℕ, List, true, false, Some, None, Contains, option_map, option_and_then, IfOk, IfErr, OnOk};
 ghost use Rattle.std.specs.List.{list_all, list_any, flat_map};
 ghost use Rattle.std.specs.Option.{option_to_list};
 ghost use Rattle.timing_defs.specs.Rows.{slew_in};
@@ -18,7 +18,6 @@ ghost use Rattle.node_tests.specs.Registers.{captured, pin_node, late_pins, IsAs
 use crate::climbs::walk_start;
 use crate::needs::{TestEnds, has_test, need_of};
 use crate::node_test::NodeTest;
-use crate::outputs::data_split;
 use crate::pins::pin_node;
 use netlist_store::Store;
 use nldm_lookup::OutOfRange;
@@ -26,7 +25,7 @@ use node_rows::{slew_in, time_on, times_in};
 use pin_graph::Graph;
 use sta_units::{Fs, Memory};
 use std::alloc::Global;
-use timing_defs::{CellPin, CellTest, Fault, Items, Kind, Name, NodeRow, Place, Rows, Split, Tran};
+use timing_defs::{CellPin, CellTest, Fault, Items, Kind, NodeRow, Place, Rows, Split, Tran};
 
 /// A data node of a register, and what its tests are found from: a store with its graph, the kind of
 /// tests, the number of the node, its pin and transition, its instance, the pin's name in the cell, and
@@ -51,16 +50,6 @@ pub(crate) struct PinTests {
     pub(crate) fall: Option<NodeTest>,
 }
 
-/// The split of the clock that a kind of test compares.
-fn clock_split(kind: Kind) -> Split
-    ensures { result ≡ clock_split kind }
-{
-    match kind {
-        Kind::Setup => Split::Early,
-        Kind::Hold => Split::Late,
-    }
-}
-
 /// The greatest time that the tests between a clock node and a data node need, by the rows of both; none
 /// where no test stands there or one has no slew. `OutOfRange` exactly where the time of one leaves its
 /// limit.
@@ -77,10 +66,10 @@ fn need_between(
     ensures fine { IfOk result (λ _. is_need_wide ends.now tests.now (slew_in (clock_split ends.now.kind) clock.now) (slew_in (data_split ends.now.kind) target.now) ≡ false) }
     ensures err { IfErr result (λ _. is_need_wide ends.now tests.now (slew_in (clock_split ends.now.kind) clock.now) (slew_in (data_split ends.now.kind) target.now) ≡ true) }
 {
-    let Some(clock_slew) = slew_in(clock, clock_split(ends.kind)) else {
+    let Some(clock_slew) = slew_in(clock, ends.kind.clock_split()) else {
         return Ok(None);
     };
-    let Some(data_slew) = slew_in(target, data_split(ends.kind)) else {
+    let Some(data_slew) = slew_in(target, ends.kind.data_split()) else {
         return Ok(None);
     };
     need_of(tests, ends, clock_slew, data_slew)
@@ -178,7 +167,7 @@ fn clock_test<A: Rows>(
         clock: pin.name.as_bytes(),
         active,
     };
-    let cell = asked.store.cell_at(asked.inst, data_split(asked.kind));
+    let cell = asked.store.cell_at(asked.inst, asked.kind.data_split());
     if !has_test(cell.tests.as_slice(), &ends) {
         return Ok(None);
     }

@@ -9,7 +9,7 @@ ghost use Rattle.path_cones.specs.Delays.{signed};
 
 use arc_delays::ArcDelays;
 use pin_graph::{Graph, GraphArc};
-use timing_defs::{Kind, Split};
+use timing_defs::Kind;
 
 /// The delay along an arc in fs, where there is one, in the split that a kind of tests has of data.
 /// Takes no memory.
@@ -26,17 +26,7 @@ pub(crate) fn delay_along(
 {
     // The graph is asked for by the contract alone.
     let _ = graph;
-    delays.along(data_split(kind), arc.from, arc.to)
-}
-
-/// The split of the delays that a test's data path has.
-fn data_split(kind: Kind) -> Split
-    ensures { result ≡ data_split kind }
-{
-    match kind {
-        Kind::Setup => Split::Late,
-        Kind::Hold => Split::Early,
-    }
+    delays.along(kind.data_split(), arc.from, arc.to)
 }
 
 /// A delay as it adds up against a test.

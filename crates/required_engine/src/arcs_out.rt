@@ -1,15 +1,15 @@
 //! The required times that the arcs out of a node give.
 
 ghost use Rattle.std.specs.Prelude.{◌≡◌, All};
-ghost use Rattle.timing_defs.specs.Required.{back_times, less_some};
+ghost use Rattle.timing_defs.specs.Required.{less_some};
 ghost use Rattle.required_engine.specs.Behinds.{IsTabled, over_arc, over_arcs};
 
-use crate::limits::{difference, other_split, outer_some, wide};
+use crate::limits::{difference, outer_some, wide};
 use arc_delays::ArcDelays;
 use cow_table::CowTable;
 use node_rows::time_on;
 use pin_graph::GraphArc;
-use timing_defs::{BackRow, EdgeTime, Split, Tran};
+use timing_defs::{BackRow, Split, Tran};
 
 /// The arcs out of a node, with the required times of all nodes and the delays of all arcs.
 #[derive(Clone, Copy, Drop)]
@@ -17,16 +17,6 @@ pub(crate) struct ArcsOut<'a> {
     pub(crate) rows: &'a CowTable<BackRow>,
     pub(crate) delays: &'a ArcDelays,
     pub(crate) arcs: &'a [GraphArc],
-}
-
-/// The required times of a row in a split.
-fn back_times(row: &BackRow, split: Split) -> &[EdgeTime]
-    ensures { result.now ≡ back_times split row.now }
-{
-    match split {
-        Split::Early => row.early.as_slice(),
-        Split::Late => row.late.as_slice(),
-    }
 }
 
 /// A time less a delay, where both are there.
@@ -46,7 +36,7 @@ fn over_arc(out: &ArcsOut<'_>, split: Split, arc: &GraphArc, clock: u32, tran: T
     ensures { result ≡ over_arc out.now split (clock, tran) arc.now }
 {
     let row = out.rows.get(arc.to as usize);
-    let time = time_on(back_times(row, split), clock, tran);
+    let time = time_on(row.times(split).as_slice(), clock, tran);
     less_some(time, out.delays.along(split, arc.from, arc.to))
 }
 
@@ -56,7 +46,7 @@ pub(crate) fn over_arcs(out: &ArcsOut<'_>, split: Split, clock: u32, tran: Tran)
     requires { All (IsTabled out.now) out.now.arcs.now }
     ensures { result ≡ over_arcs out.now split (clock, tran) }
 {
-    let merged = other_split(split);
+    let merged = split.other();
     let mut best = None;
     for arc in out.arcs {
         best = outer_some(merged, best, over_arc(out, split, arc, clock, tran));

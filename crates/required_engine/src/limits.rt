@@ -4,7 +4,7 @@ ghost use Rattle.std.specs.Prelude.{◌≡◌, Some, ◌+◌, ◌≤◌, ◌^◌
 ghost use Rattle.std.specs.Option.{option_copied};
 ghost use Rattle.timing_defs.specs.Required.{kind_of, other_split};
 ghost use Rattle.timing_defs.specs.Rows.{outer, outer_some};
-ghost use Rattle.timing_defs.specs.Tests.{separation_on, uncertainty, uncertainty_on};
+ghost use Rattle.timing_defs.specs.Tests.{separation_on, uncertainty_on};
 ghost use Rattle.required_engine.specs.Behinds.{told_limit, over_tests};
 
 use netlist_store::Store;
@@ -12,21 +12,11 @@ use node_tests::NodeTest;
 use path_rules::separation;
 use timing_defs::{Clock, Kind, Split, Tran};
 
-/// The kind of tests that a split's data has.
-pub(crate) fn kind_of(split: Split) -> Kind
-    ensures { result ≡ kind_of split }
-{
-    match split {
-        Split::Late => Kind::Setup,
-        Split::Early => Kind::Hold,
-    }
-}
-
 /// The clock at a place of the list of clocks.
 fn clock_at(store: &Store, place: u32) -> Option<&Clock>
     ensures { option_copied result ≡ slice_get store.now.design.constraints.clocks place }
 {
-    store.constraints().clocks.as_slice().get(place as usize)
+    store.constraints().clock(place)
 }
 
 /// The time from a launch edge to a capture edge, in fs; 0 where a clock is not there.
@@ -43,22 +33,12 @@ fn separation_on(store: &Store, kind: Kind, launch: u32, from: Tran, capture: u3
     separation(launch, from, capture, to, kind).0
 }
 
-/// The uncertainty of a clock for a kind of tests, in fs.
-fn uncertainty(clock: &Clock, kind: Kind) -> i64
-    ensures { result ≡ uncertainty kind clock.now }
-{
-    match kind {
-        Kind::Setup => clock.unc_setup.0,
-        Kind::Hold => clock.unc_hold.0,
-    }
-}
-
 /// The uncertainty of the clock at a place, in fs; 0 where it is not there.
 fn uncertainty_on(store: &Store, kind: Kind, capture: u32) -> i64
     ensures { result ≡ uncertainty_on store.now.design kind capture }
 {
     match clock_at(store, capture) {
-        Some(clock) => uncertainty(clock, kind),
+        Some(clock) => clock.uncertainty(kind).0,
         None => 0,
     }
 }
@@ -152,16 +132,6 @@ pub(crate) fn outer_some(split: Split, best: Option<i128>, next: Option<i128>) -
     }
 }
 
-/// The split whose outer values a required time of a split is merged by.
-pub(crate) fn other_split(split: Split) -> Split
-    ensures { result ≡ other_split split }
-{
-    match split {
-        Split::Late => Split::Early,
-        Split::Early => Split::Late,
-    }
-}
-
 /// The required time so far, with that of a test.
 fn with_test(
     store: &Store,
@@ -173,8 +143,8 @@ fn with_test(
 ) -> Option<i128>
     ensures { result ≡ outer_some (other_split split) best (Some (told_limit store.now.design (kind_of split) (clock, tran) test.now)) }
 {
-    let next = limit(store, kind_of(split), clock, tran, test);
-    outer_some(other_split(split), best, Some(next))
+    let next = limit(store, split.kind(), clock, tran, test);
+    outer_some(split.other(), best, Some(next))
 }
 
 /// The required time on a launch edge over the tests of a node, in fs: the least for late data, the

@@ -1,8 +1,7 @@
 //! The pass over the nodes whose required times an edit affects, from the highest level down.
 
-ghost use Rattle.std.specs.Prelude.{ℕ, ◌≡◌, ◌+◌, ◌<◌, ◌≤◌, ◌||◌, ◌&&◌, not, All, map, length, IfOk, IfErr, OnOk};
+ghost use Rattle.std.specs.Prelude.{ℕ, ◌≡◌, ◌+◌, ◌<◌, ◌≤◌, ◌||◌, ◌&&◌, not, All, map, length, IfErr, OnOk};
 ghost use Rattle.std.specs.Cmp.Lexicographic.{pointwise};
-ghost use Rattle.timing_defs.specs.Netlist.{same_tran};
 ghost use Rattle.timing_defs.specs.Cones.{same_time, same_back};
 ghost use Rattle.netlist_store.specs.Applying.{IsEditOf};
 ghost use Rattle.level_workers.specs.Mapped.{IsMap};
@@ -25,7 +24,7 @@ use sta_outside::Gate;
 use sta_units::{Memory, Steps};
 use std::alloc::Global;
 use std::thread::Threads;
-use timing_defs::{BackRow, EdgeTime, Fault, Items, Rows, Tran};
+use timing_defs::{BackRow, EdgeTime, Fault, Items, Rows};
 
 /// The place of a level in the order from the highest down; and the level of a place.
 fn from_top(level: u32) -> u32
@@ -34,19 +33,10 @@ fn from_top(level: u32) -> u32
     u32::MAX - level
 }
 
-fn same_tran(a: Tran, b: Tran) -> bool
-    ensures { result ≡ same_tran a b }
-{
-    match a {
-        Tran::Rise => matches!(b, Tran::Rise),
-        Tran::Fall => matches!(b, Tran::Fall),
-    }
-}
-
 fn same_time(a: &EdgeTime, b: &EdgeTime) -> bool
     ensures { result ≡ same_time a.now b.now }
 {
-    a.clock == b.clock && same_tran(a.tran, b.tran) && a.time.0 == b.time.0
+    a.clock == b.clock && a.tran.is(b.tran) && a.time.0 == b.time.0
 }
 
 /// Whether two lists of times are the same, in order.

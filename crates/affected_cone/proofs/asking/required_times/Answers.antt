@@ -14,6 +14,7 @@ returns-clause-told c =
     (λ (n : Node). Times (back_times c.args.split (back_row c.args.known.now.store.now.design n))) c.in_ok-report.report
     (λ n at. c.in_ok-report.ensures
     ∙ ap Times
-    (c.back_times.ensures
+    (c.as_slice.ensures
+    ∙ c.times.ensures
     ∙ ap (back_times c.args.split)
     (back_is c.args.known.now.store.now c.in_ok-node.node c.in_ok-node.ensures.node.below n at c.args.known.now.required.now.rows c.requires.analysis.backs c.row.result.now c.row.ensures)))

@@ -13,7 +13,7 @@ returns-then-is_clock c =
 
 pub returns-in-Some : goal.returns-in-Some
 returns-in-Some c =
-    c.same_dir.ensures
+    c.is.ensures
     ∙ any_port c.args.store.now.design c.args.dir c.in-Some.its c.args.word.now
     (ap (λ cs. is_clock_name cs.clocks c.args.word.now) (sym c.constraints.ensures) ∙ ap (λ xs. is_clock_name xs c.args.word.now) (sym c.as_slice.ensures) ∙ sym c.is_clock.ensures ∙ c.if-is_clock.false)
     c.in-Some.ensures
