@@ -8,7 +8,7 @@ use Rattle.timing_defs.specs.declared.rows.NodeRow.{NodeRow}
 use Rattle.timing_defs.specs.declared.rows.Launch.{Launch}
 use Rattle.timing_defs.specs.Netlist.{Node}
 use Rattle.timing_defs.specs.Range.{NoOrigin}
-use Rattle.timing_defs.specs.Rows.{times_in, time_on}
+use Rattle.timing_defs.specs.Rows.{times_in, time_on, edge_of}
 use Rattle.timing_defs.specs.Tests.{Test}
 use Rattle.timing_defs.specs.Paths.{named}
 use Rattle.netlist_store.specs.Numbering.{Stored, is_number, IsNumbered}
@@ -22,13 +22,13 @@ use Rattle.store_pins.proofs.PinLaws.{pin_at_number}
 use Rattle.pin_graph.proofs.NodeLaws.{has_node, node_below}
 use Rattle.node_tests.specs.declared.node_test.NodeTest.{NodeTest}
 use Rattle.node_tests.specs.NodeTests.{AreTests, tests_numbered}
-use Rattle.path_search.specs.declared.edges.LaunchEdge.{LaunchEdge}
+use Rattle.timing_defs.specs.declared.edge_times.LaunchEdge.{LaunchEdge}
 use Rattle.path_search.specs.declared.ends.EndTest.{EndTest}
 use Rattle.path_search.specs.declared.launches.LaunchTime.{LaunchTime}
 use Rattle.path_search.specs.declared.launches.LaunchNode.{LaunchNode}
 use Rattle.path_search.specs.declared.names.PinNames.{PinNames}
 use Rattle.path_search.specs.Launches.{edge_of_launch, IsLaunched}
-use Rattle.path_search.specs.Trees.{walk_edge, edge_of}
+use Rattle.path_search.specs.Trees.{walk_edge}
 use Rattle.path_search.specs.Slacks.{start_told, IsLaunchTime, IsLaunchNode, MayLaunch, ArePinNames, AreToldTests, AreEndTestsOf}
 use Rattle.path_search.proofs.LaunchLaws.{edge_on_network, edge_off_network, no_edge, no_time, some_time, launch_told}
 use Rattle.path_search.proofs.EndLaws.{clocks_low, ends_told}

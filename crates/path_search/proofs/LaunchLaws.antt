@@ -17,7 +17,7 @@ use Rattle.timing_defs.specs.Netlist.{Node, name_of, same_tran}
 use Rattle.timing_defs.specs.Wires.{first_some}
 use Rattle.timing_defs.specs.Clocking.{is_network, is_clock_port}
 use Rattle.timing_defs.specs.Cones.{has_register_arc}
-use Rattle.timing_defs.specs.Rows.{arcs_in, is_input_port, is_clock_at, input_delay, start_at, launch_edges, edge_time, arrival, arrival_of, arrivals_of, outermost, plus_some, delay_from, times_in, time_on, step, row, empty_row}
+use Rattle.timing_defs.specs.Rows.{arcs_in, is_input_port, is_clock_at, input_delay, start_at, launch_edges, edge_time, arrival, arrival_of, arrivals_of, outermost, plus_some, delay_from, times_in, time_on, step, row, empty_row, edge_of}
 use Rattle.timing_defs.specs.Range.{within_some}
 use Rattle.timing_defs.specs.Paths.{named, node_named, start_of, owner_named}
 use Rattle.netlist_store.specs.Numbering.{name_at, IsNumbered}
@@ -31,13 +31,13 @@ use Rattle.pin_graph.proofs.JoinLaws.{mapped_back}
 use Rattle.pin_graph.proofs.NodeLaws.{HasNode, has_node, node_told, node_below, same_node_at, under_number}
 use Rattle.pin_graph.proofs.GraphRows.{placed}
 use Rattle.node_tests.proofs.ClimbLaws.{node_pin}
-use Rattle.path_search.specs.declared.edges.LaunchEdge.{LaunchEdge}
+use Rattle.timing_defs.specs.declared.edge_times.LaunchEdge.{LaunchEdge}
 use Rattle.path_search.specs.declared.launches.LaunchTime.{LaunchTime}
 use Rattle.path_search.specs.declared.launches.LaunchNode.{LaunchNode}
 use Rattle.path_search.specs.declared.names.PinNames.{PinNames}
 use Rattle.path_search.specs.Runs.{IsTimed}
 use Rattle.path_search.specs.Launches.{edge_of_start, edge_of_launch, IsLaunched}
-use Rattle.path_search.specs.Trees.{walk_edge, edge_of}
+use Rattle.path_search.specs.Trees.{walk_edge}
 use Rattle.path_search.specs.Slacks.{first_time, start_told, IsLaunchTime, IsLaunchNode, ArePinNames}
 use Rattle.path_search.proofs.Setting.{timed}
 use Rattle.path_search.proofs.NodeNames.{named_back}

@@ -14,7 +14,7 @@ use Rattle.timing_defs.specs.declared.rows.NodeRow.{NodeRow}
 use Rattle.timing_defs.specs.declared.design.Design.{Design}
 use Rattle.timing_defs.specs.Netlist.{Node, pins, pin_named, same_tran}
 use Rattle.timing_defs.specs.Clocking.{is_network, is_clock_port}
-use Rattle.timing_defs.specs.Rows.{arcs_in, arrival, is_clock_at, launch_edges, row, empty_row}
+use Rattle.timing_defs.specs.Rows.{arcs_in, arrival, is_clock_at, launch_edges, row, empty_row, edge_of}
 use Rattle.timing_defs.specs.Range.{within_some}
 use Rattle.timing_defs.specs.Tests.{network_walk, first_edge}
 use Rattle.netlist_store.specs.Numbering.{Stored, name_at, IsNumbered}
@@ -31,9 +31,9 @@ use Rattle.pessimism_credit.specs.declared.rows.TreeRow.{TreeRow}
 use Rattle.pessimism_credit.specs.Credit.{IsBefore, IsTreeFrom, IsTree}
 use Rattle.node_tests.specs.declared.climbs.WalkStart.{WalkStart}
 use Rattle.node_tests.specs.Walks.{StartsOn, first_from}
-use Rattle.path_search.specs.declared.edges.LaunchEdge.{LaunchEdge}
+use Rattle.timing_defs.specs.declared.edge_times.LaunchEdge.{LaunchEdge}
 use Rattle.path_search.specs.Runs.{IsTimed}
-use Rattle.path_search.specs.Trees.{walk_edge, edge_of, both_times, times_at, times_told, parent_place, IsTreeRow, IsClockTree, ArePlaceNodes, AreEdges, IsEdgeAt, IsRowAt}
+use Rattle.path_search.specs.Trees.{walk_edge, both_times, times_at, times_told, parent_place, IsTreeRow, IsClockTree, ArePlaceNodes, AreEdges, IsEdgeAt, IsRowAt}
 use Rattle.path_search.proofs.Setting.{timed}
 use Rattle.path_search.proofs.Prefixes.{walk_is_told, walk_more}
 use Rattle.path_search.proofs.Ranges.{arrivals_within}

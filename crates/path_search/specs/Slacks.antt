@@ -10,7 +10,7 @@ use Rattle.timing_defs.specs.declared.kinds.Kind.{Kind}
 use Rattle.timing_defs.specs.declared.kinds.Kind.TheVariants.{Setup, Hold}
 use Rattle.timing_defs.specs.declared.design.Design.{Design}
 use Rattle.timing_defs.specs.Netlist.{Node}
-use Rattle.timing_defs.specs.Rows.{outermost}
+use Rattle.timing_defs.specs.Rows.{outermost, edge_of}
 use Rattle.timing_defs.specs.Tests.{Test, data_split, network_walk, uncertainty_on}
 use Rattle.timing_defs.specs.Paths.{Named, named, owner_named, capture_of, moved, slack_by}
 use Rattle.timing_defs.specs.Rules.{is_tested}
@@ -29,7 +29,6 @@ use Rattle.path_search.specs.declared.ends.EndTest.{EndTest}
 use Rattle.path_search.specs.declared.launches.LaunchNode.{LaunchNode}
 use Rattle.path_search.specs.declared.launches.LaunchTime.{LaunchTime}
 use Rattle.path_search.specs.declared.names.PinNames.{PinNames}
-use Rattle.path_search.specs.Trees.{edge_of}
 use Rattle.path_search.specs.Launches.{launched_at, launch_slacks, IsLaunched}
 use Rattle.path_search.specs.Offers.{IsOffer}
 

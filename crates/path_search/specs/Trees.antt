@@ -8,21 +8,18 @@ use Rattle.timing_defs.specs.declared.kinds.Tran.{Tran}
 use Rattle.timing_defs.specs.declared.design.Design.{Design}
 use Rattle.timing_defs.specs.Netlist.{Node}
 use Rattle.timing_defs.specs.declared.rows.NodeRow.{NodeRow}
-use Rattle.timing_defs.specs.Rows.{arrival, time_on}
+use Rattle.timing_defs.specs.Rows.{arrival, time_on, edge_of}
 use Rattle.timing_defs.specs.Tests.{network_walk, first_edge}
 use Rattle.pin_graph.specs.Nodes.{node_at}
 use Rattle.pin_graph.specs.Graphs.{Graphed, fan_at, place_at}
 use Rattle.node_tests.specs.Walks.{first_from}
 use Rattle.pessimism_credit.specs.declared.rows.TreeRow.{TreeRow}
 use Rattle.pessimism_credit.specs.Credit.{IsTree}
-use Rattle.path_search.specs.declared.edges.LaunchEdge.{LaunchEdge}
+use Rattle.timing_defs.specs.declared.edge_times.LaunchEdge.{LaunchEdge}
 
 -- the launch edge of the clock network's walk to a node
 abbrev pub walk_edge : Design → Node → Option (ℕ × Tran)
 walk_edge d node = option_and_then (first_edge d) (network_walk d node)
-
-abbrev pub edge_of : LaunchEdge → ℕ × Tran
-edge_of edge = (edge.clock, edge.tran)
 
 -- early and late arrival where both are there, else 0
 abbrev pub both_times : Option ℤ → Option ℤ → ℤ × ℤ

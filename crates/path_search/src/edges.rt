@@ -1,23 +1,16 @@
 //! Launch edges, and arrivals on them.
 
 ghost use Rattle.std.specs.Prelude.{◌≡◌, ◌<◌, Some, option_map, option_and_then};
-ghost use Rattle.timing_defs.specs.Rows.{times_in, time_on};
+ghost use Rattle.timing_defs.specs.Rows.{times_in, time_on, edge_of};
 ghost use Rattle.pin_graph.specs.Nodes.{node_at, node_bound};
-ghost use Rattle.path_search.specs.Trees.{walk_edge, edge_of};
+ghost use Rattle.path_search.specs.Trees.{walk_edge};
 
 use netlist_store::Store;
 use node_rows::{time_on, times_in};
 use node_tests::walk_start;
 use pin_graph::Graph;
 use sta_units::Fs;
-use timing_defs::{NodeRow, Split, Tran};
-
-/// A launch edge: a clock's place in the list of clocks, and a transition.
-#[derive(Clone, Copy, Drop)]
-pub struct LaunchEdge {
-    pub clock: u32,
-    pub tran: Tran,
-}
+use timing_defs::{LaunchEdge, NodeRow, Split};
 
 /// The launch edge of the walk over the clock network to a node; none where no walk leads there.
 #[tactic(auto, using(crate::proofs::TreeLaws::edges_told))]

@@ -14,7 +14,6 @@ ghost use Rattle.pessimism_credit.specs.Credit.{IsTree};
 
 use crate::ends::{EndTest, end_tests};
 use crate::lows::low_on;
-use crate::node_fans::data_split;
 use crate::sources::Sources;
 use arc_delays::Delayed;
 use netlist_store::Store;
@@ -72,7 +71,7 @@ pub fn end_low<A: Rows + Delayed>(
         end,
     )?;
     let row = sources.arrivals.row(end);
-    let after = row.times(data_split(sources.kind));
+    let after = row.times(sources.kind.data_split());
     Ok(low_on_both(
         sources.store,
         sources.tree,

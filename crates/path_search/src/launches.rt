@@ -8,17 +8,17 @@ ghost use Rattle.pin_graph.specs.Nodes.{node_at, node_bound};
 ghost use Rattle.pin_graph.specs.Graphs.{fan_at};
 ghost use Rattle.pin_graph.specs.RowTables.{AreRows, AreRowsFine, row_numbered};
 ghost use Rattle.path_search.specs.Launches.{edge_of_launch};
-ghost use Rattle.path_search.specs.Trees.{edge_of};
+ghost use Rattle.timing_defs.specs.Rows.{edge_of};
 ghost use Rattle.path_search.specs.Slacks.{first_time, start_told, IsLaunchTime, MayLaunch};
 
-use crate::edges::{LaunchEdge, arrival_on, walk_edge};
+use crate::edges::{arrival_on, walk_edge};
 use crate::names::pin_names;
 use netlist_store::Store;
 use node_rows::times_in;
 use pin_graph::Graph;
 use sta_units::{Fs, Memory};
 use std::alloc::Global;
-use timing_defs::{EdgeTime, Kind, Launch, NodeRow, Rows, Split, Tran};
+use timing_defs::{EdgeTime, Kind, Launch, LaunchEdge, NodeRow, Rows, Split, Tran};
 
 /// A launch node: what it launches, the transition of its launch edge, its arrival there in fs, and its
 /// place in the clock tree (none outside the clock network).
@@ -35,16 +35,6 @@ pub(crate) struct LaunchNode {
 pub(crate) struct LaunchTime {
     pub(crate) edge: LaunchEdge,
     pub(crate) time: Fs,
-}
-
-/// The split of the data that a kind of test compares.
-fn data_split(kind: Kind) -> Split
-    ensures { result ≡ data_split kind }
-{
-    match kind {
-        Kind::Setup => Split::Late,
-        Kind::Hold => Split::Early,
-    }
 }
 
 /// The launch edge of the first of some times.
@@ -159,7 +149,7 @@ pub(crate) fn launch_node<A: Rows>(
         return Ok(None);
     };
     let row = arrivals.row(node);
-    let Some(start) = launch_time(store, graph, row, data_split(kind), node) else {
+    let Some(start) = launch_time(store, graph, row, kind.data_split(), node) else {
         return Ok(None);
     };
     let names = pin_names(alloc, store, pin)?;

@@ -32,7 +32,6 @@ mod tested;
 mod trees;
 
 pub use cones::{PinCone, pin_cone};
-pub use edges::LaunchEdge;
 pub use end_lows::end_low;
 pub use orders::{ByName, node_of};
 pub use searching::{

@@ -3,7 +3,6 @@
 ghost use Rattle.std.specs.Prelude.{◌≡◌, ◌<◌, ◌^◌, true, IfOk};
 ghost use Rattle.timing_defs.specs.Paths.{named};
 ghost use Rattle.timing_defs.specs.Netlist.{Node};
-ghost use Rattle.timing_defs.specs.Tests.{data_split};
 ghost use Rattle.netlist_store.specs.Numbering.{is_number};
 ghost use Rattle.pin_graph.specs.Nodes.{node_at, node_bound, pin_under};
 ghost use Rattle.bounded_slack.specs.Nets.{IsNet};
@@ -24,7 +23,7 @@ use pin_graph::Graph;
 use sta_units::Memory;
 use std::alloc::Global;
 use std::marker::Model;
-use timing_defs::{EdgeTime, Items, Kind, Rows, Split};
+use timing_defs::{EdgeTime, Items, Kind, Rows};
 use worst_walks::WalkArc;
 
 /// What a search in front of an end node asks for: the graph with its rows, the tests of the end node and
@@ -52,16 +51,6 @@ impl<'a, A: Rows + Delayed> Model for NodeFan<'a, A> {
     ghost invariant = { λ f. IsFanOf f.sources.now.store.now f.sources.now.graph.now (A.rows f.sources.now.arrivals.now) (A.delays f.sources.now.arrivals.now) f.sources.now.tree.now f.sources.now.kind f.end f.tests f.lows };
 }
 
-/// The split of the data that a kind of test compares.
-pub(crate) fn data_split(kind: Kind) -> Split
-    ensures { result ≡ data_split kind }
-{
-    match kind {
-        Kind::Setup => Split::Late,
-        Kind::Hold => Split::Early,
-    }
-}
-
 impl<A: Rows + Delayed> Fan for NodeFan<'_, A> {
     ghost use Rattle.path_search.specs.NodeNets.{net_told};
 
@@ -83,7 +72,7 @@ impl<A: Rows + Delayed> Fan for NodeFan<'_, A> {
         least_room(
             sources.kind,
             self.lows.as_slice(),
-            row.times(data_split(sources.kind)),
+            row.times(sources.kind.data_split()),
         )
     }
 

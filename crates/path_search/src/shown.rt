@@ -1,13 +1,11 @@
 //! The path that is read off a walk.
 
-ghost use Rattle.std.specs.Prelude.{◌≡◌, ◌<◌, ◌≤◌, ◌+◌, ◌-◌, ◌*◌, ◌^◌, ◌+ℤ◌, ◌++◌, ◌∷◌, [], pos, true, All, Some, IsSome, length, map, drop, slice_index, unsigned_abs, IfOk, OnOk};
-ghost use Rattle.std.specs.Option.{unwrap_or};
+ghost use Rattle.std.specs.Prelude.{◌≡◌, ◌<◌, ◌≤◌, ◌+◌, ◌-◌, ◌*◌, ◌^◌, ◌+ℤ◌, ◌++◌, ◌∷◌, [], true, All, Some, IsSome, length, map, slice_index, unsigned_abs, IfOk, OnOk};
 ghost use Rattle.sta_units.specs.Numbers.{Within};
-ghost use Rattle.timing_defs.specs.Tests.{data_split};
 ghost use Rattle.netlist_store.specs.Numbering.{is_number};
 ghost use Rattle.pin_graph.specs.Nodes.{node_bound, pin_under, tran_under};
 ghost use Rattle.pin_graph.specs.RowTables.{AreRows};
-ghost use Rattle.worst_walks.specs.Walks.{most_nodes, count_of, delay_between, listed_into, delay_in, walk_sum, IsCone, IsWalk};
+ghost use Rattle.worst_walks.specs.Walks.{most_nodes, count_of, delay_between, listed_into, delay_in, IsCone, IsWalk};
 ghost use Rattle.path_search.specs.Launches.{signed};
 ghost use Rattle.path_search.specs.Sources.{AreSources};
 ghost use Rattle.path_search.specs.Tested.{AreTested};
@@ -29,16 +27,6 @@ use sta_units::{Fs, Memory};
 use std::alloc::Global;
 use timing_defs::{Items, Kind, Name, Path, PathNode, Rows, Split, Tran};
 use worst_walks::{Cone, Walk, WalkArc};
-
-/// The split of the delays of a path's data.
-fn data_split(kind: Kind) -> Split
-    ensures { result ≡ data_split kind }
-{
-    match kind {
-        Kind::Setup => Split::Late,
-        Kind::Hold => Split::Early,
-    }
-}
 
 /// The transition of a node.
 fn tran_of(node: u32) -> Tran
@@ -256,7 +244,7 @@ fn nodes_of<A: Rows + Delayed>(
     requires start { Within counted.now.time.0 }
     ensures { IfOk result (AreNodesOf sources.now.graph.now sources.now.kind search.now launch counted.now first rest.now) }
 {
-    let split = data_split(sources.kind);
+    let split = sources.kind.data_split();
     let before = climb(alloc, sources.graph, launch)?;
     let mut path = network_nodes(
         alloc,

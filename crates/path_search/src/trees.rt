@@ -1,19 +1,19 @@
 //! The clock tree of a design, in which credits are found.
 
 ghost use Rattle.std.specs.Prelude.{◌≡◌, ◌<◌, Some, length, IfOk, IfSome};
-ghost use Rattle.timing_defs.specs.Rows.{time_on};
+ghost use Rattle.timing_defs.specs.Rows.{time_on, edge_of};
 ghost use Rattle.pin_graph.specs.Nodes.{node_bound};
 ghost use Rattle.pin_graph.specs.Graphs.{place_at};
 ghost use Rattle.pin_graph.specs.RowTables.{AreRows, AreRowsFine};
-ghost use Rattle.path_search.specs.Trees.{edge_of, both_times, times_told, parent_place, empty_tree_row, ArePlaceNodes, AreEdges, IsEdgeAt, IsRowAt, IsClockTree};
+ghost use Rattle.path_search.specs.Trees.{both_times, times_told, parent_place, empty_tree_row, ArePlaceNodes, AreEdges, IsEdgeAt, IsRowAt, IsClockTree};
 
-use crate::edges::{LaunchEdge, arrival_on, walk_edge};
+use crate::edges::{arrival_on, walk_edge};
 use netlist_store::Store;
 use pessimism_credit::{ClockTree, TreeRow};
 use pin_graph::Graph;
 use sta_units::{Fs, Memory};
 use std::alloc::Global;
-use timing_defs::{Items, NodeRow, Rows, Split};
+use timing_defs::{Items, LaunchEdge, NodeRow, Rows, Split};
 
 /// The node of each place.
 fn place_nodes(alloc: Global, graph: &Graph) -> Result<Items<Option<u32>>, Memory>
