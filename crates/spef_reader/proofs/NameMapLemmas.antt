@@ -1,10 +1,13 @@
 -- The rows of a map, seen as words.
-use Rattle.std.proofs.Common.{◌≡◌, ℕ, List, [], ◌∷◌, Bool, true, false, Option, Some, None, MatchOption, cond, refl, ap}
+use Rattle.std.proofs.Common.{◌≡◌, ℕ, List, [], ◌∷◌, Bool, true, false, Option, Some, None, MatchOption, cond, refl, ap, sym, subst, ◌∙◌}
 use Rattle.std.specs.Str.{bytes_eq}
+use Rattle.std.proofs.lemmas.Slice.Eq.{bytes_eq-Decides}
 use denote.Ref.{Bor}
 use Rattle.std.specs.Map.{lookup}
 use Rattle.indexmap.specs.IndexMap.{insert_entry}
+use Rattle.spef_reader.specs.declared.context.Bus.{Bus}
 use Rattle.spef_reader.specs.Names.{told, with_row, rows_at}
+use Rattle.spef_reader.specs.Words.{spelled}
 
 abbrev Row : Type 0
 Row = Bor (List ℕ) × Bor (List ℕ)
@@ -36,3 +39,18 @@ pub told_rows : (es : List Row) (index : List ℕ) → Finds (lookup (λ (k : Bo
 unfolding told
 told_rows [] index = refl
 told_rows (e ∷ es) index = both (bytes_eq index e.0.now) e.1 (lookup (λ (k : Bor (List ℕ)). bytes_eq index k.now) es) (told (rows_at es) index) (told_rows es index)
+
+-- a row of this index has its word
+pub told_there : (es : List Row) (k v : Bor (List ℕ)) (index : List ℕ) → lookup (λ (q : Bor (List ℕ)). bytes_eq k.now q.now) es ≡ Some v → bytes_eq k.now index ≡ true → told (rows_at es) index ≡ Some v.now
+told_there es k v index h same =
+    let found = subst (λ found. Finds found (told (rows_at es) k.now)) h (told_rows es k.now) in
+    ap (told (rows_at es)) (sym ((bytes_eq-Decides k.now index).0 same)) ∙ found
+
+same_marks : (a b c d : Option ℕ) → a ≡ c → b ≡ d → (name : List ℕ) (word : List ℕ) → name ≡ spelled (record { opening = a; closing = b }) false word → name ≡ spelled (record { opening = c; closing = d }) false word
+same_marks a b c d e f name word h = cc
+
+-- the same word is spelled alike with the same marks
+pub spelled_same : (bus other : Bus) (word text name : List ℕ) → bus.opening ≡ other.opening → bus.closing ≡ other.closing → bytes_eq word text ≡ true → name ≡ spelled bus false word → name ≡ spelled other false text
+spelled_same bus other word text name e f same h =
+    same_marks bus.opening bus.closing other.opening other.closing e f name word h
+    ∙ ap (spelled other false) ((bytes_eq-Decides word text).0 same)

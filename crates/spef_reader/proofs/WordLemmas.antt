@@ -4,7 +4,7 @@ use Rattle.std.specs.List.{prefix_len}
 use Rattle.std.specs.Str.{bytes_eq}
 use Rattle.std.proofs.lemmas.Bool.{and_parts, eqb-true}
 use Rattle.std.proofs.lemmas.Bool.Decides.{nat_tests}
-use Rattle.std.proofs.lemmas.List.{append-nil}
+use Rattle.std.proofs.lemmas.List.{append-nil, take-append-drop, drop_all}
 use Rattle.spef_reader.specs.declared.context.Bus.{Bus}
 use Rattle.spef_reader.specs.Words.{begins_mark, escapes, unescaped, is_plain, spelled}
 
@@ -68,6 +68,16 @@ spelled_piece bus escaped next b n bs old one two first run more after =
     (append_assoc (old ++ read) (take (prefix_len (is_plain bus) bs) bs) rest
     ∙ (append_assoc old read (take (prefix_len (is_plain bus) bs) bs ++ rest)
     ∙ ap (λ (end : List ℕ). old ++ (read ++ end)) (sym (spelled_run bus (escapes escaped b bs) bs))))
+
+-- a word of plain bytes spells itself
+pub spelled_plain : (bus : Bus) (word : List ℕ) → prefix_len (is_plain bus) word ≡ length word → spelled bus false word ≡ word
+unfolding spelled
+spelled_plain bus word h =
+    let all : drop (length word) word ≡ [] = drop_all (length word) word (omega arith) in
+    spelled_run bus false word
+    ∙ (ap (λ (k : ℕ). take k word ++ spelled bus false (drop k word)) h
+    ∙ (ap (λ (rest : List ℕ). take (length word) word ++ rest) (ap (spelled bus false) all ∙ sym all)
+    ∙ take-append-drop (length word) word))
 
 both_less : (same rest : Bool) → rest ≡ false → (same && rest) ≡ false
 both_less true rest h = h

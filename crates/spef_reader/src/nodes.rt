@@ -9,10 +9,10 @@ ghost use Rattle.spef_reader.specs.Words.{sides_of, spelled, is_inner, is_node, 
 ghost use Rattle.spef_reader.specs.Nodes.{name_word, name_of, named, is_net, joined_node, node_from, node_of, is_unknown};
 ghost use Rattle.spef_reader.specs.Grammar.{is_word, unexpected, unknown_name, noted};
 
-use crate::context::{Bus, Context};
+use crate::context::Context;
 use crate::events::Event;
 use crate::tokens::{Stop, is_word, note, unexpected};
-use crate::words::{Sides, add_spelled, cut, index_of, is_node, is_reference, is_whole, spelled};
+use crate::words::{Sides, add_spelled, cut, index_of, is_node, is_reference, is_whole};
 use sta_text::{Token, begins};
 use sta_units::Memory;
 use std::alloc::Global;
@@ -29,6 +29,25 @@ fn name_word<'a>(context: &Context<'a>, word: &'a [u8]) -> Option<&'a [u8]>
     }
 }
 
+/// Adds what the word of a name spells, which the other word gives perhaps by its index.
+fn add_word(
+    bytes: &mut Vec<u8>,
+    context: &Context<'_>,
+    from: &[u8],
+    word: &[u8],
+) -> Result<(), Memory>
+    ensures { IfOk result (λ _. bytes.new.items ≡ bytes.old.items ++ spelled context.now.header.bus false word.now) }
+{
+    let bus = context.header.bus;
+    if !begins(b'*', from) {
+        return add_spelled(bytes, bus, word);
+    }
+    match context.names.spelling(bus, index_of(from), word) {
+        Some(name) => Ok(bytes.extend_from_slice(name)?),
+        None => add_spelled(bytes, bus, word),
+    }
+}
+
 /// The name that a word gives; none where its index is not in the name map.
 pub(crate) fn name_of<'a>(
     alloc: Global,
@@ -39,7 +58,11 @@ pub(crate) fn name_of<'a>(
 {
     match name_word(context, word) {
         None => Ok(None),
-        Some(found) => Ok(Name::from_vec(spelled(alloc, context.header.bus, found)?)),
+        Some(found) => {
+            let mut bytes = Vec::with_capacity(alloc, found.len())?;
+            add_word(&mut bytes, context, word, found)?;
+            Ok(Name::from_vec(bytes))
+        }
     }
 }
 
@@ -78,22 +101,24 @@ fn inner_number(word: &[u8]) -> Option<u32>
     }
 }
 
-/// The bytes of two names that words spell, with a colon between, and how many stand before it.
+/// The bytes of two names that words spell, with a colon between, and how many stand before it. The first word is
+/// given by another one.
 fn joined_bytes(
     alloc: Global,
-    bus: Bus,
+    context: &Context<'_>,
+    from: &[u8],
     left: &[u8],
     right: &[u8],
 ) -> Result<(Vec<u8>, usize), Memory>
-    ensures bytes { IfOk result (λ made. made.0.items ≡ spelled bus false left.now ++ 58 ∷ spelled bus false right.now) }
-    ensures place { IfOk result (λ made. made.1 ≡ length (spelled bus false left.now)) }
+    ensures bytes { IfOk result (λ made. made.0.items ≡ spelled context.now.header.bus false left.now ++ 58 ∷ spelled context.now.header.bus false right.now) }
+    ensures place { IfOk result (λ made. made.1 ≡ length (spelled context.now.header.bus false left.now)) }
 {
     let room = left.len().saturating_add(right.len()).saturating_add(1);
     let mut bytes = Vec::with_capacity(alloc, room)?;
-    add_spelled(&mut bytes, bus, left)?;
+    add_word(&mut bytes, context, from, left)?;
     let place = bytes.len();
     bytes.extend_from_slice(b":")?;
-    add_spelled(&mut bytes, bus, right)?;
+    add_spelled(&mut bytes, context.header.bus, right)?;
     Ok((bytes, place))
 }
 
@@ -134,7 +159,7 @@ fn joined_node<'a>(
 {
     match (name_word(context, left), name_word(context, right)) {
         (Some(first), Some(second)) => {
-            let (bytes, place) = joined_bytes(alloc, context.header.bus, first, second)?;
+            let (bytes, place) = joined_bytes(alloc, context, left, first, second)?;
             Ok(node_at(net, right, bytes, place))
         }
         _ => Ok(None),

@@ -19,6 +19,7 @@ use std::alloc::Global;
 /// Takes a row of the name map; whether there was one.
 #[tactic(auto, unfolding(crate::specs::Grammar::events))]
 fn name_row<'a>(
+    alloc: Global,
     context: &mut Context<'a>,
     tokens: &mut Tokens<'a>,
     out: &mut Vec<Event>,
@@ -32,19 +33,23 @@ fn name_row<'a>(
     if !(is_word(&word) && is_spelled(word.text)) {
         return Err(unexpected(context, out, false, &word));
     }
-    context.names.set(index_of(index.text), word.text)?;
+    let bus = context.header.bus;
+    context
+        .names
+        .set(alloc, bus, index_of(index.text), word.text)?;
     Ok(true)
 }
 
 /// Takes the name map, of which the first word was taken.
 fn name_map<'a>(
+    alloc: Global,
     context: &mut Context<'a>,
     tokens: &mut Tokens<'a>,
     out: &mut Vec<Event>,
 ) -> Result<(), Stop>
     ensures { Reads result context.old name_map context.new section tokens.old tokens.new out.old.items out.new.items }
 {
-    'each: while name_row(context, tokens, out)? {}
+    'each: while name_row(alloc, context, tokens, out)? {}
     Ok(())
 }
 
@@ -95,7 +100,7 @@ fn section<'a>(
     ensures fewer { IfOk result (λ _. length tokens.new ≤ length tokens.old) }
 {
     if is(&word, b"*NAME_MAP") {
-        return name_map(context, tokens, out);
+        return name_map(alloc, context, tokens, out);
     }
     if is(&word, b"*D_NET") {
         return net(alloc, context, tokens, out, word.start);

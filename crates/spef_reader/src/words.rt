@@ -132,8 +132,8 @@ fn add_piece(
     Ok((run, is_at_once(escapes(escaped, byte, rest), run)))
 }
 
-/// Adds the bytes of the name that a word spells.
-pub(crate) fn add_spelled(name: &mut Vec<u8>, bus: Bus, word: &[u8]) -> Result<(), Memory>
+/// Adds the bytes of the name that a word spells, piece by piece.
+fn add_pieces(name: &mut Vec<u8>, bus: Bus, word: &[u8]) -> Result<(), Memory>
     ensures { IfOk result (λ _. name.new.items ≡ name.old.items ++ spelled bus false word.now) }
 {
     let mut escaped = false;
@@ -144,6 +144,17 @@ pub(crate) fn add_spelled(name: &mut Vec<u8>, bus: Bus, word: &[u8]) -> Result<(
         rest = behind.split_at(run).1;
     }
     Ok(())
+}
+
+/// Adds the bytes of the name that a word spells. Plain bytes are added at once.
+#[tactic(auto, using(crate::proofs::WordLemmas::spelled_plain))]
+pub(crate) fn add_spelled(name: &mut Vec<u8>, bus: Bus, word: &[u8]) -> Result<(), Memory>
+    ensures { IfOk result (λ _. name.new.items ≡ name.old.items ++ spelled bus false word.now) }
+{
+    if plain_len(bus, word) == word.len() {
+        return Ok(name.extend_from_slice(word)?);
+    }
+    add_pieces(name, bus, word)
 }
 
 /// The bytes of the name that a word spells.

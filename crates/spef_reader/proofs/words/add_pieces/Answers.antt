@@ -3,7 +3,7 @@ use Rattle.std.proofs.lemmas.List.{nil_from_length}
 use Rattle.std.proofs.lemmas.Option.{MatchOption-at_none}
 use Rattle.spef_reader.specs.Words.{spelled}
 use Rattle.spef_reader.proofs.WordLemmas.{spelled_whole}
-use Rattle.spef_reader.proofs.words.add_spelled.Goals as goal
+use Rattle.spef_reader.proofs.words.add_pieces.Goals as goal
 
 pub returns : goal.returns
 returns c =
