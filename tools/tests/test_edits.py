@@ -118,6 +118,18 @@ class Tries(unittest.TestCase):
         self.assertIn("first_spec = ?", (to / "proofs" / "stores" / "Store" / "first" / "Proof.antt").read_text())
         self.assertFalse((to / "proofs" / "edits" / "sum").exists())
 
+    def test_functions_that_are_checked_alone_keep_their_bodies(self):
+        to = self.folder / "stub"
+        check_over_stubs.write_stub("small", self.folder, to, ["stores::Store::first"])
+        self.assertIn("self.rows.first()", (to / "src" / "edits.rt").read_text())
+        self.assertFalse((to / "proofs" / "stores" / "Store" / "first" / "Proof.antt").exists())
+
+    def test_the_functions_of_a_file_with_their_texts(self):
+        homes = try_edits.homes_of(self.folder)
+        then = check_over_stubs.texts_of(EDITS, "src/edits.rt", homes)
+        now = check_over_stubs.texts_of(EDITS.replace("MOST - 3", "MOST - 2"), "src/edits.rt", homes)
+        self.assertEqual(len([it for it in now if now[it] != then[it]]), 1)
+
     def test_how_far_a_check_is(self):
         log = self.folder / "log.txt"
         log.write_text("checked small::edits::sum, 1 of 3\n")
