@@ -5,7 +5,8 @@ The bodies: the sessions of a run follow each other, once the first script first
 piece; a session looks for its `await` when it has answered the command before. Tests of `shell_tests` and `base_tests` hold a thread at a
 point until another has come to one of its own. This tool copies the repository, and puts each body (those whose TITLE begins with the words
 that are named; default: all) into the copy. It builds and runs the tests without proof (`rt try`), each for at most N seconds (default 300).
-The status is 0 where all tests pass as they stand and, with each body, the tests fail that are named for it; else 1.
+The status is 0 where the tests that are named for a body pass as they stand and fail with it; else 1. Others that fail are printed (`rt try` ends
+a test that takes many steps).
 """
 import argparse
 import pathlib
@@ -104,8 +105,8 @@ def main():
         copied(folder)
         for crate in dict.fromkeys(it[2] for it in tried):
             told = results(folder, crate, asked.seconds)
-            print(f"{crate} as it stands:", told, flush=True)
-            good &= all(told.values()) and all(test in told for it in tried if it[2] == crate for test in it[3])
+            print(f"{crate} as it stands: {len(told)} tests, fail", [it for it, passed in told.items() if not passed], flush=True)
+            good &= all(told.get(test) for it in tried if it[2] == crate for test in it[3])
         for title, sources, crate, tests in tried:
             told = with_sources(folder, sources, crate, asked.seconds)
             print(f"{title}: fail", [it for it, passed in told.items() if not passed], flush=True)

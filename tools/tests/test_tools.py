@@ -314,9 +314,11 @@ class Plants(unittest.TestCase):
 
 class Helps(unittest.TestCase):
     def test_files_that_are_not_there(self):
+        folder = tempfile.mkdtemp()
+        self.addCleanup(shutil.rmtree, folder)
         for tool, *words in [("check_setup", *"abcde"), ("read_answers", *"ab"), ("convert_journal", "a"), ("net_parasitics", *"ab"), ("endpoint_questions", *"ab")]:
             with self.subTest(tool):
-                status, _, err = common.tool(tool, *words, cwd=tempfile.gettempdir())
+                status, _, err = common.tool(tool, *words, cwd=folder)
                 self.assertEqual(status, 2)
                 self.assertRegex(err, f"^{tool}: [a-e]: No such file or directory\n$")
 
