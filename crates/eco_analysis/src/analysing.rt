@@ -32,7 +32,7 @@ fn analysis_of<H: Threads + Sync, G: Gate>(
     ensures analysis { IfOk result (λ a. a.stored ≡ store.now) }
     ensures refused { IfErr result (IsUnsound store.now.design) }
 {
-    match sound_graph(alloc, store) {
+    match sound_graph(rt, alloc, store) {
         Ok(graph) => Analysis::full(rt, alloc, store, graph, workers, gate),
         Err(fault) => Err(fault),
     }
