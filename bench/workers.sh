@@ -442,7 +442,7 @@ fn told_levels<H: Threads + Sync>(
     requires some { 1 ≤ workers }
     requires most { workers ≤ 32 }
 {
-    match sound_graph(rt.alloc(), store) {
+    match sound_graph(threads, rt.alloc(), store) {
         Ok(graph) => told(rt, threads, store, &graph, workers),
         Err(_) => Err(Trouble::Text("the design is refused")),
     }
@@ -458,7 +458,7 @@ fn whole_of<H: Threads + Sync>(
     requires some { 1 ≤ workers }
     requires most { workers ≤ 32 }
 {
-    match sound_graph(rt.alloc(), store) {
+    match sound_graph(threads, rt.alloc(), store) {
         Ok(graph) => whole(rt, threads, store, graph, workers),
         Err(_) => Err(Trouble::Text("the design is refused")),
     }
