@@ -10,6 +10,8 @@ use Rattle.sta_units.specs.declared.units.Unit.{Unit}
 use Rattle.timing_defs.specs.Names.{is_graphic}
 use Rattle.sta_text.specs.Bytes.{begins}
 use Rattle.spef_reader.specs.declared.context.Bus.{Bus}
+use Rattle.spef_reader.specs.declared.words.Reading.{Reading}
+use Rattle.spef_reader.specs.declared.words.Reading.TheVariants.{Word, Name}
 use Rattle.spef_reader.specs.declared.words.Sides.{Sides}
 use Rattle.spef_reader.specs.declared.words.Sides.TheVariants.{Alone, Joined}
 
@@ -43,6 +45,11 @@ spelled bus escaped [] = []
 spelled bus escaped (b ∷ bs) =
     (if escapes escaped b bs then [] else (if escaped then b else unescaped bus b) ∷ [])
     ++ spelled bus (escapes escaped b bs) bs
+
+-- the name that is read: what a word spells, or a name that is spelled already
+abbrev pub read_as : Bus → Reading → List ℕ
+read_as bus (Word word) = spelled bus false word.now
+read_as bus (Name name) = name.now
 
 -- what stands behind the first byte
 abbrev pub behind : List ℕ → List ℕ

@@ -1,51 +1,15 @@
 //! The name map: words that stand for indexes.
 
-ghost use Rattle.std.specs.Prelude.{◌≡◌, [], true, false, Some, None, OnOk, IfSome, MatchOption};
+ghost use Rattle.std.specs.Prelude.{◌≡◌, [], true, false, Some, None, OnOk, IfOk, IfSome, MatchOption, option_map};
 ghost use Rattle.spef_reader.specs.Names.{told, with_row, rows_at};
-ghost use Rattle.spef_reader.specs.Words.{spelled};
+ghost use Rattle.spef_reader.specs.Words.{spelled, read_as};
 
 use crate::context::Bus;
-use crate::words::spelled;
+use crate::words::{Reading, spelled};
 use indexmap::IndexMap;
 use sta_units::Memory;
-use std::alloc::{AllocFailed, Global};
+use std::alloc::Global;
 use std::marker::Model;
-
-fn map_find<'a>(rows: &IndexMap<&'a [u8], &'a [u8]>, index: &[u8]) -> Option<&'a [u8]>
-    ensures { MatchOption result (told (rows_at rows.now.entries) index.now ≡ None) (λ word. told (rows_at rows.now.entries) index.now ≡ Some word.now) }
-{
-    rows.get(index).copied()
-}
-
-/// The word of the row at a place, where the row is of this index.
-fn word_at<'a>(rows: &IndexMap<&'a [u8], &'a [u8]>, place: usize, index: &[u8]) -> Option<&'a [u8]>
-    ensures { IfSome result (λ word. told (rows_at rows.now.entries) index.now ≡ Some word.now) }
-{
-    match rows.get_index(place) {
-        Some((key, word)) if *key == index => Some(*word),
-        _ => None,
-    }
-}
-
-/// The place of the row of an index where the rows are numbered from 1 in their order.
-fn place_of(index: &[u8]) -> usize {
-    let mut number: usize = 0;
-    for digit in index {
-        let more = usize::from(digit.saturating_sub(b'0'));
-        number = number.wrapping_mul(10).wrapping_add(more);
-    }
-    number.wrapping_sub(1)
-}
-
-fn map_set<'a>(
-    rows: &mut IndexMap<&'a [u8], &'a [u8]>,
-    index: &'a [u8],
-    word: &'a [u8],
-) -> Result<Option<&'a [u8]>, AllocFailed<(&'a [u8], &'a [u8])>>
-    ensures { OnOk result (rows_at rows.new.entries ≡ with_row (rows_at rows.old.entries) index.entry.now word.entry.now) }
-{
-    rows.insert(index, word)
-}
 
 fn is_alike(mark: Option<u8>, other: Option<u8>) -> bool
     ensures { result ≡ true → mark ≡ other }
@@ -78,36 +42,81 @@ impl<'a> Model for Spelling<'a> {
 }
 
 impl<'a> Spelling<'a> {
-    fn new(alloc: Global, bus: Bus, word: &'a [u8]) -> Result<Spelling<'a>, Memory> {
+    fn new(alloc: Global, bus: Bus, word: &'a [u8]) -> Result<Spelling<'a>, Memory>
+        ensures { IfOk result (λ made. made ≡ (bus, word.entry.now)) }
+    {
         let name = spelled(alloc, bus, word)?;
         Ok(Spelling { word, bus, name })
     }
 
-    /// The name that a word spells, where this is the spelling of it with these marks.
+    /// The name of the word, where these are the marks of its spelling; else the word.
     #[tactic(auto, using(crate::proofs::NameMapLemmas::spelled_same))]
-    fn name_of(&self, bus: Bus, word: &[u8]) -> Option<&[u8]>
-        ensures { IfSome result (λ name. name.now ≡ spelled bus false word.now) }
+    fn reading(&self, bus: Bus) -> Reading<'_>
+        ensures { read_as bus result ≡ spelled bus false self.now.1 }
     {
-        if is_alike(self.bus.opening, bus.opening)
-            && is_alike(self.bus.closing, bus.closing)
-            && self.word == word
-        {
-            Some(self.name.as_slice())
+        if is_alike(self.bus.opening, bus.opening) && is_alike(self.bus.closing, bus.closing) {
+            Reading::Name(self.name.as_slice())
         } else {
-            None
+            Reading::Word(self.word)
         }
     }
 }
 
-fn keep<'a>(
-    alloc: Global,
-    spellings: &mut Vec<Spelling<'a>>,
-    bus: Bus,
-    word: &'a [u8],
-) -> Result<(), Memory> {
-    let spelling = Spelling::new(alloc, bus, word)?;
-    match spellings.push(spelling) {
-        Ok(()) => Ok(()),
+fn map_find<'b, 'a>(
+    rows: &'b IndexMap<&'a [u8], Spelling<'a>>,
+    index: &[u8],
+) -> Option<&'b Spelling<'a>>
+    ensures { MatchOption result (told (rows_at rows.now.entries) index.now ≡ None) (λ found. told (rows_at rows.now.entries) index.now ≡ Some found.now.1) }
+{
+    rows.get(index)
+}
+
+/// The spelling of the row at a place, where the row is of this index.
+fn spelling_at<'b, 'a>(
+    rows: &'b IndexMap<&'a [u8], Spelling<'a>>,
+    place: usize,
+    index: &[u8],
+) -> Option<&'b Spelling<'a>>
+    ensures { IfSome result (λ found. told (rows_at rows.now.entries) index.now ≡ Some found.now.1) }
+{
+    match rows.get_index(place) {
+        Some((key, spelling)) if *key == index => Some(spelling),
+        _ => None,
+    }
+}
+
+/// The place of the row of an index where the rows are numbered from 1 in their order.
+fn place_of(index: &[u8]) -> usize {
+    let mut number: usize = 0;
+    for digit in index {
+        let more = usize::from(digit.saturating_sub(b'0'));
+        number = number.wrapping_mul(10).wrapping_add(more);
+    }
+    number.wrapping_sub(1)
+}
+
+/// The spelling of the word of an index; none exactly where it stands for none.
+fn spelling_of<'b, 'a>(
+    rows: &'b IndexMap<&'a [u8], Spelling<'a>>,
+    index: &[u8],
+) -> Option<&'b Spelling<'a>>
+    ensures { MatchOption result (told (rows_at rows.now.entries) index.now ≡ None) (λ found. told (rows_at rows.now.entries) index.now ≡ Some found.now.1) }
+{
+    match spelling_at(rows, place_of(index), index) {
+        Some(spelling) => Some(spelling),
+        None => map_find(rows, index),
+    }
+}
+
+fn map_set<'a>(
+    rows: &mut IndexMap<&'a [u8], Spelling<'a>>,
+    index: &'a [u8],
+    spelling: Spelling<'a>,
+) -> Result<(), Memory>
+    ensures { OnOk result (rows_at rows.new.entries ≡ with_row (rows_at rows.old.entries) index.entry.now spelling.entry.1) }
+{
+    match rows.insert(index, spelling) {
+        Ok(_) => Ok(()),
         Err(_) => Err(Memory),
     }
 }
@@ -117,8 +126,7 @@ fn keep<'a>(
 /// in the order of the rows.
 #[derive(Drop)]
 pub(crate) struct NameMap<'a> {
-    rows: IndexMap<&'a [u8], &'a [u8]>,
-    spellings: Vec<Spelling<'a>>,
+    rows: IndexMap<&'a [u8], Spelling<'a>>,
 }
 
 impl<'a> Model for NameMap<'a> {
@@ -137,27 +145,17 @@ impl<'a> NameMap<'a> {
     {
         NameMap {
             rows: IndexMap::new(alloc),
-            spellings: Vec::new(alloc),
         }
     }
 
-    /// The word that an index stands for; none exactly where it stands for none. Takes no memory.
-    pub(crate) fn find(&self, index: &[u8]) -> Option<&'a [u8]>
-        ensures { MatchOption result (told self.now index.now ≡ None) (λ word. told self.now index.now ≡ Some word.now) }
+    /// What the word of an index reads as with these marks of buses; none exactly where the index
+    /// stands for no word. Takes no memory.
+    pub(crate) fn find(&self, bus: Bus, index: &[u8]) -> Option<Reading<'_>>
+        ensures { option_map (read_as bus) result ≡ option_map (spelled bus false) (told self.now index.now) }
     {
-        match word_at(&self.rows, place_of(index), index) {
-            Some(word) => Some(word),
-            None => map_find(&self.rows, index),
-        }
-    }
-
-    /// The name that a word spells, where the word was set for this index, as the number of its row.
-    pub(crate) fn spelling(&self, bus: Bus, index: &[u8], word: &[u8]) -> Option<&[u8]>
-        ensures { IfSome result (λ name. name.now ≡ spelled bus false word.now) }
-    {
-        match self.spellings.get(place_of(index)) {
+        match spelling_of(&self.rows, index) {
             None => None,
-            Some(spelling) => spelling.name_of(bus, word),
+            Some(spelling) => Some(spelling.reading(bus)),
         }
     }
 
@@ -171,9 +169,7 @@ impl<'a> NameMap<'a> {
     ) -> Result<(), Memory>
         ensures { OnOk result (self.new ≡ with_row self.old index.entry.now word.entry.now) }
     {
-        match map_set(&mut self.rows, index, word) {
-            Ok(_) => keep(alloc, &mut self.spellings, bus, word),
-            Err(_) => Err(Memory),
-        }
+        let spelling = Spelling::new(alloc, bus, word)?;
+        map_set(&mut self.rows, index, spelling)
     }
 }

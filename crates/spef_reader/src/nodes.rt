@@ -1,66 +1,48 @@
 //! The names and nodes of a text of parasitics.
 
-ghost use Rattle.std.specs.Prelude.{◌≡◌, ◌<◌, ◌≤◌, ◌+◌, ◌^◌, ◌++◌, ◌∷◌, ◌&&◌, List, true, false, not, is_some, length, take, drop, slice_get, Some, None, IfOk, MatchOption, MatchResult};
+ghost use Rattle.std.specs.Prelude.{◌≡◌, ◌<◌, ◌≤◌, ◌+◌, ◌^◌, ◌++◌, ◌∷◌, ◌&&◌, List, true, false, not, is_some, length, take, drop, slice_get, Some, None, IfOk, MatchOption, MatchResult, option_map};
 ghost use Rattle.sta_units.specs.Decimal.{number_on};
 ghost use Rattle.sta_text.specs.Tokens.{tok_of};
 ghost use Rattle.timing_defs.specs.Names.{is_name};
 ghost use Rattle.spef_reader.specs.declared.events.Event.{Event};
-ghost use Rattle.spef_reader.specs.Words.{sides_of, spelled, is_inner, is_node, is_reference};
+ghost use Rattle.spef_reader.specs.Words.{sides_of, spelled, read_as, is_inner, is_node, is_reference};
 ghost use Rattle.spef_reader.specs.Nodes.{name_word, name_of, named, is_net, joined_node, node_from, node_of, is_unknown};
 ghost use Rattle.spef_reader.specs.Grammar.{is_word, unexpected, unknown_name, noted};
 
-use crate::context::Context;
+use crate::context::{Bus, Context};
 use crate::events::Event;
 use crate::tokens::{Stop, is_word, note, unexpected};
-use crate::words::{Sides, add_spelled, cut, index_of, is_node, is_reference, is_whole};
+use crate::words::{Reading, Sides, add_name, cut, index_of, is_node, is_reference, is_whole};
 use sta_text::{Token, begins};
 use sta_units::Memory;
 use std::alloc::Global;
 use timing_defs::{Code, Name, RcNode};
 
-/// The word of a name, by way of the name map where it is an index.
-fn name_word<'a>(context: &Context<'a>, word: &'a [u8]) -> Option<&'a [u8]>
-    ensures { MatchOption result (name_word context.now word.entry.now ≡ None) (λ found. name_word context.now word.entry.now ≡ Some found.now) }
+/// What a name is read from, by way of the name map where its word is an index; none where the index is not in the name map.
+fn reading_of<'b>(context: &'b Context<'_>, word: &'b [u8]) -> Option<Reading<'b>>
+    ensures { option_map (read_as context.now.header.bus) result ≡ option_map (spelled context.now.header.bus false) (name_word context.now word.entry.now) }
 {
     if begins(b'*', word) {
-        context.names.find(index_of(word))
+        context.names.find(context.header.bus, index_of(word))
     } else {
-        Some(word)
-    }
-}
-
-/// Adds what the word of a name spells, which the other word gives perhaps by its index.
-fn add_word(
-    bytes: &mut Vec<u8>,
-    context: &Context<'_>,
-    from: &[u8],
-    word: &[u8],
-) -> Result<(), Memory>
-    ensures { IfOk result (λ _. bytes.new.items ≡ bytes.old.items ++ spelled context.now.header.bus false word.now) }
-{
-    let bus = context.header.bus;
-    if !begins(b'*', from) {
-        return add_spelled(bytes, bus, word);
-    }
-    match context.names.spelling(bus, index_of(from), word) {
-        Some(name) => Ok(bytes.extend_from_slice(name)?),
-        None => add_spelled(bytes, bus, word),
+        Some(Reading::Word(word))
     }
 }
 
 /// The name that a word gives; none where its index is not in the name map.
-pub(crate) fn name_of<'a>(
+#[tactic(auto, using(crate::proofs::NodeLemmas::unread, crate::proofs::NodeLemmas::read))]
+pub(crate) fn name_of(
     alloc: Global,
-    context: &Context<'a>,
-    word: &'a [u8],
+    context: &Context<'_>,
+    word: &[u8],
 ) -> Result<Option<Name>, Memory>
-    ensures { IfOk result (λ name. name ≡ name_of context.now word.entry.now) }
+    ensures { IfOk result (λ name. name ≡ name_of context.now word.now) }
 {
-    match name_word(context, word) {
+    match reading_of(context, word) {
         None => Ok(None),
-        Some(found) => {
-            let mut bytes = Vec::with_capacity(alloc, found.len())?;
-            add_word(&mut bytes, context, word, found)?;
+        Some(reading) => {
+            let mut bytes = Vec::with_capacity(alloc, reading.room())?;
+            add_name(&mut bytes, context.header.bus, reading)?;
             Ok(Name::from_vec(bytes))
         }
     }
@@ -101,24 +83,22 @@ fn inner_number(word: &[u8]) -> Option<u32>
     }
 }
 
-/// The bytes of two names that words spell, with a colon between, and how many stand before it. The first word is
-/// given by another one.
+/// The bytes of two names with a colon between, and how many stand before it.
 fn joined_bytes(
     alloc: Global,
-    context: &Context<'_>,
-    from: &[u8],
-    left: &[u8],
-    right: &[u8],
+    bus: Bus,
+    left: Reading<'_>,
+    right: Reading<'_>,
 ) -> Result<(Vec<u8>, usize), Memory>
-    ensures bytes { IfOk result (λ made. made.0.items ≡ spelled context.now.header.bus false left.now ++ 58 ∷ spelled context.now.header.bus false right.now) }
-    ensures place { IfOk result (λ made. made.1 ≡ length (spelled context.now.header.bus false left.now)) }
+    ensures bytes { IfOk result (λ made. made.0.items ≡ read_as bus left.entry ++ 58 ∷ read_as bus right.entry) }
+    ensures place { IfOk result (λ made. made.1 ≡ length (read_as bus left.entry)) }
 {
-    let room = left.len().saturating_add(right.len()).saturating_add(1);
+    let room = left.room().saturating_add(right.room()).saturating_add(1);
     let mut bytes = Vec::with_capacity(alloc, room)?;
-    add_word(&mut bytes, context, from, left)?;
+    add_name(&mut bytes, bus, left)?;
     let place = bytes.len();
     bytes.extend_from_slice(b":")?;
-    add_spelled(&mut bytes, context.header.bus, right)?;
+    add_name(&mut bytes, bus, right)?;
     Ok((bytes, place))
 }
 
@@ -147,19 +127,19 @@ fn node_at(net: &Option<Name>, word: &[u8], bytes: Vec<u8>, place: usize) -> Opt
 }
 
 /// The node of an instance or a net and what stands behind it; none where an index is not in the name map.
-#[tactic(auto, using(crate::proofs::JoinLemmas::colon_here, crate::proofs::JoinLemmas::left_here, crate::proofs::JoinLemmas::right_here))]
-fn joined_node<'a>(
+#[tactic(auto, using(crate::proofs::NodeLemmas::unread, crate::proofs::NodeLemmas::read, crate::proofs::JoinLemmas::colon_here, crate::proofs::JoinLemmas::left_here, crate::proofs::JoinLemmas::right_here))]
+fn joined_node(
     alloc: Global,
-    context: &Context<'a>,
+    context: &Context<'_>,
     net: &Option<Name>,
-    left: &'a [u8],
-    right: &'a [u8],
+    left: &[u8],
+    right: &[u8],
 ) -> Result<Option<RcNode>, Memory>
-    ensures { IfOk result (λ node. node ≡ joined_node net.now right.entry.now (name_of context.now left.entry.now) (name_of context.now right.entry.now)) }
+    ensures { IfOk result (λ node. node ≡ joined_node net.now right.now (name_of context.now left.now) (name_of context.now right.now)) }
 {
-    match (name_word(context, left), name_word(context, right)) {
+    match (reading_of(context, left), reading_of(context, right)) {
         (Some(first), Some(second)) => {
-            let (bytes, place) = joined_bytes(alloc, context, left, first, second)?;
+            let (bytes, place) = joined_bytes(alloc, context.header.bus, first, second)?;
             Ok(node_at(net, right, bytes, place))
         }
         _ => Ok(None),

@@ -6,12 +6,29 @@ ghost use Rattle.std.specs.List.{list_all, prefix_len};
 ghost use Rattle.std.specs.Str.{bytes_eq};
 ghost use Rattle.sta_units.specs.Decimal.{is_whole};
 ghost use Rattle.timing_defs.specs.Names.{is_graphic};
-ghost use Rattle.spef_reader.specs.Words.{is_mark, begins_mark, escapes, is_this, unescaped, spelled, is_plain, behind, is_zero, is_index, index_of, is_spelled, is_reference, last_at, parts_of, sides_of, are_references, begins_digit, is_node, mark_of, is_pin_delimiter, delimiter_of, is_text_word, is_header_word, is_other_unit, is_passed, is_attribute, is_port_word, is_left_out, is_section, is_net_word, is_direction, is_pin_row};
+ghost use Rattle.spef_reader.specs.Words.{is_mark, begins_mark, escapes, is_this, unescaped, spelled, read_as, is_plain, behind, is_zero, is_index, index_of, is_spelled, is_reference, last_at, parts_of, sides_of, are_references, begins_digit, is_node, mark_of, is_pin_delimiter, delimiter_of, is_text_word, is_header_word, is_other_unit, is_passed, is_attribute, is_port_word, is_left_out, is_section, is_net_word, is_direction, is_pin_row};
 
 use crate::context::Bus;
 use sta_text::begins;
 use sta_units::Memory;
 use std::alloc::Global;
+
+/// What a name is read from: a word that spells it, or the name as it was spelled before.
+#[derive(Clone, Copy, Drop)]
+pub(crate) enum Reading<'a> {
+    Word(&'a [u8]),
+    Name(&'a [u8]),
+}
+
+impl Reading<'_> {
+    /// A number of bytes in which the name has room.
+    pub(crate) fn room(&self) -> usize {
+        match self {
+            Reading::Word(word) => word.len(),
+            Reading::Name(name) => name.len(),
+        }
+    }
+}
 
 /// The sides of a node's word: a port alone, or an instance and its pin, or a net and a number.
 #[derive(Clone, Copy, Drop)]
@@ -148,13 +165,23 @@ fn add_pieces(name: &mut Vec<u8>, bus: Bus, word: &[u8]) -> Result<(), Memory>
 
 /// Adds the bytes of the name that a word spells. Plain bytes are added at once.
 #[tactic(auto, using(crate::proofs::WordLemmas::spelled_plain))]
-pub(crate) fn add_spelled(name: &mut Vec<u8>, bus: Bus, word: &[u8]) -> Result<(), Memory>
+fn add_spelled(name: &mut Vec<u8>, bus: Bus, word: &[u8]) -> Result<(), Memory>
     ensures { IfOk result (λ _. name.new.items ≡ name.old.items ++ spelled bus false word.now) }
 {
     if plain_len(bus, word) == word.len() {
         return Ok(name.extend_from_slice(word)?);
     }
     add_pieces(name, bus, word)
+}
+
+/// Adds the bytes of a name.
+pub(crate) fn add_name(name: &mut Vec<u8>, bus: Bus, reading: Reading<'_>) -> Result<(), Memory>
+    ensures { IfOk result (λ _. name.new.items ≡ name.old.items ++ read_as bus reading.entry) }
+{
+    match reading {
+        Reading::Word(word) => add_spelled(name, bus, word),
+        Reading::Name(read) => Ok(name.extend_from_slice(read)?),
+    }
 }
 
 /// The bytes of the name that a word spells.
