@@ -2,6 +2,7 @@ pub mod NameMapLemmas
 pub mod WordLemmas
 pub mod NodeLemmas
 pub mod JoinLemmas
+pub mod InnerLemmas
 pub mod ValueLemmas
 pub mod CouplingLemmas
 pub mod RowLemmas

@@ -1,18 +1,20 @@
 //! The names and nodes of a text of parasitics.
 
-ghost use Rattle.std.specs.Prelude.{◌≡◌, ◌<◌, ◌≤◌, ◌+◌, ◌^◌, ◌++◌, ◌∷◌, ◌&&◌, List, true, false, not, is_some, length, take, drop, slice_get, Some, None, IfOk, MatchOption, MatchResult, option_map};
+ghost use Rattle.std.specs.Prelude.{◌≡◌, ◌<◌, ◌≤◌, ◌+◌, ◌^◌, ◌++◌, ◌∷◌, ◌&&◌, List, true, false, not, is_some, length, take, drop, slice_get, Some, None, IfOk, IfSome, MatchOption, MatchResult, option_map};
 ghost use Rattle.sta_units.specs.Decimal.{number_on};
 ghost use Rattle.sta_text.specs.Tokens.{tok_of};
 ghost use Rattle.timing_defs.specs.Names.{is_name};
 ghost use Rattle.spef_reader.specs.declared.events.Event.{Event};
-ghost use Rattle.spef_reader.specs.Words.{sides_of, spelled, read_as, is_inner, is_node, is_reference};
+ghost use Rattle.spef_reader.specs.Words.{sides_of, parts_of, are_references, spelled, read_as, is_inner, is_node};
 ghost use Rattle.spef_reader.specs.Nodes.{name_word, name_of, named, is_net, joined_node, node_from, node_of, is_unknown};
 ghost use Rattle.spef_reader.specs.Grammar.{is_word, unexpected, unknown_name, noted};
 
 use crate::context::{Bus, Context};
 use crate::events::Event;
 use crate::tokens::{Stop, is_word, note, unexpected};
-use crate::words::{Reading, Sides, add_name, cut, index_of, is_node, is_reference, is_whole};
+use crate::words::{
+    Reading, Sides, add_name, are_references, cut, index_of, is_node, is_plain_word, is_whole,
+};
 use sta_text::{Token, begins};
 use sta_units::Memory;
 use std::alloc::Global;
@@ -48,8 +50,11 @@ pub(crate) fn name_of(
     }
 }
 
+/// Whether the net has this name.
+#[tactic(auto, using(crate::proofs::InnerLemmas::same_name))]
 fn is_net(net: &Option<Name>, name: &[u8]) -> bool
-    ensures { result ≡ is_net net.now name.now }
+    ensures value { result ≡ is_net net.now name.now }
+    ensures name { result ≡ true → is_name name.now ≡ true }
 {
     match net {
         None => false,
@@ -103,10 +108,41 @@ fn joined_bytes(
 }
 
 /// The number of an inner node of the net; none where the name is not the net's or the word is no such number.
-fn own_number(is_own: bool, word: &[u8]) -> Option<u32>
-    ensures { MatchOption result ((is_own && is_inner word.now) ≡ false) (λ number. ((is_own && is_inner word.now) ≡ true) × (number ≡ number_on 0 word.now)) }
+#[tactic(auto, using(crate::proofs::InnerLemmas::no_inner))]
+fn own_number(net: &Option<Name>, name: &[u8], word: &[u8]) -> Option<u32>
+    ensures value { MatchOption result ((is_net net.now name.now && is_inner word.now) ≡ false) (λ number. ((is_net net.now name.now && is_inner word.now) ≡ true) × (number ≡ number_on 0 word.now)) }
+    ensures name { IfSome result (λ _. is_name name.now ≡ true) }
 {
-    if is_own { inner_number(word) } else { None }
+    match inner_number(word) {
+        Some(number) if is_net(net, name) => Some(number),
+        _ => None,
+    }
+}
+
+/// The number of an inner node of the net where the digits of its word stand for themselves.
+#[tactic(auto, using(crate::proofs::InnerLemmas::inner_there))]
+fn plain_number(context: &Context<'_>, net: &Option<Name>, name: &[u8], right: &[u8]) -> Option<u32>
+    ensures { IfSome result (λ number. joined_node net.now right.now (named name.now) (name_of context.now right.now) ≡ Some (RcNode.Inner number)) }
+{
+    match own_number(net, name, right) {
+        Some(number) if is_plain_word(context.header.bus, right) => Some(number),
+        _ => None,
+    }
+}
+
+/// The number of an inner node, where the net's name is spelled already; none tells nothing.
+fn inner_of(
+    context: &Context<'_>,
+    net: &Option<Name>,
+    left: Reading<'_>,
+    right: &[u8],
+) -> Option<u32>
+    ensures { IfSome result (λ number. joined_node net.now right.now (named (read_as context.now.header.bus left.entry)) (name_of context.now right.now) ≡ Some (RcNode.Inner number)) }
+{
+    match left {
+        Reading::Word(_) => None,
+        Reading::Name(name) => plain_number(context, net, name, right),
+    }
 }
 
 /// The node of a joined name, of which so many bytes stand before the colon.
@@ -118,9 +154,9 @@ fn node_at(net: &Option<Name>, word: &[u8], bytes: Vec<u8>, place: usize) -> Opt
     if place == 0 || place + 1 == bytes.len() {
         return None;
     }
-    let is_own = is_net(net, bytes.as_slice().split_at(place).0);
+    let number = own_number(net, bytes.as_slice().split_at(place).0, word);
     let name = Name::from_vec(bytes)?;
-    match own_number(is_own, word) {
+    match number {
         Some(number) => Some(RcNode::Inner(number)),
         None => Some(RcNode::Pin(name)),
     }
@@ -137,12 +173,18 @@ fn joined_node(
 ) -> Result<Option<RcNode>, Memory>
     ensures { IfOk result (λ node. node ≡ joined_node net.now right.now (name_of context.now left.now) (name_of context.now right.now)) }
 {
-    match (reading_of(context, left), reading_of(context, right)) {
-        (Some(first), Some(second)) => {
+    let Some(first) = reading_of(context, left) else {
+        return Ok(None);
+    };
+    if let Some(number) = inner_of(context, net, first, right) {
+        return Ok(Some(RcNode::Inner(number)));
+    }
+    match reading_of(context, right) {
+        None => Ok(None),
+        Some(second) => {
             let (bytes, place) = joined_bytes(alloc, context.header.bus, first, second)?;
             Ok(node_at(net, right, bytes, place))
         }
-        _ => Ok(None),
     }
 }
 
@@ -163,22 +205,6 @@ fn node_from<'a>(
     }
 }
 
-/// The node that a word gives; none where an index is not in the name map, or the header has no
-/// delimiter.
-fn node_of<'a>(
-    alloc: Global,
-    context: &Context<'a>,
-    net: &Option<Name>,
-    word: &'a [u8],
-) -> Result<Option<RcNode>, Memory>
-    ensures { IfOk result (λ node. node ≡ node_of context.now net.now word.entry.now) }
-{
-    match context.header.delimiter {
-        None => Ok(None),
-        Some(delimiter) => node_from(alloc, context, net, cut(delimiter, word)),
-    }
-}
-
 /// Whether the node was not found for want of an index.
 fn is_unknown(context: &Context<'_>, node: &Option<RcNode>) -> bool
     ensures { result ≡ is_unknown context.now node.now }
@@ -186,24 +212,39 @@ fn is_unknown(context: &Context<'_>, node: &Option<RcNode>) -> bool
     node.is_none() && context.header.delimiter.is_some()
 }
 
-/// Reads a node, and notes its fault.
-fn noted_node<'a>(
+/// Reads a node of a word that this delimiter cuts, and notes its fault.
+fn parted_node<'a>(
     alloc: Global,
     context: &Context<'a>,
     out: &mut Vec<Event>,
     net: &Option<Name>,
     token: Token<'a>,
-) -> Result<Option<RcNode>, Memory>
-    ensures { IfOk result (λ node. (node ≡ node_of context.now net.now token.entry.text.now) × ((rest : List Event) → out.new.items ++ rest ≡ out.old.items ++ noted (is_unknown context.now (node_of context.now net.now token.entry.text.now)) (unknown_name token.entry.start) rest)) }
+    delimiter: u8,
+) -> Result<Option<RcNode>, Stop>
+    ensures { MatchResult result (λ node. (are_references (parts_of delimiter token.entry.text.now) ≡ true) × (node ≡ node_from context.now net.now (parts_of delimiter token.entry.text.now)) × ((rest : List Event) → out.new.items ++ rest ≡ out.old.items ++ noted (is_unknown context.now (node_from context.now net.now (parts_of delimiter token.entry.text.now))) (unknown_name token.entry.start) rest)) (λ stop. stop ≡ Stop.Refused → (are_references (parts_of delimiter token.entry.text.now) ≡ false) × (out.new.items ≡ out.old.items ++ unexpected context.now false (tok_of token.entry))) }
 {
-    let node = node_of(alloc, context, net, token.text)?;
-    note(
-        out,
-        is_unknown(context, &node),
-        Code::SpefUnknownName,
-        token.start,
-    )?;
+    let sides = cut(delimiter, token.text);
+    if !are_references(&sides) {
+        return Err(unexpected(context, out, false, &token));
+    }
+    let node = node_from(alloc, context, net, sides)?;
+    let unknown = is_unknown(context, &node);
+    note(out, unknown, Code::SpefUnknownName, token.start)?;
     Ok(node)
+}
+
+/// Looks at a word where the header has no delimiter. It gives no node.
+fn uncut_node(
+    context: &Context<'_>,
+    out: &mut Vec<Event>,
+    token: Token<'_>,
+) -> Result<Option<RcNode>, Stop>
+    ensures { MatchResult result (λ node. (is_node None token.entry.text.now ≡ true) × (node ≡ None) × (out.new.items ≡ out.old.items)) (λ stop. stop ≡ Stop.Refused → (is_node None token.entry.text.now ≡ false) × (out.new.items ≡ out.old.items ++ unexpected context.now false (tok_of token.entry))) }
+{
+    if !is_node(None, token.text) {
+        return Err(unexpected(context, out, false, &token));
+    }
+    Ok(None)
 }
 
 /// Reads a node of a token that was taken, where it is one.
@@ -216,8 +257,11 @@ pub(crate) fn node<'a>(
 ) -> Result<Option<RcNode>, Stop>
     ensures { MatchResult result (λ node. ((is_word (tok_of token.entry) && is_node context.now.header.delimiter token.entry.text.now) ≡ true) × (node ≡ node_of context.now net.now token.entry.text.now) × ((rest : List Event) → out.new.items ++ rest ≡ out.old.items ++ noted (is_unknown context.now (node_of context.now net.now token.entry.text.now)) (unknown_name token.entry.start) rest)) (λ stop. stop ≡ Stop.Refused → ((is_word (tok_of token.entry) && is_node context.now.header.delimiter token.entry.text.now) ≡ false) × (out.new.items ≡ out.old.items ++ unexpected context.now false (tok_of token.entry))) }
 {
-    if !(is_word(&token) && is_node(context.header.delimiter, token.text)) {
+    if !is_word(&token) {
         return Err(unexpected(context, out, false, &token));
     }
-    Ok(noted_node(alloc, context, out, net, token)?)
+    match context.header.delimiter {
+        None => uncut_node(context, out, token),
+        Some(delimiter) => parted_node(alloc, context, out, net, token, delimiter),
+    }
 }

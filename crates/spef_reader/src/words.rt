@@ -1,6 +1,6 @@
 //! The words of a text of parasitics.
 
-ghost use Rattle.std.specs.Prelude.{◌≡◌, ◌<◌, ◌≤◌, ◌++◌, ◌∷◌, [], false, length, drop, ◌&&◌, ◌==◌, None, IfOk, IfSome, if◌then◌else◌};
+ghost use Rattle.std.specs.Prelude.{◌≡◌, ◌<◌, ◌≤◌, ◌++◌, ◌∷◌, [], true, false, length, drop, ◌&&◌, ◌==◌, None, IfOk, IfSome, if◌then◌else◌};
 ghost use Rattle.std.specs.Char.{is_ascii_digit};
 ghost use Rattle.std.specs.List.{list_all, prefix_len};
 ghost use Rattle.std.specs.Str.{bytes_eq};
@@ -124,6 +124,13 @@ fn plain_len(bus: Bus, word: &[u8]) -> usize
     word.iter().take_while(|byte| is_plain(bus, **byte)).count()
 }
 
+/// Whether each byte of the word stands for itself.
+pub(crate) fn is_plain_word(bus: Bus, word: &[u8]) -> bool
+    ensures { result ≡ true → prefix_len (is_plain bus) word.now ≡ length word.now }
+{
+    plain_len(bus, word) == word.len()
+}
+
 fn is_at_once(escaped: bool, run: usize) -> bool
     ensures { result ≡ (escaped && run == 0) }
 {
@@ -168,7 +175,7 @@ fn add_pieces(name: &mut Vec<u8>, bus: Bus, word: &[u8]) -> Result<(), Memory>
 fn add_spelled(name: &mut Vec<u8>, bus: Bus, word: &[u8]) -> Result<(), Memory>
     ensures { IfOk result (λ _. name.new.items ≡ name.old.items ++ spelled bus false word.now) }
 {
-    if plain_len(bus, word) == word.len() {
+    if is_plain_word(bus, word) {
         return Ok(name.extend_from_slice(word)?);
     }
     add_pieces(name, bus, word)
@@ -289,7 +296,8 @@ pub(crate) fn cut(delimiter: u8, word: &[u8]) -> Sides<'_>
     }
 }
 
-fn are_references(sides: &Sides<'_>) -> bool
+/// Whether each side is a name, which is spelled or given by its index.
+pub(crate) fn are_references(sides: &Sides<'_>) -> bool
     ensures { result ≡ are_references (sides_of sides.now) }
 {
     match sides {
