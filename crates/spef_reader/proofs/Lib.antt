@@ -7,3 +7,4 @@ pub mod ValueLemmas
 pub mod CouplingLemmas
 pub mod RowLemmas
 pub mod KeptLaws
+pub mod ScanLemmas

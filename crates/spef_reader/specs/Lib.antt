@@ -6,3 +6,4 @@ pub mod Ahead
 pub mod Reads
 pub mod Faults
 pub mod Parasitics
+pub mod Scans

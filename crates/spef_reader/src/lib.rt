@@ -13,6 +13,7 @@ mod nodes;
 mod parasitics;
 mod reader;
 mod rows;
+mod scan;
 mod sections;
 mod sizes;
 mod tokens;

@@ -11,12 +11,13 @@ ghost use Rattle.spef_reader.specs.Grammar.{fault, is_text, is_word, is_string, 
 
 use crate::context::Context;
 use crate::events::Event;
+use crate::scan::Scan;
 use crate::words::{is_header_word, is_index, is_pin_row, is_text, is_whole, mark_of};
-use sta_text::{Cursor, Token, Wrong, begins};
+use sta_text::{Token, Wrong, begins};
 use sta_units::Memory;
 use std::alloc::AllocFailed;
 use std::marker::Model;
-use timing_defs::{Code, Sort, Style};
+use timing_defs::{Code, Sort};
 
 /// Why the reading of a text stops: want of memory, or a fault, which is the last event.
 #[derive(Clone, Copy, Drop)]
@@ -51,7 +52,7 @@ impl<T: Drop> From<AllocFailed<T>> for Stop {
 #[derive(Drop)]
 pub(crate) struct Tokens<'a> {
     first: Option<Token<'a>>,
-    behind: Cursor<'a>,
+    behind: Scan<'a>,
 }
 
 impl<'a> Model for Tokens<'a> {
@@ -110,7 +111,7 @@ impl<'a> Tokens<'a> {
     pub(crate) fn new(bytes: &'a [u8]) -> Tokens<'a>
         ensures { result ≡ tokens_of style.Spef bytes.entry.now }
     {
-        let mut behind = Cursor::new(bytes, Style::Spef);
+        let mut behind = Scan::new(bytes);
         Tokens {
             first: behind.next(),
             behind,
