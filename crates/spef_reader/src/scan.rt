@@ -1,6 +1,6 @@
 //! A place in a text, where a common word is found by one look at its bytes.
 
-ghost use Rattle.std.specs.Prelude.{◌≡◌, ◌≤◌, ◌+◌, ◌∷◌, [], ℕ, length, drop, MatchOption};
+ghost use Rattle.std.specs.Prelude.{◌≡◌, ◌≤◌, ◌∷◌, [], ℕ, length, MatchOption};
 ghost use Rattle.std.specs.List.{prefix_len};
 ghost use Rattle.sta_text.specs.Bytes.{is_white};
 ghost use Rattle.sta_text.specs.Tokens.{tok_of, tokens_of};
