@@ -1,7 +1,6 @@
--- Words that spell themselves, and words that are no others.
-use Rattle.std.proofs.Common.{◌≡◌, ◌≢◌, ℕ, suc, Bool, true, false, ◌&&◌, not, ◌==◌, ◌+◌, List, [], ◌∷◌, ◌++◌, length, take, drop, cond, arith, refl, sym, ap, ◌∙◌, append_assoc}
+-- Words that spell themselves.
+use Rattle.std.proofs.Common.{◌≡◌, ℕ, suc, Bool, true, false, ◌&&◌, not, ◌==◌, ◌+◌, List, [], ◌∷◌, ◌++◌, length, take, drop, cond, arith, refl, sym, ap, ◌∙◌, append_assoc}
 use Rattle.std.specs.List.{prefix_len}
-use Rattle.std.specs.Str.{bytes_eq}
 use Rattle.std.proofs.lemmas.Bool.{and_parts, eqb-true}
 use Rattle.std.proofs.lemmas.Bool.Decides.{nat_tests}
 use Rattle.std.proofs.lemmas.List.{append-nil, take-append-drop, drop_all}
@@ -78,14 +77,3 @@ spelled_plain bus word h =
     ∙ (ap (λ (k : ℕ). take k word ++ spelled bus false (drop k word)) h
     ∙ (ap (λ (rest : List ℕ). take (length word) word ++ rest) (ap (spelled bus false) all ∙ sym all)
     ∙ take-append-drop (length word) word))
-
-both_less : (same rest : Bool) → rest ≡ false → (same && rest) ≡ false
-both_less true rest h = h
-both_less false rest h = refl
-
--- words of other lengths are not the same
-pub unlike : (word text : List ℕ) → length word ≢ length text → bytes_eq word text ≡ false
-unlike [] [] h = absurd (h refl)
-unlike [] (c ∷ cs) h = refl
-unlike (b ∷ bs) [] h = refl
-unlike (b ∷ bs) (c ∷ cs) h = both_less (b == c) (bytes_eq bs cs) (unlike bs cs (λ e. h (ap suc e)))

@@ -5,7 +5,7 @@ ghost use Rattle.spef_reader.specs.Names.{told, with_row, rows_at};
 ghost use Rattle.spef_reader.specs.Words.{spelled, read_as};
 
 use crate::context::Bus;
-use crate::words::{Reading, spelled};
+use crate::words::{Reading, is_text, spelled};
 use indexmap::IndexMap;
 use sta_units::Memory;
 use std::alloc::Global;
@@ -80,7 +80,7 @@ fn spelling_at<'b, 'a>(
     ensures { IfSome result (λ found. told (rows_at rows.now.entries) index.now ≡ Some found.now.1) }
 {
     match rows.get_index(place) {
-        Some((key, spelling)) if *key == index => Some(spelling),
+        Some((key, spelling)) if is_text(*key, index) => Some(spelling),
         _ => None,
     }
 }

@@ -13,7 +13,8 @@ use crate::context::{Bus, Context};
 use crate::events::Event;
 use crate::tokens::{Stop, is_word, note, unexpected};
 use crate::words::{
-    Reading, Sides, add_name, are_references, cut, index_of, is_node, is_plain_word, is_whole,
+    Reading, Sides, add_name, are_references, cut, index_of, is_node, is_plain_word, is_text,
+    is_whole,
 };
 use sta_text::{Token, begins};
 use sta_units::Memory;
@@ -58,7 +59,7 @@ fn is_net(net: &Option<Name>, name: &[u8]) -> bool
 {
     match net {
         None => false,
-        Some(net) => net.as_bytes() == name,
+        Some(net) => is_text(net.as_bytes(), name),
     }
 }
 

@@ -209,15 +209,22 @@ fn behind(word: &[u8]) -> &[u8]
     }
 }
 
-/// Whether the word is these bytes. Words mostly differ in their length.
-#[tactic(auto, using(crate::proofs::WordLemmas::unlike))]
+/// Whether the word is these bytes. Words mostly differ in their length, or at their end.
+#[tactic(auto, using(timing_defs::proofs::SameBytes::unlike_size, timing_defs::proofs::SameBytes::unlike_at, timing_defs::proofs::SameBytes::same_next))]
 pub(crate) fn is_text(word: &[u8], text: &[u8]) -> bool
     ensures { result ≡ bytes_eq word.now text.now }
 {
     if word.len() != text.len() {
         return false;
     }
-    word == text
+    let mut left = word.len();
+    while 0 < left {
+        left -= 1;
+        if word[left] != text[left] {
+            return false;
+        }
+    }
+    true
 }
 
 fn all_digits(word: &[u8]) -> bool
