@@ -36,6 +36,8 @@ NO_PROGRAM = 70
 FIRST_BYTES = 65536
 LEAST_WORDS = {"run": 7, "generate": 3}
 MOST_SCRIPTS = 16
+# Large pages for what the program allocates, where the kernel gives them to those that ask (docs/SPEED.md).
+LARGE_PAGES = "glibc.malloc.hugetlb=1"
 
 
 def say(line):
@@ -177,10 +179,18 @@ def write_all(data):
     return True
 
 
+def surroundings():
+    """The environment of the program: the C library asks the kernel for large pages, where nobody has said whether it should."""
+    said = os.environ.get("GLIBC_TUNABLES", "")
+    if LARGE_PAGES.split("=", maxsplit=1)[0] in said:
+        return dict(os.environ)
+    return {**os.environ, "GLIBC_TUNABLES": f"{said}:{LARGE_PAGES}" if said else LARGE_PAGES}
+
+
 def run(program, words):
     """Runs the program with its output passed on; gives its status and the first bytes of what it wrote."""
     try:
-        child = subprocess.Popen([str(program), *words], stdout=subprocess.PIPE, close_fds=False)
+        child = subprocess.Popen([str(program), *words], stdout=subprocess.PIPE, close_fds=False, env=surroundings())
     except OSError as why:
         raise Stop(f"{program} does not start: {why.strerror}") from why
     for number in (signal.SIGTERM, signal.SIGHUP):
