@@ -503,5 +503,8 @@ cd "$work/crates/workers_bench"
 mode=run
 if [ "${TRY:-0}" = 1 ]; then mode=try; fi
 words=()
-if [ -n "${CELLS:-}" ]; then words=(-- analysis); fi
+if [ "$mode" = try ]; then
+  for file in lib v sdc spef; do words+=(--data "bench.$file=data/bench.$file"); done
+fi
+if [ -n "${CELLS:-}" ]; then words+=(-- analysis); fi
 rt "$mode" "${words[@]}" 2> "$work/log" || { cat "$work/log" >&2; exit 1; }
