@@ -120,7 +120,7 @@ def build():
             fcntl.flock(lock, fcntl.LOCK_EX)
         if quick_is_current():
             return
-        say(f"building the program without proof, some six minutes (two to fourteen were seen); the tools' words go to {FOLDER / 'log'}")
+        say(f"building the program without proof, some six minutes (two to eighteen were seen); the tools' words go to {FOLDER / 'log'}")
         sources = sum_of(source_files(("src",)))
         try:
             quick_build.build(QUICK, FOLDER / "log", say)
