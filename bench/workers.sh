@@ -504,6 +504,7 @@ mode=run
 if [ "${TRY:-0}" = 1 ]; then mode=try; fi
 words=()
 if [ "$mode" = try ]; then
+  words+=(--seconds 600)
   for file in lib v sdc spef; do words+=(--data "bench.$file=data/bench.$file"); done
 fi
 if [ -n "${CELLS:-}" ]; then words+=(-- analysis); fi
