@@ -1,8 +1,7 @@
-#!/usr/bin/env python3
 """Plants wrong bodies in crates over what this machine has proved before.
 
-    tools/plant_over_kept.py [--max N] [--minutes N] [--only WORD] [--proved LOG] CRATE..
-    tools/plant_over_kept.py --bare [CRATE..]
+    dev/plant_over_kept.py [--max N] [--minutes N] [--only WORD] [--proved LOG] CRATE..
+    dev/plant_over_kept.py --bare [CRATE..]
 
 `rt plant` puts wrong bodies under the clauses of a crate's public functions, and lists those that the clauses let through (`rt plant --help`). It wants
 the crates below built in this checkout, and else proves them all. This lays the libraries that `rt ci` kept into their out/ first, so that it begins at
@@ -35,10 +34,10 @@ import sys
 import time
 import types
 
-import check_over_kept as over
-import try_edits
+from lizdrog_dev import check_over_kept as over
+from lizdrog_dev import try_edits
+from lizdrog_tools.places import TOP, DEV
 
-TOP = pathlib.Path(__file__).resolve().parent.parent
 LAST = re.compile(r"^plants crate=.*$", re.M)
 # Of a check: the folder of a hole for a function that no source writes and this copy does not make.
 GONE = re.compile(r"^\./(proofs/\S+\+Destruct/drop)/Proof\.antt: error", re.M)
@@ -314,7 +313,7 @@ def main():
     for name in "only", "proved":
         options += [f"--{name}", str(getattr(given, name))] if getattr(given, name) else []
     for crate in given.crates:
-        words = [sys.executable, __file__, "--here", *options, crate]
+        words = [sys.executable, DEV / "plant_over_kept.py", "--here", *options, crate]
         ran = subprocess.run(words, stdin=subprocess.DEVNULL, stdout=subprocess.PIPE, encoding="utf-8", errors="replace", check=False)
         print(ran.stdout, end="", flush=True)
         counts = counts_of(ran.stdout)
@@ -324,7 +323,3 @@ def main():
     for row in rows:
         print("| " + " | ".join(row) + " |")
     sys.exit(status)
-
-
-if __name__ == "__main__":
-    main()

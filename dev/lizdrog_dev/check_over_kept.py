@@ -1,7 +1,6 @@
-#!/usr/bin/env python3
 """Checks one crate over what this machine has proved before, without proving the crates below it.
 
-    tools/check_over_kept.py CRATE [--built CLONE] [--sources CRATE,..] [FLAG..]
+    dev/check_over_kept.py CRATE [--built CLONE] [--sources CRATE,..] [FLAG..]
 
 The crates below come as built libraries where `rt ci` kept them (the newest of each that has these contracts and proofs, where
 there is one, as other clones' proofs are kept there too) or where they stand in the `out/` of
@@ -19,14 +18,15 @@ import pathlib
 import shutil
 import sys
 
-ROOT = pathlib.Path(__file__).resolve().parent.parent
+from lizdrog_tools.places import TOP
+
 KEPT = pathlib.Path("/opt/rattle-kept")
 
 
 def crates():
     """What each crate uses, as crates.txt has it."""
     uses = {}
-    for line in (ROOT / "crates.txt").read_text().splitlines():
+    for line in (TOP / "crates.txt").read_text().splitlines():
         line = line.split("#")[0].strip()
         if line:
             name, below = line.split(":")
@@ -67,7 +67,7 @@ def newest_kept(name):
     """The folder of the newest proof of a crate that `rt ci` kept, of these contracts and proofs where there is one; none where there is none."""
     folders = [f for f in KEPT.glob("proof-" + name + "-*") if f.name[6:].rsplit("-", 1)[0] == name and (f / "made.json").is_file()]
     folders.sort(key=lambda f: (f / "made.json").stat().st_ctime, reverse=True)
-    alike = (f for f in folders if len(folders) > 1 and is_of(f, ROOT / "crates" / name, name))
+    alike = (f for f in folders if len(folders) > 1 and is_of(f, TOP / "crates" / name, name))
     return next(alike, folders[0] if folders else None)
 
 
@@ -112,7 +112,7 @@ def words_of(kit, uses, name, kept):
             words += ["--extern", f"{crate}={kept[crate]}/{crate}.rlib", "-L", f"dependency={kept[crate]}"]
         else:
             uses_all = dict.fromkeys(["core", *ported(crate), *[it for it in uses[crate] if it in uses]])
-            words += ["--lib", f"{crate}:{','.join(uses_all)}={ROOT}/crates/{crate}/src/lib.rt"]
+            words += ["--lib", f"{crate}:{','.join(uses_all)}={TOP}/crates/{crate}/src/lib.rt"]
     words += ["--antt-project", f"{kit}/rattle/logic/antt-project.json", "--logic-built", f"{kit}/logic_built"]
     return words + ["--jobs", "1", "--links", name + "="], sources
 
@@ -134,7 +134,7 @@ def main():
     kit = pathlib.Path(os.path.realpath(shutil.which("rt"))).parent.parent
     kept = {}
     for crate in below(uses, name):
-        to = ROOT / "out" / "kept_libraries" / crate
+        to = TOP / "out" / "kept_libraries" / crate
         if crate in as_sources:
             continue
         if clone and built_in(clone, crate):
@@ -143,11 +143,7 @@ def main():
             kept[crate] = to
     check, sources = words_of(kit, uses, name, kept)
     print("sources:", " ".join(sources) or "none", flush=True)
-    memory = ROOT / "out" / "kept_libraries" / ("memory-" + name)
+    memory = TOP / "out" / "kept_libraries" / ("memory-" + name)
     memory.mkdir(parents=True, exist_ok=True)
-    os.chdir(ROOT / "crates" / name)
+    os.chdir(TOP / "crates" / name)
     os.execv(kit / "bin" / "rattle", ["rattle", *check, *flags, "--incremental", str(memory), "--progress"])
-
-
-if __name__ == "__main__":
-    main()

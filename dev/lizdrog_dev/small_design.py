@@ -2,7 +2,6 @@
 and inverters, a clock without a port, registers of both edges and of two clocks, data from clock nets, exceptions, and questions about
 paths. A design has no more than MOST paths to an endpoint, so that they can be listed. Documents and a script are drawn by `write`.
 """
-import random
 
 MOST = 1500
 # each gate: its inputs, its sense and its late delays (rise, fall) at no load; the early library has some ps less, or more

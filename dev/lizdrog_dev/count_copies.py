@@ -1,13 +1,13 @@
-#!/usr/bin/env python3
 """Lists functions that stand to the letter in two or more crates: count_copies.py
 
 Contracts, comments and attributes are not compared, nor the layout; crates of tests and functions of one line are left out. A line for each says how many lines
 one copy would save, the function and the crates; the last line sums up. The status is always 0: docs/DECISIONS.md says which copies stand, and why."""
+import argparse
 import collections
-import pathlib
 import re
 
-TOP = pathlib.Path(__file__).resolve().parent.parent
+from lizdrog_tools.places import TOP
+
 TESTS = ("base_tests", "engine_tests", "reader_tests", "shell_tests")
 FUNCTION = re.compile(r"^([ ]*)(?:pub(?:\([a-z]+\))? )?(?:const )?fn (\w+).*?^\1\}$", re.M | re.S)
 ASIDE = re.compile(r"^\s*(?://|#\[|requires\b|ensures\b|decreases\b|ghost\b).*$", re.M)
@@ -23,6 +23,7 @@ def functions(text):
 
 
 def main():
+    argparse.ArgumentParser(description=__doc__, formatter_class=argparse.RawDescriptionHelpFormatter).parse_args()
     homes = collections.defaultdict(list)
     for file in sorted(TOP.glob("crates/*/src/**/*.rt")):
         crate = file.relative_to(TOP / "crates").parts[0]
@@ -34,7 +35,3 @@ def main():
     for key in sorted(copied, key=lambda it: (-saved[it], it)):
         print(f"{saved[key]:4} {key[0]}: {', '.join(copied[key])}")
     print(f"{len(copied)} functions, {sum(len(at) - 1 for at in copied.values())} copies too many, {sum(saved.values())} lines")
-
-
-if __name__ == "__main__":
-    main()

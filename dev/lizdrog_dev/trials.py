@@ -14,8 +14,8 @@ import subprocess
 import sys
 import time
 
-HERE = pathlib.Path(__file__).resolve().parent
-TOP = HERE.parent
+from lizdrog_tools.places import TOP, BENCH
+
 PROGRAMS = [TOP / "crates/timing_shell/out/timing_shell", TOP / "out/quick_build/timing_shell"]
 
 TIME = rb"(?:-?[0-9]+\.[0-9]{3}|none)"
@@ -39,7 +39,7 @@ def compiled(name, folder):
     if not compiler:
         sys.exit(f"{pathlib.Path(sys.argv[0]).name} needs a C compiler (cc, gcc or clang)")
     library = (folder / name).with_suffix(".so")
-    subprocess.run([compiler, "-O2", "-shared", "-fPIC", "-o", library, HERE / name, "-ldl"], check=True)
+    subprocess.run([compiler, "-O2", "-shared", "-fPIC", "-o", library, BENCH / name, "-ldl"], check=True)
     return library
 
 
@@ -90,7 +90,7 @@ def find_program(given):
     for it in [pathlib.Path(given)] if given else PROGRAMS:
         if it.is_file() and os.access(it, os.X_OK):
             return it.resolve()
-    sys.exit("no program stands here: the gate builds it, and tools/quick_build.py builds one without proof")
+    sys.exit("no program stands here: the gate builds it, and dev/quick_build.py builds one without proof")
 
 
 def run(program, words, folder, seconds=60, env=None, limits=(), before=None, **how):

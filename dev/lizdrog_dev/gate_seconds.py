@@ -1,11 +1,10 @@
-#!/usr/bin/env python3
 """What the gate costs: processor seconds by crate, and by function.
 
-    tools/gate_seconds.py [--out FILE]             beside `rt ci` in this repository: samples the provers until none is left
+    dev/gate_seconds.py [--out FILE]             beside `rt ci` in this repository: samples the provers until none is left
                                                    for five minutes (or Ctrl-C), then prints the table; FILE keeps one line
                                                    for each check: crate, proof | tests | edit, processor s, wall s, MB
-    tools/gate_seconds.py --table FILE             prints the table of such a file again
-    tools/gate_seconds.py --functions CRATE..      proves these crates from nothing over the libraries below them (which
+    dev/gate_seconds.py --table FILE             prints the table of such a file again
+    dev/gate_seconds.py --functions CRATE..      proves these crates from nothing over the libraries below them (which
                                                    stand after `rt check` or `rt lib` there) and prints each function above
                                                    --above seconds (20), the sum, and what comes before the first function
 
@@ -20,7 +19,8 @@ import subprocess
 import sys
 import time
 
-TOP = os.path.dirname(os.path.dirname(os.path.realpath(__file__)))
+from lizdrog_tools.places import TOP
+
 TICK = os.sysconf("SC_CLK_TCK")
 
 
@@ -186,7 +186,3 @@ def main():
     if given.functions:
         sys.exit(0 if all([functions(name, given.above) for name in given.functions]) else 1)
     print_table(read(given.table) if given.table else watch(given.out, given.under))
-
-
-if __name__ == "__main__":
-    main()

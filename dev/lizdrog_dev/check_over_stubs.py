@@ -1,7 +1,6 @@
-#!/usr/bin/env python3
 """Checks one crate where nothing below it need be proved yet: the crates below are taken by their contracts, and their functions have no body.
 
-    tools/check_over_stubs.py CRATE [--sources CRATE,..] [--changed COMMIT] [--alone] [FLAG..]
+    dev/check_over_stubs.py CRATE [--sources CRATE,..] [--changed COMMIT] [--alone] [FLAG..]
 
 The crates below come as libraries that `rt ci` kept, where these have the contracts and proofs of this tree, and so have all below them; else
 as sources whose functions have a hole for their proof (functions that call each other in a ring, those of the language's own types, and such as give a closure or
@@ -16,11 +15,11 @@ import shutil
 import subprocess
 import sys
 
-import check_over_kept as over
-import try_edits as edits
+from lizdrog_dev import check_over_kept as over
+from lizdrog_dev import try_edits as edits
+from lizdrog_tools.places import TOP
 
-ROOT = over.ROOT
-OUT = ROOT / "out" / "stubs"
+OUT = TOP / "out" / "stubs"
 # Methods of the language's own types go by names that the checker gives them.
 OWN_TYPE = re.compile(r"(?:^|::)[a-z]\w*[A-Z]\w*::\w+$")
 
@@ -56,7 +55,7 @@ def write_stub(crate, own, to, but=()):
 
 def stub(crate):
     """The folder of a crate without bodies, written anew where the crate was changed since."""
-    own, to = ROOT / "crates" / crate, OUT / crate
+    own, to = TOP / "crates" / crate, OUT / crate
     mark = str(max(it.stat().st_mtime_ns for part in edits.PARTS for it in (own / part).rglob("*")))
     if not (to / "of").is_file() or (to / "of").read_text() != mark:
         write_stub(crate, own, to)
@@ -70,8 +69,8 @@ def kept_libraries(uses, name, as_sources):
     for crate in over.below(uses, name):
         found = over.newest_kept(crate)
         whole = all(it in kept for it in over.below(uses, crate))
-        if found and whole and crate not in as_sources and over.is_of(found, ROOT / "crates" / crate, crate):
-            to = ROOT / "out" / "kept_libraries" / crate
+        if found and whole and crate not in as_sources and over.is_of(found, TOP / "crates" / crate, crate):
+            to = TOP / "out" / "kept_libraries" / crate
             if over.library(crate, to):
                 kept[crate] = to
     return kept
@@ -90,11 +89,11 @@ def texts_of(text, file, homes):
 
 def changed(name, commit):
     """The functions of a crate that are new since a commit or have another text."""
-    own, found = ROOT / "crates" / name, []
+    own, found = TOP / "crates" / name, []
     homes = edits.homes_of(own)
     for file in sorted((own / "src").rglob("*.rt")):
         path = str(file.relative_to(own))
-        before = subprocess.run(["git", "show", f"{commit}:crates/{name}/{path}"], cwd=ROOT, capture_output=True, text=True, check=False).stdout
+        before = subprocess.run(["git", "show", f"{commit}:crates/{name}/{path}"], cwd=TOP, capture_output=True, text=True, check=False).stdout
         then = texts_of(before, path, homes)
         found += [it for it, text in texts_of(file.read_text(), path, homes).items() if then.get(it) != text]
     return found
@@ -132,17 +131,13 @@ def main():
     check, sources = over.words_of(kit, uses, name, kept_libraries(uses, name, as_sources))
     for crate in sources:
         folder = stub(crate)
-        check = [it.replace(f"={ROOT}/crates/{crate}/src/lib.rt", f"={folder}/src/lib.rt") for it in check]
+        check = [it.replace(f"={TOP}/crates/{crate}/src/lib.rt", f"={folder}/src/lib.rt") for it in check]
     print("without bodies:", " ".join(sources) or "none", flush=True)
-    memory = ROOT / "out" / "kept_libraries" / ("stubs-" + name)
+    memory = TOP / "out" / "kept_libraries" / ("stubs-" + name)
     memory.mkdir(parents=True, exist_ok=True)
-    own = ROOT / "crates" / name
+    own = TOP / "crates" / name
     if alone:
         write_stub(name, own, OUT / ("alone-" + name), named)
         own = OUT / ("alone-" + name)
     os.chdir(own)
     os.execv(kit / "bin" / "rattle", ["rattle", *check, *flags, "--allow-holes", "--incremental", str(memory), "--progress"])
-
-
-if __name__ == "__main__":
-    main()

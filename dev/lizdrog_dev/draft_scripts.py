@@ -1,6 +1,6 @@
 """Random scripts of drafts and advice for compare.py: tried edits of each kind, alone and in groups, of which many are refused, drops,
 plain questions about what is shown, and resizes to choose from. Some scripts have a fault."""
-import small_design
+from lizdrog_dev import small_design
 
 EDGES, KINDS, SPLITS = ["rise", "fall"], ["setup", "hold"], ["early", "late"]
 MOST = 10 ** 12

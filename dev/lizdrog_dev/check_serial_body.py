@@ -1,4 +1,3 @@
-#!/usr/bin/env python3
 """Shows that tests refuse bodies that the contracts let through, since those name no schedule: check_serial_body.py [--seconds N] [TITLE ..]
 
 The bodies: the sessions of a run follow each other, once the first script first, once the last; one thread evaluates a level, piece after
@@ -16,7 +15,8 @@ import subprocess
 import sys
 import tempfile
 
-TOP = pathlib.Path(__file__).resolve().parent.parent
+from lizdrog_tools.places import TOP
+
 SESSIONS = "crates/shell_session/src/sessions.rt"
 COMMANDS = "crates/session_engine/src/commands.rt"
 STEPS = "crates/session_engine/src/runs.rt"
@@ -112,7 +112,3 @@ def main():
             print(f"{title}: fail", [it for it, passed in told.items() if not passed], flush=True)
             good &= not any(told[test] for test in tests)
     return 0 if good and tried else 1
-
-
-if __name__ == "__main__":
-    sys.exit(main())

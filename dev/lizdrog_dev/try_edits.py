@@ -1,7 +1,6 @@
-#!/usr/bin/env python3
 """Tries the wrong bodies of crates on the functions that they change, over what this machine has proved before: try_edits.py CRATE..
 
-    tools/try_edits.py [--only WORD].. [--most N] [--seconds N] [--callees] [--proved] [--names FILE] [--log FOLDER] CRATE..
+    dev/try_edits.py [--only WORD].. [--most N] [--seconds N] [--callees] [--proved] [--names FILE] [--log FOLDER] CRATE..
 
 Each edit of bench/must-fail/CRATE and crates/CRATE/must-fail makes a body wrong, and the check has to refuse it. `rt must-fail` and bench/must_fail.sh prove a
 crate for that; this checks the changed functions alone, over the libraries that `rt ci` kept (as check_over_kept.py does). The functions of the crate
@@ -30,9 +29,9 @@ import sys
 import tempfile
 import time
 
-import check_over_kept as over
+from lizdrog_dev import check_over_kept as over
+from lizdrog_tools.places import TOP
 
-TOP = pathlib.Path(__file__).resolve().parent.parent
 PARTS = ("src", "specs", "proofs")
 CONSTANT = re.compile(r"^ *(?:pub(?:\([^)]*\))? )?const (\w+):")
 HEAD = re.compile(r"^(?P<room> *)(?:pub(?:\([^)]*\))? )?(?:const |unsafe )*fn (?P<name>\w+)", re.M)
@@ -456,7 +455,3 @@ def main():
         kinds = "refused", "refused by names", "PASSES", "does not compile", "not tried"
         print(f"edits of {crate}: {len(edits)}: " + ", ".join(f"{count(it)} {it}" for it in kinds if count(it)), flush=True)
     sys.exit(status)
-
-
-if __name__ == "__main__":
-    main()
