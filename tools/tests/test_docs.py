@@ -1,4 +1,5 @@
 """The documents: what they name is there."""
+import os
 import pathlib
 import re
 import unittest
@@ -44,6 +45,14 @@ class Documents(unittest.TestCase):
             for name in re.findall(r"`((?:docs|tools|bench|examples)/[\w./-]+|[A-Z]{4,}\.md)`", page.read_text()):
                 places = [common.TOP / name, DOCS / name, page.parent / name]
                 self.assertTrue(any(it.exists() for it in places), f"{page.name} names {name}")
+
+    def test_no_links(self):
+        """`rt ci` refuses the repository where a link is in it."""
+        links = []
+        for folder, folders, names in os.walk(common.TOP):
+            folders[:] = [it for it in folders if it not in (".git", "out")]
+            links += [f"{folder}/{it}" for it in [*folders, *names] if os.path.islink(f"{folder}/{it}")]
+        self.assertEqual(links, [])
 
     def test_definitions_of_the_index_are_there(self):
         for row in index_rows():
