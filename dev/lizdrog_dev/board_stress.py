@@ -1,15 +1,20 @@
 """Puts `version_board` under stress: board_stress.py [--calls N] [--seats K] [--rounds R] [--keep DIR] [--program FILE]
 
-K seats (default: 16, the most of a board), each in a thread of its own, make N calls of `take` and `publish` in all (default: 1,000,000), a take in
-three; R boards (1) one after the other. It builds the program board_stress.rt.txt over the crates `sta_units` and `version_board` as they
-stand, without proof and in the manner of dev/quick_build.py, in a folder of its own. Its history is checked here, by a clock that all seats read
-before and after each call:
-  - the last value has the entries 1, 2, 3 .. once each; of each seat they are those that it was told `Ok` for, in its order, and no others;
-  - `Ok` gives one more than the count that the value was made from, at a number of its own: a publication was over the newest count;
-  - each value that a seat was given is the beginning of the last one by its count (by a mark of all its entries), and no seat's counts fall;
-  - `Moved` comes with another count than the one that the value was made from, and with the value that was not published;
+K seats (default: 16, the most of a board), each in a thread of its own, make N calls of `take` and `publish` in all
+(default: 1,000,000), a take in three; R boards (1) one after the other. It builds the program board_stress.rt.txt over
+the crates `sta_units` and `version_board` as they stand, without proof and in the manner of dev/quick_build.py, in a
+folder of its own. Its history is checked here, by a clock that all seats read before and after each call:
+  - the last value has the entries 1, 2, 3 .. once each; of each seat they are those that it was told `Ok` for, in its
+    order, and no others;
+  - `Ok` gives one more than the count that the value was made from, at a number of its own: a publication was over the
+    newest count;
+  - each value that a seat was given is the beginning of the last one by its count (by a mark of all its entries), and
+    no seat's counts fall;
+  - `Moved` comes with another count than the one that the value was made from, and with the value that was not
+    published;
   - what ended before another call began stands no later: no call is given less than an earlier one was given or added.
-It prints one line with counts, and ends with 1 at the first thing amiss; the history is then kept in DIR (default: board-stress of the caller's folder).
+It prints one line with counts, and ends with 1 at the first thing amiss; the history is then kept in DIR (default:
+board-stress of the caller's folder).
 --program takes a program that was built before, --save FILE keeps the one that is built.
 """
 import argparse
@@ -49,8 +54,10 @@ def build(out):
         uses = (TOP / "crates.txt").read_text().splitlines()
         kept = [line for line in uses if line.split(":")[0] in CRATES]
         for name in CRATES:
-            shutil.copytree(TOP / "crates" / name, work / "repository/crates" / name, ignore=shutil.ignore_patterns("out", "must-fail"))
-        (work / "repository/crates.txt").write_text("".join(f"{line}\n" for line in [*kept, f"board_stress: {' '.join(CRATES)}"]))
+            shutil.copytree(TOP / "crates" / name, work / "repository/crates" / name,
+                            ignore=shutil.ignore_patterns("out", "must-fail"))
+        (work / "repository/crates.txt").write_text("".join(f"{line}\n"
+                                                            for line in [*kept, f"board_stress: {' '.join(CRATES)}"]))
         shutil.copy(TOP / "HANDLES", work / "repository/HANDLES")
         (work / "tools").mkdir()
         quick_build.compile_program(kit, source.parent, work / "tools", out, work / "log", lambda line: None)
@@ -153,7 +160,8 @@ def run_one(program, seats, each, keep):
     with tempfile.TemporaryDirectory() as folder:
         history, begun = pathlib.Path(folder, "history"), time.monotonic()
         with open(history, "wb") as out:
-            ran = subprocess.run([program, str(seats), str(each)], stdin=subprocess.DEVNULL, stdout=out, stderr=subprocess.PIPE, check=False)
+            ran = subprocess.run([program, str(seats), str(each)], stdin=subprocess.DEVNULL, stdout=out,
+                                 stderr=subprocess.PIPE, check=False)
         seconds = time.monotonic() - begun
         try:
             if ran.returncode or ran.stderr:
@@ -187,6 +195,7 @@ def main():
         for _ in range(given.rounds):
             kinds, beside, seats, took = run_one(program, given.seats, each, given.keep)
             total, overlaps, seconds = total + kinds, overlaps + beside, seconds + took
-    print(f"{sum(total.values())} calls of {seats} seats on {given.rounds} boards, {os.cpu_count()} processors, {seconds:.1f} s: {total['take']} takes, {total['published']} publications, "
-          f"{total['moved']} refused as moved; {overlaps} calls had others beside them; each history is that of one list that grew")
+    print(f"{sum(total.values())} calls of {seats} seats on {given.rounds} boards, {os.cpu_count()} processors, "
+          f"{seconds:.1f} s: {total['take']} takes, {total['published']} publications, {total['moved']} refused as "
+          f"moved; {overlaps} calls had others beside them; each history is that of one list that grew")
     return 0

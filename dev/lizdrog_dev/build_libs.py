@@ -2,10 +2,11 @@
 
     dev/build_libs.py [--at-once N] [--seconds FILE] [CRATE ..]
 
-CRATE: only these libraries and those below them. FILE (as dev/gate_seconds.py --out writes it) lets the longest chain in seconds go
-first; without it the lines of the crates count. It calls rt's own build of a library, one job each, and keeps what it proves in out/,
-where rt check, rt test and rt must-fail find it. A run that is stopped goes on from there. It takes the place of `rt check` in a top
-crate as the first command of the day: that one first reads all crates below as source, then builds them in turn.
+CRATE: only these libraries and those below them. FILE (as dev/gate_seconds.py --out writes it) lets the longest chain
+in seconds go first; without it the lines of the crates count. It calls rt's own build of a library, one job each, and
+keeps what it proves in out/, where rt check, rt test and rt must-fail find it. A run that is stopped goes on from
+there. It takes the place of `rt check` in a top crate as the first command of the day: that one first reads all crates
+below as source, then builds them in turn.
 """
 import argparse
 import importlib.machinery

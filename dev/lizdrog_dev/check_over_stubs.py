@@ -1,12 +1,16 @@
-"""Checks one crate where nothing below it need be proved yet: the crates below are taken by their contracts, and their functions have no body.
+"""Checks one crate where nothing below it need be proved yet: the crates below are taken by their contracts, and their
+functions have no body.
 
     dev/check_over_stubs.py CRATE [--sources CRATE,..] [--changed COMMIT] [--alone] [FLAG..]
 
-The crates below come as libraries that `rt ci` kept, where these have the contracts and proofs of this tree, and so have all below them; else
-as sources whose functions have a hole for their proof (functions that call each other in a ring, those of the language's own types, and such as give a closure or
-a constant keep theirs). --sources names those that are taken so in any case. FLAGs go to `rattle check`: `--only FUNCTION` (again for more), `--only ''` for the front end alone,
-`--fix-imports`. --changed names each function whose text is not that of the commit (others whose proofs see them are still to be named). With --alone the functions
-of the crate that no `--only` names have no body either, so that those that are named are done in a part of the time. A line of a function that `depends on a hole` in functions of the crates below alone is good; one with `did not prove` is not.
+The crates below come as libraries that `rt ci` kept, where these have the contracts and proofs of this tree, and so
+have all below them; else as sources whose functions have a hole for their proof (functions that call each other in a
+ring, those of the language's own types, and such as give a closure or a constant keep theirs). --sources names those
+that are taken so in any case. FLAGs go to `rattle check`: `--only FUNCTION` (again for more), `--only ''` for the front
+end alone, `--fix-imports`. --changed names each function whose text is not that of the commit (others whose proofs see
+them are still to be named). With --alone the functions of the crate that no `--only` names have no body either, so that
+those that are named are done in a part of the time. A line of a function that `depends on a hole` in functions of the
+crates below alone is good; one with `did not prove` is not.
 Nothing that this says counts as proved: that is for `rt ci`."""
 import os
 import pathlib
@@ -93,7 +97,8 @@ def changed(name, commit):
     homes = edits.homes_of(own)
     for file in sorted((own / "src").rglob("*.rt")):
         path = str(file.relative_to(own))
-        before = subprocess.run(["git", "show", f"{commit}:crates/{name}/{path}"], cwd=TOP, capture_output=True, text=True, check=False).stdout
+        before = subprocess.run(["git", "show", f"{commit}:crates/{name}/{path}"], cwd=TOP, capture_output=True,
+                                text=True, check=False).stdout
         then = texts_of(before, path, homes)
         found += [it for it, text in texts_of(file.read_text(), path, homes).items() if then.get(it) != text]
     return found
@@ -140,4 +145,5 @@ def main():
         write_stub(name, own, OUT / ("alone-" + name), named)
         own = OUT / ("alone-" + name)
     os.chdir(own)
-    os.execv(kit / "bin" / "rattle", ["rattle", *check, *flags, "--allow-holes", "--incremental", str(memory), "--progress"])
+    os.execv(kit / "bin" / "rattle", ["rattle", *check, *flags, "--allow-holes", "--incremental", str(memory),
+                                      "--progress"])

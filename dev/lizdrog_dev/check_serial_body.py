@@ -1,10 +1,12 @@
-"""Shows that tests refuse bodies that the contracts let through, since those name no schedule: check_serial_body.py [--seconds N] [TITLE ..]
+"""Shows that tests refuse bodies that the contracts let through, since those name no schedule: check_serial_body.py
+[--seconds N] [TITLE ..]
 
-The bodies: the sessions of a run follow each other, once the first script first, once the last; one thread evaluates a level, piece after
-piece; a session looks for its `await` when it has answered the command before. Tests of `shell_tests` and `base_tests` hold a thread at a
-point until another has come to one of its own. This tool copies the repository, and puts each body (those whose TITLE begins with the words
-that are named; default: all) into the copy. It builds and runs the tests without proof (`rt try`), each for at most N seconds (default 300).
-The status is 0 where the tests that are named for a body pass as they stand and fail with it; else 1. Others that fail are printed (`rt try` ends
+The bodies: the sessions of a run follow each other, once the first script first, once the last; one thread evaluates a
+level, piece after piece; a session looks for its `await` when it has answered the command before. Tests of
+`shell_tests` and `base_tests` hold a thread at a point until another has come to one of its own. This tool copies the
+repository, and puts each body (those whose TITLE begins with the words that are named; default: all) into the copy. It
+builds and runs the tests without proof (`rt try`), each for at most N seconds (default 300). The status is 0 where the
+tests that are named for a body pass as they stand and fail with it; else 1. Others that fail are printed (`rt try` ends
 a test that takes many steps).
 """
 import argparse
@@ -35,11 +37,11 @@ FIRST_LOOK = (
     "newest = look(rt, who, board, seat, newest, gate)?;",
     "if 0 < at {\n            newest = look(rt, who, board, seat, newest, gate)?;\n        }",
 )
-OPEN = ("/// One look at the newest version in place of the one that is held.\nfn look<", "/// One look.\npub(crate) fn look<")
-AHEAD = (
-    "                gate.at(Point::Answered {",
-    "                let held = crate::commands::look(rt, who, board, seat, held, gate)?;\n                gate.at(Point::Answered {",
-)
+OPEN = ("/// One look at the newest version in place of the one that is held.\nfn look<",
+        "/// One look.\npub(crate) fn look<")
+AHEAD = ("                gate.at(Point::Answered {",
+         "                let held = crate::commands::look(rt, who, board, seat, held, gate)?;\n                "
+         "gate.at(Point::Answered {",)
 
 
 def with_body(text, body):
@@ -61,7 +63,8 @@ def bodies():
         yield title, {SESSIONS: with_body((TOP / SESSIONS).read_text(), body)}, "shell_tests", GATES
     yield "a level by one thread", {LEVELS: changed((TOP / LEVELS).read_text(), *JOIN)}, "base_tests", ["gates_pieces"]
     waits = changed(changed((TOP / COMMANDS).read_text(), *FIRST_LOOK), *OPEN)
-    yield "looks ahead", {COMMANDS: waits, STEPS: changed((TOP / STEPS).read_text(), *AHEAD)}, "shell_tests", ["gates_looks"]
+    yield "looks ahead", {COMMANDS: waits, STEPS: changed((TOP / STEPS).read_text(),
+                                                          *AHEAD)}, "shell_tests", ["gates_looks"]
 
 
 def results(top, crate, seconds):
@@ -105,7 +108,8 @@ def main():
         copied(folder)
         for crate in dict.fromkeys(it[2] for it in tried):
             told = results(folder, crate, asked.seconds)
-            print(f"{crate} as it stands: {len(told)} tests, fail", [it for it, passed in told.items() if not passed], flush=True)
+            print(f"{crate} as it stands: {len(told)} tests, fail", [it for it, passed in told.items() if not passed],
+                  flush=True)
             good &= all(told.get(test) for it in tried if it[2] == crate for test in it[3])
         for title, sources, crate, tests in tried:
             told = with_sources(folder, sources, crate, asked.seconds)

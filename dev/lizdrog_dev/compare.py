@@ -1,18 +1,20 @@
-"""Compares a built program with the plain timer of reference_timer.py: bench/compare.py PROGRAM FIRST COUNT [SESSIONS | paths | drafts].
+"""Compares a built program with the plain timer of reference_timer.py: bench/compare.py PROGRAM FIRST COUNT [SESSIONS |
+paths | drafts].
 
 Each seed from FIRST on gives a random design of 25 to 1,200 cells, with or without parasitics, and a script of ten
 random ECOs with reports between; both outputs have to be the same, byte for byte. Where they differ, the documents and
 both outputs are kept in a folder compare-SEED of the caller's folder.
 
-With SESSIONS, 2 to 16, there are so many such scripts, each written for the design as it was read, so that some ECOs are
-refused for what another session did. The output is then checked by tools/check_sessions.py: each answer has to be the one
-that the program gives one session over the journal, and, but for refusals, the one that the plain timer gives.
+With SESSIONS, 2 to 16, there are so many such scripts, each written for the design as it was read, so that some ECOs
+are refused for what another session did. The output is then checked by tools/check_sessions.py: each answer has to be
+the one that the program gives one session over the journal, and, but for refusals, the one that the plain timer gives.
 
-With the word paths, designs are those of small_design.py, and one in five a random design of 25 to 300 cells; their scripts ask mostly for
-paths through pins and for the worst paths of endpoints.
+With the word paths, designs are those of small_design.py, and one in five a random design of 25 to 300 cells; their
+scripts ask mostly for paths through pins and for the worst paths of endpoints.
 
-With the word drafts, designs are those of small_design.py, and one in eight a random design of 25 to 120 cells; their scripts are those of
-draft_scripts.py: drafts, advice and ECOs, of which many are refused, and now and then a fault of the script. Of a refusal that may name
+With the word drafts, designs are those of small_design.py, and one in eight a random design of 25 to 120 cells; their
+scripts are those of draft_scripts.py: drafts, advice and ECOs, of which many are refused, and now and then a fault of
+the script. Of a refusal that may name
 one of several loops or overflows (E11, E16) the code alone has to be the same."""
 import pathlib, random, re, subprocess, sys, tempfile
 
@@ -27,7 +29,8 @@ from lizdrog_tools.places import BENCH
 
 NO_ANSWERS = {"no", "refused", "not_yet"}
 FREE = re.compile(r"(?m)^((?:\d+ \d+ )?refused E1[16]) .*$")
-SAME = [["INV_X1", "INV_X4", "BUF_X2", "BUF_X4", "CLKBUF_X8"], ["NAND2_X1", "NAND2_X2", "NOR2_X1", "XOR2_X1"], ["AOI21_X1", "OAI21_X1"]]
+SAME = [["INV_X1", "INV_X4", "BUF_X2", "BUF_X4", "CLKBUF_X8"], ["NAND2_X1", "NAND2_X2", "NOR2_X1", "XOR2_X1"],
+        ["AOI21_X1", "OAI21_X1"]]
 
 
 class Seeded:
@@ -38,7 +41,7 @@ class Seeded:
 
 def rc(r, net, driver, sinks):
     """New parasitics of a net: a lump, a star or a chain."""
-    words, before = ["set_parasitics", net], driver
+    words = ["set_parasitics", net]
     star = r.random() < 0.5
     if r.random() < 0.2:
         return " ".join(words + ["c", "#1", str(r.randrange(40000))])
@@ -62,7 +65,8 @@ def walk_to(r, end, sinks, driver):
     pins = [end]
     while (net := net_of.get(pins[0], pins[0])) in driver:
         out = driver[net]
-        inputs = sorted(pin for pin in net_of if pin.rpartition(":")[0] == out.rpartition(":")[0] and not pin.endswith(":D"))
+        inputs = sorted(pin for pin in net_of if pin.rpartition(":")[0] == out.rpartition(":")[0]
+                        and not pin.endswith(":D"))
         pins[:0] = [r.choice(inputs), out]
     return [net] + pins
 
@@ -80,9 +84,12 @@ def script(r, n, ports):
             kind = r.choice(["setup", "hold"])
             pin = r.choice([p for s in sinks.values() for p in s] + list(driver.values()))
             split, tran = r.choice(["early", "late"]), r.choice(["rise", "fall"])
-            asked = small_design.path_questions(r, lambda it: walk_to(r, it, sinks, driver), [end], list(driver.values()), 1)
-            lines.append(r.choice([*asked, *asked, f"report_path {end} {kind}", f"report_endpoint {end} {kind}", f"report_wns {kind}", f"report_tns {kind}",
-                f"report_worst {kind} {r.randrange(1, 20)}", f"report_slew {pin} {split} {tran}", f"report_at {pin} {split} {tran}"]))
+            asked = small_design.path_questions(r, lambda it: walk_to(r, it, sinks, driver), [end],
+                                                list(driver.values()), 1)
+            lines.append(r.choice([*asked, *asked, f"report_path {end} {kind}", f"report_endpoint {end} {kind}",
+                                   f"report_wns {kind}", f"report_tns {kind}",
+                                   f"report_worst {kind} {r.randrange(1, 20)}", f"report_slew {pin} {split} {tran}",
+                                   f"report_at {pin} {split} {tran}"]))
     reports(12)
     for k in range(10):
         c = r.random()
@@ -98,7 +105,8 @@ def script(r, n, ports):
                 lines.append(rc(r, net, driver[net], sinks[net]))
             else:
                 chosen = r.sample(sinks[net], r.randrange(1, len(sinks[net]) + 1))
-                cell = r.choice(["BUF_X2", "BUF_X4", "INV_X1"] if not net.startswith("clk") else ["BUF_X4", "CLKBUF_X8"])
+                cell = r.choice(["BUF_X2", "BUF_X4", "INV_X1"] if not net.startswith("clk")
+                                else ["BUF_X4", "CLKBUF_X8"])
                 group = r.random() < 0.5
                 if group:
                     lines.append("begin_eco")
@@ -132,7 +140,9 @@ def write_documents(d, r, n, blocks, count):
     n.write(d / "v", ports)
     (d / "l").write_text(design.HEAD + "".join(design.gate(g) for g in design.GATES) + design.register() + "}\n")
     sdc = design.constraints(blocks, r.choice([700, 1000, 1500, 2001, 3000]))
-    sdc = sdc.replace("-early 0.95", f"-early {r.choice(['0.9', '0.95', '1', '0.873'])}").replace("-late 1.05", f"-late {r.choice(['1', '1.05', '1.1337'])}")
+    sdc = sdc.replace("-early 0.95", f"-early {r.choice(['0.9', '0.95', '1', '0.873'])}").replace(
+        "-late 1.05", f"-late {r.choice(['1', '1.05', '1.1337'])}"
+    )
     (d / "c").write_text(sdc)
     names = ["s"] + [f"s{k}" for k in range(2, count + 1)]
     for name in names:
@@ -181,7 +191,8 @@ def beside(program, seed, count):
                     sessions.compare(runner(timer, words, d))
                 faults += sessions.faults
         rows = [row.sort for session in output.sessions for row in session] if not faults else []
-        print(seed, cells, words[5], f"DIFFERS: {faults[0]}" if faults else "same", got.returncode, f"{rows.count('accepted')} accepted, {rows.count('refused')} refused", flush=True)
+        print(seed, cells, words[5], f"DIFFERS: {faults[0]}" if faults else "same", got.returncode,
+              f"{rows.count('accepted')} accepted, {rows.count('refused')} refused", flush=True)
         if faults:
             keep(seed, d, {"faults": "\n".join(faults), "got": got.stdout + got.stderr})
         return not faults
@@ -197,7 +208,8 @@ def write_paths(d, r, seed):
     ends = [f"{name}:D" for cell, name, _ in n.instances if cell == "DFF_X1"] + ["result[0]"]
     others = [pin for pins in n.sinks.values() for pin in pins]
     asked = small_design.path_questions(r, lambda end: walk_to(r, end, n.sinks, driver), ends, others, 40)
-    (d / "s").write_text("".join(line + "\n" for line in asked[:20]) + (d / "s").read_text() + "".join(line + "\n" for line in asked[20:]))
+    (d / "s").write_text("".join(line + "\n" for line in asked[:20]) + (d / "s").read_text()
+                         + "".join(line + "\n" for line in asked[20:]))
     return words, cells
 
 
@@ -215,7 +227,8 @@ def write_drafts(d, r, seed):
         ends = [f"{name}:D" for cell, name, _ in n.instances if cell == "DFF_X1"] + ["result[0]"]
         joined = [(f"{name}:{pin}", net) for _, name, pins in n.instances for pin, net in pins]
         clocks = [net for net in n.sinks if net.startswith("cl")]
-        names = draft_scripts.Names(r, {name: cell for cell, name, _ in n.instances}, joined, n.sinks, driver, ends, clocks, SAME)
+        names = draft_scripts.Names(r, {name: cell for cell, name, _ in n.instances}, joined, n.sinks, driver, ends,
+                                    clocks, SAME)
         lines = draft_scripts.tried(r, (d / "s").read_text().split("\n")[:-1], names)
     (d / "s").write_text("".join(line + "\n" for line in lines))
     return words, cells

@@ -1,4 +1,5 @@
-"""Random scripts of drafts and advice for compare.py: tried edits of each kind, alone and in groups, of which many are refused, drops,
+"""Random scripts of drafts and advice for compare.py: tried edits of each kind, alone and in groups, of which many are
+refused, drops,
 plain questions about what is shown, and resizes to choose from. Some scripts have a fault."""
 from lizdrog_dev import small_design
 
@@ -10,8 +11,17 @@ class Names:
     """What the documents of a design name, and what edits may have made: lists to draw from."""
 
     def __init__(self, rand, cells, connections, sinks, driver, endpoints, clocks, same):
-        self.rand, self.cells, self.sinks, self.driver, self.ends, self.clocks = rand, dict(cells), sinks, driver, endpoints, clocks
-        self.same, self.types, self.connections, self.made = same, sorted({*cells.values(), *(it for like in same for it in like)}), connections, 0
+        self.rand, self.cells, self.sinks, self.driver, self.ends, self.clocks = (
+            rand,
+            dict(cells),
+            sinks,
+            driver,
+            endpoints,
+            clocks,
+        )
+        self.same, self.types, self.connections, self.made = same, sorted({*cells.values(),
+                                                                           *(it for like in same
+                                                                             for it in like)}), connections, 0
         self.pins = [pin for pins in sinks.values() for pin in pins] + list(driver.values())
         self.nets = [net for net, pins in sinks.items() if pins and net in driver]
 
@@ -49,7 +59,9 @@ class Names:
         return self.rand.choice(like[0] if like and drawn < 0.85 else self.types)
 
     def buffer(self):
-        return self.rand.choice([same for same in self.same if any("BUF" in it for it in same)][0]) if self.rand.random() < 0.93 else self.cell("zz")
+        return self.rand.choice([same for same in self.same
+                                 if any("BUF" in it
+                                        for it in same)][0]) if self.rand.random() < 0.93 else self.cell("zz")
 
 
 # ---------------------------------------------------------------------------------------------- edits
@@ -75,7 +87,8 @@ def parasitics(rand, names):
     """A star or a chain of resistors, a lump or none; some are no tree, lack a pin or are too large."""
     net = names.net()
     if rand.random() < 0.15:
-        return [f"set_parasitics {net} {rand.choice(['none', f'c #1 {rand.randrange(40000)}', f'c #2 {MOST} c #3 {MOST}'])}"]
+        return [f"set_parasitics {net} "
+                f"{rand.choice(['none', f'c #1 {rand.randrange(40000)}', f'c #2 {MOST} c #3 {MOST}'])}"]
     at, items = names.driver.get(net, "zz:Z"), []
     star = rand.random() < 0.5
     for place, sink in enumerate(names.sinks.get(net) or [names.pin()]):
@@ -85,7 +98,8 @@ def parasitics(rand, names):
             items.append(f"c {sink} {rand.randrange(15000) if rand.random() < 0.97 else MOST}")
         at = at if star else sink
         if rand.random() < 0.04:
-            items.append(rand.choice([f"r {at} #{place} 5000", f"r {sink} {sink} 1", f"c {names.pin()} 700", f"r #{place} #9 100"]))
+            items.append(rand.choice([f"r {at} #{place} 5000", f"r {sink} {sink} 1", f"c {names.pin()} 700",
+                                      f"r #{place} #9 100"]))
     rand.shuffle(items)
     return [f"set_parasitics {net} {' '.join(items)}"] if items else [f"set_parasitics {net} none"]
 
@@ -102,14 +116,16 @@ def move(rand, names):
 def single(rand, names):
     made = rand.randrange(6)
     inst, net = rand.choice([f"new{made}", names.instance()]), rand.choice([f"fresh{made}", names.net()])
-    return [rand.choice([f"insert_gate {inst} {names.cell(inst)}", f"insert_net {net}", f"remove_gate {inst}", f"remove_net {net}",
-                         f"connect_pin new{made}:{rand.choice('AZY')} {names.net()}", f"connect_pin {names.pin()} fresh{made}"])]
+    return [rand.choice([f"insert_gate {inst} {names.cell(inst)}", f"insert_net {net}", f"remove_gate {inst}",
+                         f"remove_net {net}", f"connect_pin new{made}:{rand.choice('AZY')} {names.net()}",
+                         f"connect_pin {names.pin()} fresh{made}"])]
 
 
 def removal(rand, names):
     """An instance leaves all its nets and goes, now and then one that an exception names."""
     inst = rand.choice(list(names.cells) + [pin.rsplit(":", 1)[0] for pin in names.ends if ":" in pin] * 3)
-    return [f"disconnect_pin {pin}" for pin, _ in names.connections if pin.startswith(inst + ":")] + [f"remove_gate {inst}"]
+    return [f"disconnect_pin {pin}" for pin, _ in names.connections
+            if pin.startswith(inst + ":")] + [f"remove_gate {inst}"]
 
 
 def gate_before(rand, names):
@@ -121,13 +137,16 @@ def gate_before(rand, names):
     cell = rand.choice([it for it in names.types if it.startswith(("AND", "NAND", "XOR"))])
     other = rand.choice([rand.choice(names.clocks), names.net()])
     out = "Z" if cell[-2] == "_" else "Y"
-    return [f"insert_gate new{made} {cell}", f"insert_net fresh{made}", f"connect_pin new{made}:A {net}", f"connect_pin new{made}:B {other}",
-            f"connect_pin new{made}:{out} fresh{made}", f"disconnect_pin {pin}", f"connect_pin {pin} fresh{made}"]
+    return [f"insert_gate new{made} {cell}", f"insert_net fresh{made}", f"connect_pin new{made}:A {net}",
+            f"connect_pin new{made}:B {other}", f"connect_pin new{made}:{out} fresh{made}", f"disconnect_pin {pin}",
+            f"connect_pin {pin} fresh{made}"]
 
 
 def edits(rand, names):
     """The edits of an ECO, one or some."""
-    kinds = [repower] * 18 + [parasitics] * 10 + [buffer] * 8 + [move] * 6 + [single] * 4 + [removal] + [gate_before] * 2
+    kinds = (
+        [repower] * 18 + [parasitics] * 10 + [buffer] * 8 + [move] * 6 + [single] * 4 + [removal] + [gate_before] * 2
+    )
     found = rand.choice(kinds)(rand, names)
     while rand.random() < 0.2:
         found += rand.choice(kinds)(rand, names)
@@ -139,13 +158,15 @@ def eco(rand, names):
     return found if len(found) == 1 and rand.random() < 0.8 else ["begin_eco", *found, "commit_eco"]
 
 
-# ---------------------------------------------------------------------------------------------- questions, drafts, advice
+# -------------------------------------------------------------------------------- questions, drafts, advice
 
 def question(rand, names):
     end = rand.choice(names.ends) if rand.random() < 0.95 else names.pin()
     kind, node = rand.choice(KINDS), f"{rand.choice([names.pin(), end])} {rand.choice(SPLITS)} {rand.choice(EDGES)}"
-    return rand.choice([f"report_{it} {node}" for it in ("slew", "at", "rat", "slack")] + [f"report_wns {kind}", f"report_tns {kind}"]
-                       + [f"report_endpoint {end} {kind}", f"report_path {end} {kind}"] * 2 + [f"report_worst {kind} {rand.choice([1, 3, 100])}"])
+    return rand.choice([f"report_{it} {node}" for it in ("slew", "at", "rat", "slack")]
+                       + [f"report_wns {kind}", f"report_tns {kind}"] + [f"report_endpoint {end} {kind}",
+                                                                         f"report_path {end} {kind}"] * 2
+                       + [f"report_worst {kind} {rand.choice([1, 3, 100])}"])
 
 
 def draft(rand, names):
@@ -174,9 +195,11 @@ def damaged(rand, lines):
     elif drawn < 0.35:
         lines[at:at] = ["begin_what_if", *["drop_last"] * rand.choice([99, 100, 101]), "end_what_if"]
     else:
-        lines.insert(at, rand.choice(["begin_what_if", "end_what_if", "drop_last", "begin_eco", "commit_eco", "take", "report_paths x setup 1",
-                                      "report_through x setup x", "advise setup", "advise setup zz", "advise late zz BUF_A", "what_if 1", "drop_last 1",
-                                      "advise setup" + " zz NOCELL" * 101, "advise hold" + " zz NOCELL" * 100, "begin_what_if 2"]))
+        lines.insert(at, rand.choice(["begin_what_if", "end_what_if", "drop_last", "begin_eco", "commit_eco", "take",
+                                      "report_paths x setup 1", "report_through x setup x", "advise setup",
+                                      "advise setup zz", "advise late zz BUF_A", "what_if 1", "drop_last 1",
+                                      "advise setup" + " zz NOCELL" * 101, "advise hold" + " zz NOCELL" * 100,
+                                      "begin_what_if 2"]))
     return lines
 
 
@@ -185,7 +208,15 @@ def script(rand, names, count=12):
     lines = []
     for _ in range(count):
         drawn = rand.random()
-        lines += draft(rand, names) if drawn < 0.5 else advice(rand, names) if drawn < 0.75 else eco(rand, names) if drawn < 0.9 else [question(rand, names)]
+        lines += (
+            draft(rand, names)
+            if drawn < 0.5
+            else advice(rand, names)
+            if drawn < 0.75
+            else eco(rand, names)
+            if drawn < 0.9
+            else [question(rand, names)]
+        )
     return damaged(rand, lines) if rand.random() < 0.08 else lines
 
 

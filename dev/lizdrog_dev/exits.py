@@ -1,15 +1,19 @@
-"""Lists functions that are likely dear to prove: those that drop much, where they leave early, at their end, or in an arm.
+"""Lists functions that are likely dear to prove: those that drop much, where they leave early, at their end, or in an
+arm.
 
     dev/exits.py [--top N] [CRATE ..]
-    dev/exits.py --changed COMMIT [CRATE ..]     each function that is new since a commit or has another text, with all its drops
+    dev/exits.py --changed COMMIT [CRATE ..]     each function that is new since a commit or has another text, with all
+                                                 its drops
 
 It counts three sorts of drops, as far as the text tells:
-- at an early exit (`?`, `return Err`), each owned value that is still there: parameters by value, and `let`s that own memory;
+- at an early exit (`?`, `return Err`), each owned value that is still there: parameters by value, and `let`s that own
+  memory;
 - at the end of a block or of the function, each owned value that nobody took;
-- in an arm `Err(_)`, or `_` beside an arm `Ok(..)`, the error that nobody names: that of a refused allocation (AllocFailed) has the
+- in an arm `Err(_)`, or `_` beside an arm `Ok(..)`, the error that nobody names: that of a refused allocation
+  (AllocFailed) has the
   value in it that was to be stored.
-The prover walks through each drop with the whole type of what is dropped: 0 costs nothing, 20 and more cost minutes where the types
-are deep. All of this is guessed from the text alone.
+The prover walks through each drop with the whole type of what is dropped: 0 costs nothing, 20 and more cost minutes
+where the types are deep. All of this is guessed from the text alone.
 """
 import argparse
 import dataclasses
@@ -19,8 +23,10 @@ import subprocess
 
 from lizdrog_tools.places import CRATES, TOP
 
-PLAIN = re.compile(r"^(&|[ui](8|16|32|64|size)|bool|char|Global|Fs|Af|Mo|Kind|Split|Tran|Dir|Code|Style|Sort|Option<(u32|u64|usize|Fs|Af|bool|&)"
-                   r"|\(\)|Memory|H$|\[u8)")
+PLAIN = re.compile(
+    r"^(&|[ui](8|16|32|64|size)|bool|char|Global|Fs|Af|Mo|Kind|Split|Tran|Dir|Code|Style|Sort"
+    r"|Option<(u32|u64|usize|Fs|Af|bool|&)|\(\)|Memory|H$|\[u8)"
+)
 FUNCTION = re.compile(r"\bfn (\w+)\s*(?:<[^{;]*?>)?\(")
 # A body is the first block whose brace ends a line and is no clause's.
 BODY = re.compile(r"(?:^|\n)( *)\{\n|\{\n")
@@ -42,7 +48,8 @@ def end_of(text: str, at: int, opening: str, ending: str) -> int:
 
 
 def functions_of(text: str):
-    """The name of each function of a source with the text of its parameters, that of its body, and the line on which this begins."""
+    """The name of each function of a source with the text of its parameters, that of its body, and the line on which
+    this begins."""
     text = re.sub(r"//[^\n]*", "", text).split("#[cfg(test)]")[0]
     for head in FUNCTION.finditer(text):
         end = end_of(text, head.end(), "(", ")")
@@ -82,7 +89,8 @@ def made_by(statement: str) -> list[str]:
 
 @dataclasses.dataclass
 class Drops:
-    """What a function drops: how much at how many early exits, which values at ends, and the arms in which an error goes unnamed."""
+    """What a function drops: how much at how many early exits, which values at ends, and the arms in which an error
+    goes unnamed."""
 
     name: str
     exits: int = 0
@@ -149,8 +157,10 @@ def drops_of(name: str, parameters: str, body: str, first: int) -> Drops:
 
 
 def texts_at(commit: str, file: pathlib.Path) -> set[tuple[str, str, str]]:
-    """The functions of a file as a commit has them, each with its parameters and its body; none where it has no such file."""
-    ran = subprocess.run(["git", "show", f"{commit}:{file.relative_to(TOP)}"], cwd=TOP, capture_output=True, text=True, check=False)
+    """The functions of a file as a commit has them, each with its parameters and its body; none where it has no such
+    file."""
+    ran = subprocess.run(["git", "show", f"{commit}:{file.relative_to(TOP)}"], cwd=TOP, capture_output=True, text=True,
+                         check=False)
     return {(name, parameters, body) for name, parameters, body, _ in functions_of(ran.stdout)}
 
 

@@ -2,12 +2,13 @@
 
     dev/fn_seconds.py CRATE [--only PATH].. [--test] [--top N] [--libs FOLDER] [--src FOLDER] [--log FILE] [-- FLAG ..]
 
-The crates below have to be built (rt check, or a gate, leaves crates/*/out/rlib), or FOLDER of --libs has NAME.rlib of each. --src
-FOLDER is a changed copy of the crate. FLAGs go to `rattle check`, which runs with `--jobs 1 --progress --stage-times` and no kept work.
-The tool reads the process's own clock at each line `checked F, K of N`, and prints the stages, the part before the first function,
-the sum by kind (derived impls, closures, written functions), and the dearest functions. Wall time does not enter, so other work on the
-machine hardly matters. The prover may be in a caller's walk before it ends with a callee: a small function with many seconds mostly
-carries those of the function that calls it. module_seconds.py over a check that keeps its work tells them apart.
+The crates below have to be built (rt check, or a gate, leaves crates/*/out/rlib), or FOLDER of --libs has NAME.rlib of
+each. --src FOLDER is a changed copy of the crate. FLAGs go to `rattle check`, which runs with `--jobs 1 --progress
+--stage-times` and no kept work. The tool reads the process's own clock at each line `checked F, K of N`, and prints the
+stages, the part before the first function, the sum by kind (derived impls, closures, written functions), and the
+dearest functions. Wall time does not enter, so other work on the machine hardly matters. The prover may be in a
+caller's walk before it ends with a callee: a small function with many seconds mostly carries those of the function that
+calls it. module_seconds.py over a check that keeps its work tells them apart.
 """
 import argparse
 import collections
@@ -73,7 +74,8 @@ def words_of(name: str, folder: pathlib.Path, kit: pathlib.Path, libs: str | Non
 
 @dataclasses.dataclass
 class Proof:
-    """What a check cost: its seconds of a processor, those of each function in order, its memory, status and last words."""
+    """What a check cost: its seconds of a processor, those of each function in order, its memory, status and last
+    words."""
 
     seconds: float
     functions: list[tuple[float, str]]
@@ -86,8 +88,8 @@ class Proof:
 def measure(words: list[str], folder: pathlib.Path, log: pathlib.Path) -> Proof:
     """Runs a check and reads its clock after each function."""
     began, last, spent, functions, verdict = time.monotonic(), 0.0, 0.0, [], ""
-    ran = subprocess.Popen(words, cwd=folder, stdin=subprocess.DEVNULL, stdout=subprocess.PIPE, stderr=subprocess.STDOUT, text=True,
-                           errors="replace")
+    ran = subprocess.Popen(words, cwd=folder, stdin=subprocess.DEVNULL, stdout=subprocess.PIPE,
+                           stderr=subprocess.STDOUT, text=True, errors="replace")
     with open(log, "w", encoding="utf-8") as out:
         for line in ran.stdout:
             spent = processor_seconds(ran.pid) or spent
@@ -100,7 +102,8 @@ def measure(words: list[str], folder: pathlib.Path, log: pathlib.Path) -> Proof:
                 last = spent
     _, status, used = os.wait4(ran.pid, 0)
     ran.returncode = os.waitstatus_to_exitcode(status)
-    return Proof(used.ru_utime + used.ru_stime, functions, time.monotonic() - began, used.ru_maxrss // 1024, ran.returncode, verdict)
+    return Proof(used.ru_utime + used.ru_stime, functions, time.monotonic() - began, used.ru_maxrss // 1024,
+                 ran.returncode, verdict)
 
 
 def kind_of(function: str) -> str:
@@ -157,7 +160,8 @@ def main():
     log = given.log or pathlib.Path(tempfile.gettempdir(), f"fn_seconds-{given.crate}.log")
     with tempfile.TemporaryDirectory() as name:
         stages = pathlib.Path(name, "stages")
-        words = [f"{kit}/bin/rattle", "check", *words_of(given.crate, folder, kit, given.libs), "--stage-times", str(stages)]
+        words = [f"{kit}/bin/rattle", "check", *words_of(given.crate, folder, kit, given.libs), "--stage-times",
+                 str(stages)]
         only = [word for it in given.only for word in ("--only", it)]
         proof = measure([*words, *only, *["--test"] * given.test, *flags], folder, log)
         print(f"{given.crate}: {proof.seconds:.1f} processor s, {proof.wall:.0f} s wall, {proof.megabytes} MB; "

@@ -1,19 +1,24 @@
 """What the gate costs: processor seconds by crate, by proof, tests and edits, and the longest chain of crates.
 
-    dev/gate_seconds.py [--out FILE] [--under FOLDER]   beside `rt ci` in this repository (`.ci/run` starts it so): samples the provers
-                                                        until it is ended (SIGTERM, Ctrl-C) or saw none for five minutes, then prints
-                                                        the summary; FILE has a line for each check: crate, proof | tests | edit,
-                                                        processor s, wall s, MB, when it was first and last seen
+    dev/gate_seconds.py [--out FILE] [--under FOLDER]   beside `rt ci` in this repository (`.ci/run` starts it so):
+                                                        samples the provers
+                                                        until it is ended (SIGTERM, Ctrl-C) or saw none for five
+                                                        minutes, then prints the summary; FILE has a line for each
+                                                        check: crate, proof | tests | edit, processor s, wall s, MB,
+                                                        when it was first and last seen
     dev/gate_seconds.py --table FILE                    prints the summary of such a file again
-    dev/gate_seconds.py --functions CRATE..             proves these crates from nothing over the built libraries below them (which are
-                                                        there after `rt check` or `rt lib`), and prints each function above --above
-                                                        seconds (20), the sum, and what comes before the first function
+    dev/gate_seconds.py --functions CRATE..             proves these crates from nothing over the built libraries below
+                                                        them (which are
+                                                        there after `rt check` or `rt lib`), and prints each function
+                                                        above --above seconds (20), the sum, and what comes before the
+                                                        first function
 
-The summary is a table for a page, and below it what is dearer than it shall be: a crate whose proof takes more than its budget (150 s;
-readers 250 s, crates of tests and of rows 300 s), and a function above 8 s, where --log names logs that tell it, as fn_seconds.py
-writes them. A check's seconds are its own process's clock, so other work on the machine hardly matters. The prover may be in a
-caller's walk before it ends with a callee: a small function with many seconds mostly carries those of its caller. --under is for checks
-of copies of the repository, as /tmp/rt-copy- for those of `rt ci CRATE`.
+The summary is a table for a page, and below it what is dearer than it shall be: a crate whose proof takes more than its
+budget (150 s; readers 250 s, crates of tests and of rows 300 s), and a function above 8 s, where --log names logs that
+tell it, as fn_seconds.py writes them. A check's seconds are its own process's clock, so other work on the machine
+hardly matters. The prover may be in a caller's walk before it ends with a callee: a small function with many seconds
+mostly carries those of its caller. --under is for checks of copies of the repository, as /tmp/rt-copy- for those of `rt
+ci CRATE`.
 """
 import argparse
 import collections
@@ -52,7 +57,8 @@ class Check:
     def line(self) -> str:
         """The check as a line of a file."""
         first, last = (time.strftime("%H:%M:%S", time.localtime(it)) for it in (self.first, self.last))
-        return f"{self.crate}\t{self.kind}\t{self.seconds:.1f}\t{self.last - self.first:.0f}\t{self.megabytes}\t{first}\t{last}\n"
+        cells = [self.crate, self.kind, f"{self.seconds:.1f}", f"{self.last - self.first:.0f}", str(self.megabytes)]
+        return "\t".join([*cells, first, last]) + "\n"
 
 
 # ------------------------------------------------------------------------------------------------ watching
@@ -167,7 +173,8 @@ def budget_of(crate: str) -> int:
 
 
 def functions_of_logs(logs: list[str]) -> list[tuple[float, str]]:
-    """The seconds of each function that a log tells, the dearest first; the first of a crate carries the front end, and is left out."""
+    """The seconds of each function that a log tells, the dearest first; the first of a crate carries the front end, and
+    is left out."""
     found = []
     for log in logs:
         last = None
@@ -185,14 +192,16 @@ def summary(checks: list[Check], logs: list[str] = ()) -> list[str]:
     sums = sums_of(checks)
     lines = ["| Crate | Proof | Tests | Edits | Sum |", "|---|---|---|---|---|"]
     for crate, by in sorted(sums.items(), key=lambda it: -sum(it[1].values())):
-        lines.append(f"| `{crate}` | " + " | ".join(f"{by[kind]:.0f}" for kind in KINDS) + f" | {sum(by.values()):.0f} |")
+        lines.append(f"| `{crate}` | " + " | ".join(f"{by[kind]:.0f}" for kind in KINDS)
+                     + f" | {sum(by.values()):.0f} |")
     totals = [sum(by[kind] for by in sums.values()) for kind in KINDS]
     lines.append("| all | " + " | ".join(f"{it:.0f}" for it in totals) + f" | {sum(totals):.0f} |")
     proofs = {crate: by["proof"] for crate, by in sums.items()}
     seconds, chain = longest_chain(proofs, uses_of_crates())
     proved = [it for it in chain if proofs.get(it)]
-    lines += ["", f"Processor seconds; in all {sum(totals) / 60:.0f} minutes, {max((it.megabytes for it in checks), default=0)} MB at most "
-              "for one check.", f"Longest chain: {seconds:.0f} s: {', '.join(proved) or 'none'}."]
+    lines += ["", f"Processor seconds; in all {sum(totals) / 60:.0f} minutes, "
+              f"{max((it.megabytes for it in checks), default=0)} MB at most for one check.",
+              f"Longest chain: {seconds:.0f} s: {', '.join(proved) or 'none'}."]
     for crate, spent in sorted(proofs.items(), key=lambda it: -it[1]):
         if spent > budget_of(crate):
             lines.append(f"warning: the proof of {crate} takes {spent:.0f} s, and its budget is {budget_of(crate)} s")
@@ -211,8 +220,8 @@ def functions(crate: str, above: float) -> bool:
     log = pathlib.Path(tempfile.gettempdir(), f"gate_seconds-{crate}.log")
     proof = fn_seconds.measure([f"{kit}/bin/rattle", "check", *fn_seconds.words_of(crate, folder, kit)], folder, log)
     first = proof.functions[0][0] if proof.functions else proof.seconds
-    print(f"{crate}: {proof.seconds:.0f} processor s, {len(proof.functions)} functions, {first:.0f} s before the first ended, "
-          f"status {proof.status}; the log is {log}")
+    print(f"{crate}: {proof.seconds:.0f} processor s, {len(proof.functions)} functions, {first:.0f} s before the "
+          f"first ended, status {proof.status}; the log is {log}")
     for seconds, function in sorted(proof.functions[1:], reverse=True):
         if seconds >= above:
             print(f"{seconds:8.1f}  {function}")

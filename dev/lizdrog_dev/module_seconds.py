@@ -2,9 +2,9 @@
 
     dev/module_seconds.py CRATE [WORD] [--top N] [--since MINUTES]       after `rt check --only F` in crates/CRATE
 
-WORD takes only modules with it in their name. F.Lts is the walk through the code with its drops (early exits beside owned values),
-F.Proof the goals and their searches, F.Answers the written terms, F.Tie and F.Code the code itself. Gaps are wall time of one job:
-run nothing else beside it, and check with `--jobs 1`.
+WORD takes only modules with it in their name. F.Lts is the walk through the code with its drops (early exits beside
+owned values), F.Proof the goals and their searches, F.Answers the written terms, F.Tie and F.Code the code itself. Gaps
+are wall time of one job: run nothing else beside it, and check with `--jobs 1`.
 """
 import argparse
 import os
@@ -24,7 +24,9 @@ def main():
     if not folder.is_dir():
         parser.error(f"no check of {given.crate} was kept in {folder}")
     stats = [(os.stat(f"{at}/{it}"), it) for at, _, files in os.walk(folder) for it in files]
-    found = sorted((it.st_mtime, it.st_size // 1024, name) for it, name in stats if time.time() - it.st_mtime < 60 * given.since)
-    gaps = [(after[0] - before[0], after[1], after[2]) for before, after in zip(found, found[1:]) if given.word in after[2]]
+    found = sorted((it.st_mtime, it.st_size // 1024, name) for it, name in stats
+                   if time.time() - it.st_mtime < 60 * given.since)
+    gaps = [(after[0] - before[0], after[1], after[2]) for before, after in zip(found, found[1:])
+            if given.word in after[2]]
     for gap, size, name in sorted(gaps, reverse=True)[:given.top]:
         print(f"{gap:7.1f} s {size:6d} K  {name.removesuffix('.oantt').removesuffix('.decls')}")

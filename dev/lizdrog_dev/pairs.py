@@ -1,11 +1,12 @@
-"""Times whole runs of one program, or of two beside each other, in pairs: pairs.py PROGRAM [PROGRAM] [--cells N] [--pairs P] [--workers W ..]
+"""Times whole runs of one program, or of two beside each other, in pairs: pairs.py PROGRAM [PROGRAM] [--cells N]
+[--pairs P] [--workers W ..]
 
-A design of N cells (default: 50000) is made by bench/design.py with parasitics by bench/spef.py. Each script of design.py that makes no
-ECO (load: nothing is asked; first: the worst slack; reports: more of them) runs with each number of workers (default: 1 and 4) and each
-program P times (default: 9), the programs in turn and the one or the other first. It prints a line for each: the median and the
-range of the seconds, the median of the seconds of all processors, the peak memory; with two programs also the median and the range of
-the second's seconds as a part of the first's in the same pair. The outputs of both have to be the same. Where other programs run, the
-numbers say little.
+A design of N cells (default: 50000) is made by bench/design.py with parasitics by bench/spef.py. Each script of
+design.py that makes no ECO (load: nothing is asked; first: the worst slack; reports: more of them) runs with each
+number of workers (default: 1 and 4) and each program P times (default: 9), the programs in turn and the one or the
+other first. It prints a line for each: the median and the range of the seconds, the median of the seconds of all
+processors, the peak memory; with two programs also the median and the range of the second's seconds as a part of the
+first's in the same pair. The outputs of both have to be the same. Where other programs run, the numbers say little.
 """
 import argparse
 import os
@@ -25,12 +26,14 @@ def made(folder, cells):
     """A design of so many cells with its parasitics and scripts in a folder."""
     subprocess.run([sys.executable, TOP / "bench/design.py", folder, str(cells)], check=True)
     with open(folder / "bench.spef", "w") as out:
-        subprocess.run([sys.executable, TOP / "bench/spef.py", "bench.lib", "bench.v"], cwd=folder, stdout=out, check=True)
+        subprocess.run([sys.executable, TOP / "bench/spef.py", "bench.lib", "bench.v"], cwd=folder, stdout=out,
+                       check=True)
 
 
 def spent(program, folder, script, workers):
     """Seconds, seconds of processors and MB of a run, and its output."""
-    words = [program, "run", "bench.lib", "bench.lib", "bench.v", "bench.sdc", "bench.spef", str(workers), script + ".eco"]
+    words = [program, "run", "bench.lib", "bench.lib", "bench.v", "bench.sdc", "bench.spef", str(workers), script
+             + ".eco"]
     out = folder / "output"
     with open(out, "wb") as sink:
         began = time.monotonic()
@@ -45,8 +48,8 @@ def spent(program, folder, script, workers):
 def line(runs):
     """The figures of some runs as words."""
     seconds, processors, memory = zip(*(run[:3] for run in runs))
-    return (f"{statistics.median(seconds):6.2f} s ({min(seconds):.2f} to {max(seconds):.2f}), {statistics.median(processors):6.2f} s of "
-            f"processors, {max(memory):4.0f} MB")
+    return (f"{statistics.median(seconds):6.2f} s ({min(seconds):.2f} to {max(seconds):.2f}), "
+            f"{statistics.median(processors):6.2f} s of processors, {max(memory):4.0f} MB")
 
 
 def timed(programs, folder, script, workers, pairs):
@@ -82,5 +85,5 @@ def main():
                     print(f"{script:7} {workers} workers  {line(own)}  {program}", flush=True)
                 if len(runs) == 2:
                     parts = [new[0] / old[0] for old, new in zip(*runs)]
-                    print(f"{script:7} {workers} workers  the second in {statistics.median(parts):.2f} of the first's seconds "
-                          f"({min(parts):.2f} to {max(parts):.2f})", flush=True)
+                    print(f"{script:7} {workers} workers  the second in {statistics.median(parts):.2f} of the first's "
+                          f"seconds ({min(parts):.2f} to {max(parts):.2f})", flush=True)

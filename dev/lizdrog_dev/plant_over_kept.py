@@ -3,21 +3,27 @@
     dev/plant_over_kept.py [--max N] [--minutes N] [--only WORD] [--proved LOG] CRATE..
     dev/plant_over_kept.py --bare [CRATE..]
 
-`rt plant` puts wrong bodies under the clauses of a crate's public functions, and lists those that the clauses let through (`rt plant --help`). It wants
-the crates below built in this checkout, and else proves them all. This lays the libraries that `rt ci` kept into their out/ first, so that it begins at
-once; the crate itself is proved once more, so begin with small ones. At most N plants (40) in N minutes (3) behind that proof, by one process, in the
-functions whose file, line and path contain WORD.
+`rt plant` puts wrong bodies under the clauses of a crate's public functions, and lists those that the clauses let
+through (`rt plant --help`). It wants the crates below built in this checkout, and else proves them all. This lays the
+libraries that `rt ci` kept into their out/ first, so that it begins at once; the crate itself is proved once more, so
+begin with small ones. At most N plants (40) in N minutes (3) behind that proof, by one process, in the functions whose
+file, line and path contain WORD.
 
---proved leaves that proof out, where `rt ci` has kept it of these very sources; LOG is what that run said. All plants then go into one check beside the
-unchanged calls, and the functions of the crate get proofs that are holes, so that a plant which calls them is checked over their contracts, which is
-all that its proof sees of them (functions that call each other in a ring are proved where they are called). The methods of traits are left out, and
---max counts what does not compile, too. What the checks said is kept in ~/.cache/lizdrog, and what they checked, so that a run whose minutes were too few
+--proved leaves that proof out, where `rt ci` has kept it of these very sources; LOG is what that run said. All plants
+then go into one check beside the
+unchanged calls, and the functions of the crate get proofs that are holes, so that a plant which calls them is checked
+over their contracts, which is all that its proof sees of them (functions that call each other in a ring are proved
+where they are called). The methods of traits are left out, and
+--max counts what does not compile, too. What the checks said is kept in ~/.cache/lizdrog, and what they checked, so
+that a run whose minutes were too few
 goes on where it ended when it is begun again.
 
-Printed are the rows of `rt plant` (the plants that pass, and the functions without a clause), and at the end a table: of each crate its functions, the
-plants that were tried, and what they came to. It is no verdict on a crate. The status is 0 where each crate was planted in.
+Printed are the rows of `rt plant` (the plants that pass, and the functions without a clause), and at the end a table:
+of each crate its functions, the plants that were tried, and what they came to. It is no verdict on a crate. The status
+is 0 where each crate was planted in.
 
---bare proves nothing: it lists the functions, private ones too, that give a value or take `&mut` and have no `ensures`, of these crates or of all. The
+--bare proves nothing: it lists the functions, private ones too, that give a value or take `&mut` and have no `ensures`,
+of these crates or of all. The
 methods of traits are left out, whose clauses are the trait's."""
 import argparse
 import contextlib
@@ -82,12 +88,14 @@ def is_kept(ci, crate):
 
 
 def at_once(tool, copy, functions, proved, most):
-    """Judges the plants as `rt plant` does, but all of them in one check, beside the unchanged calls. The methods of traits are left out."""
+    """Judges the plants as `rt plant` does, but all of them in one check, beside the unchanged calls. The methods of
+    traits are left out."""
     count = iter(range(1 << 30))
 
     def planted(of):
         rows = [(at, f, body) for f in functions for at, body in enumerate(of(tool.bodies.Bodies(copy.source, f)))]
-        return [tool.Plant(f, body, next(count)) for _, f, body in sorted(rows, key=lambda it: (it[0], not it[1].is_pub))]
+        return [tool.Plant(f, body, next(count)) for _, f,
+                body in sorted(rows, key=lambda it: (it[0], not it[1].is_pub))]
 
     first = planted(lambda it: it.giving_up())
     called = [f for f in functions if f in proved and all(re.fullmatch(r"[a-z]\w*|_\w+", name) for name, _ in f.params)]
@@ -103,12 +111,18 @@ def at_once(tool, copy, functions, proved, most):
         """Whether `rt plant` tries this body over the real one, by what came of the first ones."""
         plain = {body.text for body in tool.bodies.Bodies(copy.source, it.f).over_the_real_one(None)}
         is_other = it.form == "other error" and (it.f, "failure", "proves") in kinds
-        return controls[it.f].kind in ("proves", "not-run") and it.f not in loose and not is_other and (it.body in plain or it.f in refused)
+        return (
+            controls[it.f].kind in ("proves", "not-run")
+            and it.f not in loose
+            and not is_other
+            and (it.body in plain or it.f in refused)
+        )
 
     plants = [*first, *filter(is_asked, over)]
     proving = [it for it in plants if it.kind == "proves"]
     # A failure that passes is told in any case.
-    asked = {it: tool.Plant(it.f, tool.bodies.Body(it.same), next(count)) for it in proving if it.same and it.form != "failure" and it.f in called}
+    asked = {it: tool.Plant(it.f, tool.bodies.Body(it.same), next(count)) for it in proving if it.same
+             and it.form != "failure" and it.f in called}
     empty = {it.f: tool.Plant(it.f, tool.bodies.Body(tool.bodies.NEVER), next(count)) for it in asked}
     with copy.more_time():
         copy.judge(copy.compiled([*asked.values(), *empty.values()]))
@@ -116,7 +130,8 @@ def at_once(tool, copy, functions, proved, most):
     constants = [it.f for it in proving if it.form == "constant"]
     for it in proving:
         is_same = it in asked and asked[it].kind == "proves" and it.f not in {other.f for other in never}
-        is_alone = constants.count(it.f) + it.f.is_constant < 2 and not tool.bodies.Bodies(copy.source, it.f).has_input()
+        is_alone = constants.count(it.f) + it.f.is_constant < 2 and not tool.bodies.Bodies(copy.source,
+                                                                                           it.f).has_input()
         if is_same or (is_alone and it.form in ("constant", "call")):
             it.kind = "same"
     lost = [it for it in controls.values() if it.kind not in ("proves", "not-run")]
@@ -126,8 +141,10 @@ def at_once(tool, copy, functions, proved, most):
 
 
 def over_contracts(tool, crate, log):
-    """Lets the tool plant over the contracts of a crate's functions: its check of the crate only tells what the log does, and a plant may stand on holes."""
-    said = {symbol: words for symbol, words in try_edits.SAID.findall(log.read_text(errors="replace")) if symbol.startswith(f"{crate}::")}
+    """Lets the tool plant over the contracts of a crate's functions: its check of the crate only tells what the log
+    does, and a plant may stand on holes."""
+    said = {symbol: words for symbol, words in try_edits.SAID.findall(log.read_text(errors="replace"))
+            if symbol.startswith(f"{crate}::")}
     if not said:
         sys.exit(f"{log} says nothing of the functions of {crate}")
 
@@ -139,18 +156,21 @@ def over_contracts(tool, crate, log):
         def __init__(self, of, source, folder, flags, seconds):
             super().__init__(of, source, folder, [*flags, "--allow-holes"], seconds)
             own = TOP / "crates" / crate
-            proved = {f"{crate}::{it}" for it in try_edits.in_cycles(own)} | {it for of in source.functions for it in of.symbols}
+            proved = {f"{crate}::{it}" for it in try_edits.in_cycles(own)} | {it for of in source.functions
+                                                                              for it in of.symbols}
             written = [*try_edits.functions_of(own), *try_edits.made_functions(crate, log)]
             found = [it for it in written if f"{crate}::{it}" in said.keys() - proved]
             self.assumed = {try_edits.write_hole(pathlib.Path(folder), crate, it) for it in found}
-            self.empty({tuple(it.split("::")[-2:]) for it in found if "+" not in it} | {("", it) for it in found if "::" not in it})
+            self.empty({tuple(it.split("::")[-2:]) for it in found if "+" not in it} | {("", it) for it in found
+                                                                                        if "::" not in it})
             self.count, self.log = 0, WORK / "plants"
             # A check that is ended is not lost: the next one takes what it had checked.
             self.memory = self.log / f"memory-{crate}"
             self.memory.mkdir(parents=True, exist_ok=True)
 
         def empty(self, paths):
-            """Takes the bodies away of the functions that are not proved, which cost their walks all the same; each line stays at its place."""
+            """Takes the bodies away of the functions that are not proved, which cost their walks all the same; each
+            line stays at its place."""
             for it in self.source.functions:
                 if not it.in_trait and it.has_body and (it.owner, it.name) in paths:
                     data = self.source.data[it.file]
@@ -190,8 +210,10 @@ def over_contracts(tool, crate, log):
             words += ["--incremental", str(self.memory), "--progress"]
             with open(log, "w", encoding="utf-8") as out, contextlib.suppress(subprocess.TimeoutExpired):
                 left = max(self.end - began, 0)
-                subprocess.run(words, cwd=self.folder, stdin=subprocess.DEVNULL, stdout=out, stderr=subprocess.STDOUT, timeout=left, check=False)
-            print(f"{crate}: check {self.count} of {len(names)} functions in {time.monotonic() - began:.0f} s", file=sys.stderr, flush=True)
+                subprocess.run(words, cwd=self.folder, stdin=subprocess.DEVNULL, stdout=out, stderr=subprocess.STDOUT,
+                               timeout=left, check=False)
+            print(f"{crate}: check {self.count} of {len(names)} functions in {time.monotonic() - began:.0f} s",
+                  file=sys.stderr, flush=True)
             told = log.read_text(encoding="utf-8", errors="replace")
             gone = {it for it in GONE.findall(told) if (pathlib.Path(self.folder) / it).is_dir()}
             if gone and not self.is_late():
@@ -199,7 +221,8 @@ def over_contracts(tool, crate, log):
                 for it in gone:
                     shutil.rmtree(pathlib.Path(self.folder) / it)
                 return self.check(names)
-            return try_edits.SAID.sub(lambda it: f"fn {it[1]}: proved" if try_edits.passes(it[2], self.assumed) else it[0], told)
+            return try_edits.SAID.sub(lambda it: f"fn {it[1]}: proved" if try_edits.passes(it[2], self.assumed)
+                                      else it[0], told)
 
     def chosen(*words, choose=tool.chosen):
         planted, bare = choose(*words)
@@ -210,7 +233,8 @@ def over_contracts(tool, crate, log):
 
 
 def with_kept_tokens(tokens, folder):
-    """Reads the tokens of a file, or takes those of an earlier run where it has the same text: on a busy machine the libraries' files cost minutes."""
+    """Reads the tokens of a file, or takes those of an earlier run where it has the same text: on a busy machine the
+    libraries' files cost minutes."""
     folder.mkdir(parents=True, exist_ok=True)
 
     def read(source, file):
@@ -243,7 +267,8 @@ def plant(crate, given):
     tool = load(kit / "rt-plant")
     # Another toolchain may cut a text into other tokens.
     made = os.stat(kit / "rattle")
-    tool.bodies.Source.tokens = with_kept_tokens(tool.bodies.Source.tokens, WORK / "plants" / f"tokens-{made.st_size}-{int(made.st_mtime)}")
+    tool.bodies.Source.tokens = with_kept_tokens(tool.bodies.Source.tokens,
+                                                 WORK / "plants" / f"tokens-{made.st_size}-{int(made.st_mtime)}")
     # Each crate's sum holds those of all below it, which would be made anew on every way down.
     tool.rt.Crate.stamp = functools.lru_cache(None)(tool.rt.Crate.stamp)
     gone = lay_below(tool.rt, over.crates(), crate)
@@ -258,7 +283,8 @@ def plant(crate, given):
     lay_memory(crate)
     os.chdir(TOP / "crates" / crate)
     only = ["--only", given.only] if given.only else []
-    return tool.main("--max", str(given.max), "--minutes", str(given.minutes), *only, *["--all"] * given.all, "--jobs", "1")
+    return tool.main("--max", str(given.max), "--minutes", str(given.minutes), *only, *["--all"] * given.all, "--jobs",
+                     "1")
 
 
 def bare(crates):
@@ -314,7 +340,8 @@ def main():
         options += [f"--{name}", str(getattr(given, name))] if getattr(given, name) else []
     for crate in given.crates:
         words = [sys.executable, DEV / "plant_over_kept.py", "--here", *options, crate]
-        ran = subprocess.run(words, stdin=subprocess.DEVNULL, stdout=subprocess.PIPE, encoding="utf-8", errors="replace", check=False)
+        ran = subprocess.run(words, stdin=subprocess.DEVNULL, stdout=subprocess.PIPE, encoding="utf-8",
+                             errors="replace", check=False)
         print(ran.stdout, end="", flush=True)
         counts = counts_of(ran.stdout)
         status |= counts is None

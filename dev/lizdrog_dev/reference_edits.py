@@ -1,6 +1,9 @@
-"""Edits and their faults for the plain timer of reference_timer.py, written from the definitions (docs/DEFINITIONS.md, "Edits and linking"
-and "Checks") and not from the program: what each of the nine edits does to a design, E1 to E9 of one edit, and which of E17 and E10 to E15
-stands in a design. E16 is the timer's own, since it speaks of computed values. A fault is its text, its code and its names."""
+"""Edits and their faults for the plain timer of reference_timer.py, written from the definitions (docs/DEFINITIONS.md,
+"Edits and linking"
+and "Checks") and not from the program: what each of the nine edits does to a design, E1 to E9 of one edit, and which of
+E17 and E10 to E15
+stands in a design. E16 is the timer's own, since it speaks of computed values. A fault is its text, its code and its
+names."""
 
 RISE, FALL = 'rise', 'fall'
 MOST, MOST_NODES = 200000, 65535
@@ -29,7 +32,8 @@ def direction(cell, pin):
 
 def shape(cell):
     """What has to agree between the cells of a name in both libraries."""
-    return ({(name, way) for name, (way, _) in cell.pins.items()}, {arc[:5] for arc in cell.arcs}, {test[:5] for test in cell.tests})
+    return ({(name, way) for name, (way, _) in cell.pins.items()}, {arc[:5] for arc in cell.arcs},
+            {test[:5] for test in cell.tests})
 
 
 def usable(d, name):
@@ -162,8 +166,9 @@ def set_parasitics(d, net, *words):
     d.rcs[net] = rc
 
 
-EDITS = {'repower_gate': repower, 'insert_gate': insert_gate, 'remove_gate': remove_gate, 'insert_net': insert_net, 'remove_net': remove_net,
-         'connect_pin': connect, 'disconnect_pin': disconnect, 'insert_buffer': insert_buffer, 'set_parasitics': set_parasitics}
+EDITS = {'repower_gate': repower, 'insert_gate': insert_gate, 'remove_gate': remove_gate, 'insert_net': insert_net,
+         'remove_net': remove_net, 'connect_pin': connect, 'disconnect_pin': disconnect, 'insert_buffer': insert_buffer,
+         'set_parasitics': set_parasitics}
 
 
 def edited(d, edits):
@@ -185,7 +190,13 @@ class Checks:
     """A design with its pins and nets, and which fault of E17 and E10 to E15 stands in it."""
 
     def __init__(self, d):
-        self.d, self.way, self.on, self.pins_on, self.drivers = d, {}, {}, {net: [] for net in d.nets}, {net: [] for net in d.nets}
+        self.d, self.way, self.on, self.pins_on, self.drivers = (
+            d,
+            {},
+            {},
+            {net: [] for net in d.nets},
+            {net: [] for net in d.nets},
+        )
         for port, role in d.ports.items():
             self.add(port, role, port, 'input')
         for inst, (cell, conns) in d.insts.items():
@@ -205,8 +216,8 @@ class Checks:
         large = self.large()
         if large:
             return 'E17 ' + large
-        for code, look in (('E10', self.many_drivers), ('E11', self.loop), ('E12', self.broken_network), ('E13', self.dangling),
-                           ('E14', self.no_trees), ('E15', self.other_pins)):
+        for code, look in (('E10', self.many_drivers), ('E11', self.loop), ('E12', self.broken_network),
+                           ('E13', self.dangling), ('E14', self.no_trees), ('E15', self.other_pins)):
             names = look()
             if names:
                 return ' '.join((code, *names) if code == 'E11' else (code, least(names)))
@@ -280,9 +291,14 @@ class Checks:
         for pin, after in out.items():
             for it in after:
                 before[it].add(pin)
-        ports = {clock['port'] for clock in d.con.clocks.values() if clock['port'] and d.ports.get(clock['port']) == 'input'}
-        clock_pins = {inst + ':' + pin for inst, (cell, _) in d.insts.items()
-                      for pin in {arc[0] for arc in d.lib['late'][cell].arcs if arc[4] == 'edge'} | {test[2] for test in d.lib['late'][cell].tests}}
+        ports = {clock['port'] for clock in d.con.clocks.values() if clock['port']
+                 and d.ports.get(clock['port']) == 'input'}
+        clock_pins = {
+            inst + ":" + pin
+            for inst, (cell, _) in d.insts.items()
+            for pin in {arc[0] for arc in d.lib["late"][cell].arcs if arc[4] == "edge"}
+            | {test[2] for test in d.lib["late"][cell].tests}
+        }
         return self.reached(ports, out) & self.reached(clock_pins, before), ports, before
 
     @staticmethod
@@ -319,7 +335,8 @@ class Checks:
 
     def dangling(self):
         d, con = self.d, self.d.con
-        wrong = [clock['port'] for clock in con.clocks.values() if clock['port'] and d.ports.get(clock['port']) != 'input']
+        wrong = [clock['port'] for clock in con.clocks.values() if clock['port']
+                 and d.ports.get(clock['port']) != 'input']
         for named, way in ((con.inputs, 'input'), (con.slews, 'input'), (con.outputs, 'output')):
             wrong += [port for port, *_ in named if d.ports.get(port) != way]
         wrong += [port for port, *_ in con.loads if port not in d.ports]
@@ -344,7 +361,8 @@ class Checks:
         return [net for net, rc in self.d.rcs.items() if not self.is_tree(net, rc)]
 
     def is_tree(self, net, rc):
-        """Whether resistors are a tree over all named nodes, from the driver; a net without a driver has no parasitics."""
+        """Whether resistors are a tree over all named nodes, from the driver; a net without a driver has no
+        parasitics."""
         if not self.drivers[net]:
             return False
         if not rc['ress']:
@@ -364,7 +382,8 @@ class Checks:
     def pins_agree(self, net, rc):
         named = {name for kind, name in self.named(rc) if kind == 'p'}
         with_resistor = {node for a, b, _ in rc['ress'] for node in (a, b)}
-        return named <= set(self.pins_on[net]) and (not rc['ress'] or all(('p', pin) in with_resistor for pin in self.pins_on[net]))
+        return named <= set(self.pins_on[net]) and (not rc['ress'] or all(('p', pin) in with_resistor
+                                                                          for pin in self.pins_on[net]))
 
 
 def standing(d):

@@ -1,10 +1,13 @@
-"""Small random designs in which paths meet again: gates of few different delays, so that slacks tie, two clocks with trees of buffers
-and inverters, a clock without a port, registers of both edges and of two clocks, data from clock nets, exceptions, and questions about
-paths. A design has no more than MOST paths to an endpoint, so that they can be listed. Documents and a script are drawn by `write`.
+"""Small random designs in which paths meet again: gates of few different delays, so that slacks tie, two clocks with
+trees of buffers
+and inverters, a clock without a port, registers of both edges and of two clocks, data from clock nets, exceptions, and
+questions about paths. A design has no more than MOST paths to an endpoint, so that they can be listed. Documents and a
+script are drawn by `write`.
 """
 
 MOST = 1500
-# each gate: its inputs, its sense and its late delays (rise, fall) at no load; the early library has some ps less, or more
+# each gate: its inputs, its sense and its late delays (rise, fall) at no load; the early library has some ps less, or
+# more
 GATES = {
     "BUF_A": ("A", "positive_unate", 20, 20),
     "BUF_B": ("A", "positive_unate", 30, 30),
@@ -32,8 +35,8 @@ INPUTS, OUTPUTS, CLOCKS = ["a", "b", "c"], ["x", "y", "z"], ["k", "m"]
 
 def arc(related, about, rise, fall, load):
     """An arc with delays that grow with the load by so much, and slews that do not."""
-    tables = "".join(f'    cell_{edge} (ld) {{ values ("{delay}, {delay + load * 10}"); }} {edge}_transition (scalar) {{ values ("{5 + load}"); }}\n'
-                     for edge, delay in (("rise", rise), ("fall", fall)))
+    tables = "".join(f'    cell_{edge} (ld) {{ values ("{delay}, {delay + load * 10}"); }} {edge}_transition (scalar) '
+                     f'{{ values ("{5 + load}"); }}\n' for edge, delay in (("rise", rise), ("fall", fall)))
     return f'   timing () {{ related_pin : "{related}"; {about};\n{tables}   }}\n'
 
 
@@ -42,12 +45,14 @@ def library(spread, load):
     text = 'library (small) { time_unit : "1ps"; capacitive_load_unit (1, ff);\n'
     text += ' lu_table_template (ld) { variable_1 : total_output_net_capacitance; index_1 ("0, 10"); }\n'
     for name, (pins, sense, rise, fall) in GATES.items():
-        text += f" cell ({name}) {{\n" + "".join(f"  pin ({pin}) {{ direction : input; capacitance : 1; }}\n" for pin in pins)
+        text += f" cell ({name}) {{\n" + "".join(f"  pin ({pin}) {{ direction : input; capacitance : 1; }}\n"
+                                                 for pin in pins)
         arcs = "".join(arc(pin, f"timing_sense : {sense}", rise - spread, fall - spread, load) for pin in pins)
         text += f"  pin (Z) {{ direction : output;\n{arcs}  }} }}\n"
     for name, (launches, tests) in REGISTERS.items():
         clocks = sorted({pin for pin, _ in tests})
-        text += f" cell ({name}) {{\n" + "".join(f"  pin ({pin}) {{ direction : input; capacitance : 1; }}\n" for pin in clocks)
+        text += f" cell ({name}) {{\n" + "".join(f"  pin ({pin}) {{ direction : input; capacitance : 1; }}\n"
+                                                 for pin in clocks)
         text += "  pin (D) { direction : input; capacitance : 1;\n"
         for pin, edge in tests:
             for kind, need in (("setup", 10), ("hold", 2)):
@@ -61,7 +66,8 @@ def library(spread, load):
 # ---------------------------------------------------------------------------------------------- the netlist
 
 class Small:
-    """Instances with their cells, the net of each pin, and drivers and sinks of each net; gates are made after the nets that they read."""
+    """Instances with their cells, the net of each pin, and drivers and sinks of each net; gates are made after the nets
+    that they read."""
 
     def __init__(self, rand):
         self.rand, self.cells, self.nets, self.driver, self.sinks, self.paths = rand, {}, {}, {}, {}, {}
@@ -133,7 +139,8 @@ class Small:
     def verilog(self):
         ports = INPUTS + CLOCKS + OUTPUTS
         wires = [net for net in self.driver if net not in ports]
-        text = f"module small ({', '.join(ports)});\n input {', '.join(INPUTS + CLOCKS)};\n output {', '.join(OUTPUTS)};\n wire {', '.join(wires)};\n"
+        text = f"module small ({', '.join(ports)});\n input {', '.join(INPUTS + CLOCKS)};\n"
+        text += f" output {', '.join(OUTPUTS)};\n wire {', '.join(wires)};\n"
         for name, cell in self.cells.items():
             text += f" {cell} {name} ({', '.join(f'.{pin}({net})' for pin, net in self.nets[name].items())});\n"
         return text + "endmodule\n"
@@ -161,27 +168,32 @@ class Small:
 def constraints(rand, small):
     """Three clocks, the last without a port, delays at ports of few values, and exceptions."""
     periods = [rand.choice([100, 150, 200]), rand.choice([100, 200, 300]), rand.choice([100, 50])]
-    lines = [f"create_clock -name {clock} -period {period} [get_ports {clock}]" for clock, period in zip(CLOCKS, periods)]
+    lines = [f"create_clock -name {clock} -period {period} [get_ports {clock}]" for clock,
+             period in zip(CLOCKS, periods)]
     lines.append(f"create_clock -name v -period {periods[2]}")
     for port in INPUTS + CLOCKS:
         if rand.random() < (0.8 if port in INPUTS else 0.1):
-            lines.append(f"set_input_delay {rand.randrange(5) * 10}{rand.choice(['', ' -max', ' -fall', ' -min'])} -clock {rand.choice('kmv')} [get_ports {port}]")
+            lines.append(f"set_input_delay {rand.randrange(5) * 10}{rand.choice(['', ' -max', ' -fall', ' -min'])} "
+                         f"-clock {rand.choice('kmv')} [get_ports {port}]")
     for port in OUTPUTS:
         for _ in range(rand.randrange(1, 3)):
-            lines.append(f"set_output_delay {rand.randrange(-1, 4) * 10}{rand.choice(['', '', ' -max', ' -rise'])} -clock {rand.choice('kmv')} [get_ports {port}]")
+            lines.append(f"set_output_delay {rand.randrange(-1, 4) * 10}{rand.choice(['', '', ' -max', ' -rise'])} "
+                         f"-clock {rand.choice('kmv')} [get_ports {port}]")
     if rand.random() < 0.3:
         lines.append(f"set_clock_uncertainty {rand.randrange(9)} [get_clocks {rand.choice('kmv')}]")
     if rand.random() < 0.3:
-        lines += [f"set_timing_derate -early {rand.choice(['0.9', '0.95', '1'])}", f"set_timing_derate -late {rand.choice(['1', '1.05', '1.1'])}"]
+        lines += [f"set_timing_derate -early {rand.choice(['0.9', '0.95', '1'])}",
+                  f"set_timing_derate -late {rand.choice(['1', '1.05', '1.1'])}"]
     launches = [f"[get_clocks {clock}]" for clock in "kmv"] + [f"[get_ports {port}]" for port in INPUTS] + ["k", "a"]
     captures = [f"[get_clocks {clock}]" for clock in "kmv"] + [f"[get_ports {port}]" for port in OUTPUTS] + ["m", "x"]
     for name in small.waiting:
         launches += [f"[get_pins {name}/{sorted(small.nets[name])[0]}]", f"[get_cells {name}]", name]
         captures += [f"[get_pins {name}/D]", f"[get_cells {name}]", f"{name}/D"]
     for _ in range(rand.choice([0, 0, 1, 2, 4])):
-        words = rand.choice(["set_false_path", "set_false_path -hold", "set_false_path -setup", "set_multicycle_path 2", "set_multicycle_path 3 -setup",
-                             "set_multicycle_path 1 -hold"])
-        ends = rand.choice([" -from {0}", " -to {1}", " -from {0} -to {1}", " -from {0} -to {1}"]).format(rand.choice(launches), rand.choice(captures))
+        words = rand.choice(["set_false_path", "set_false_path -hold", "set_false_path -setup", "set_multicycle_path 2",
+                             "set_multicycle_path 3 -setup", "set_multicycle_path 1 -hold"])
+        ends = rand.choice([" -from {0}", " -to {1}", " -from {0} -to {1}",
+                            " -from {0} -to {1}"]).format(rand.choice(launches), rand.choice(captures))
         lines.append(words + ends)
     return "".join(line + "\n" for line in lines)
 
@@ -208,7 +220,8 @@ def path_questions(rand, walk_to, endpoints, others, count):
         end, kind = rand.choice(endpoints), rand.choice(["setup", "hold"])
         asked = end if rand.random() < 0.97 else rand.choice(others + ["zz:D"])
         lines.append(rand.choice([f"report_through {asked} {kind} {pins_of(rand, walk_to(end), others)}"] * 5
-                                 + [f"report_paths {asked} {kind} {rand.choice([1, 2, 3, 5, 10, 30, 100])}"] * 4 + [f"report_path {asked} {kind}"]))
+                                 + [f"report_paths {asked} {kind} {rand.choice([1, 2, 3, 5, 10, 30, 100])}"] * 4
+                                 + [f"report_path {asked} {kind}"]))
     return lines
 
 
@@ -225,7 +238,8 @@ def script(rand, small):
         net = rand.choice(wires)
         sinks = " ".join(f"r {small.driver[net]} {pin} {rand.randrange(4) * 100000}" for pin in small.sinks[net])
         buffered = rand.choice([it for it in small.sinks if small.sinks[it] and ":" in small.sinks[it][0]])
-        lines.append(rand.choice([f"repower_gate {name} {cells[name]}", f"set_parasitics {net} {sinks}", f"insert_buffer {buffered} buf{k} net{k} BUF_A {small.sinks[buffered][0]}"]))
+        lines.append(rand.choice([f"repower_gate {name} {cells[name]}", f"set_parasitics {net} {sinks}",
+                                  f"insert_buffer {buffered} buf{k} net{k} BUF_A {small.sinks[buffered][0]}"]))
         lines += ask(8)
         if lines[-9].startswith("insert_buffer"):
             break

@@ -160,7 +160,8 @@ def main():
     out.write(HEADER.format(design=design) + "\n*NAME_MAP\n")
     out.writelines(line + "\n" for line in names.lines())
     out.write("\n*PORTS\n")
-    out.writelines(f"{names.numbers[port]} {'I' if way == 'input' else 'O'}\n" for port, way in ports.items() if port in nets)
+    out.writelines(f"{names.numbers[port]} {'I' if way == 'input' else 'O'}\n" for port, way in ports.items()
+                   if port in nets)
     out.write("\n")
     for net, (driver, sinks) in nets.items():
         out.writelines(line + "\n" for line in net_lines(names, net, driver, sinks))

@@ -1,22 +1,28 @@
-"""Tries the wrong bodies of crates on the functions that they change, over what this machine has proved before: try_edits.py CRATE..
+"""Tries the wrong bodies of crates on the functions that they change, over what this machine has proved before:
+try_edits.py CRATE..
 
-    dev/try_edits.py [--only WORD].. [--most N] [--seconds N] [--callees] [--proved] [--names FILE] [--log FOLDER] CRATE..
+    dev/try_edits.py [--only WORD].. [--most N] [--seconds N] [--callees] [--proved] [--names FILE] [--log FOLDER]
+    CRATE..
 
-Each edit of bench/must-fail/CRATE and crates/CRATE/must-fail makes a body wrong, and the check has to refuse it. `rt must-fail` and bench/must_fail.sh prove a
-crate for that; this checks the changed functions alone, over the libraries that `rt ci` kept (as check_over_kept.py does). The functions of the crate
-that they call are taken by their contracts, which is all that a proof sees of them, and have no body there (--callees proves them too); with a log of `rt ci`
-(--names) also those that no source writes are taken so. Edits of different functions are tried
-in one check, at most N (40). Each half minute a line says how far a check is, and how much of a processor it had (on a busy machine
-that is what it waits for). --seconds ends a check that had so many seconds of a processor; its edits are then tried in two halves, down to one.
+Each edit of bench/must-fail/CRATE and crates/CRATE/must-fail makes a body wrong, and the check has to refuse it. `rt
+must-fail` and bench/must_fail.sh prove a crate for that; this checks the changed functions alone, over the libraries
+that `rt ci` kept (as check_over_kept.py does). The functions of the crate that they call are taken by their contracts,
+which is all that a proof sees of them, and have no body there (--callees proves them too); with a log of `rt ci`
+(--names) also those that no source writes are taken so. Edits of different functions are tried in one check, at most N
+(40). Each half minute a line says how far a check is, and how much of a processor it had (on a busy machine that is
+what it waits for). --seconds ends a check that had so many seconds of a processor; its edits are then tried in two
+halves, down to one.
 
-First the unchanged functions are checked in the same way: where one does not pass, nothing is said of its edits. --proved leaves that out, for a crate
-that `rt ci` has proved of these very sources. Then a line for each edit says
+First the unchanged functions are checked in the same way: where one does not pass, nothing is said of its edits.
+--proved leaves that out, for a crate that `rt ci` has proved of these very sources. Then a line for each edit says
   refused            a goal of the function is open with this body, or its proof does not fit it
   refused by names   the proof only names what the edit took away: that says little of the contract
-  PASSES             the function meets its contract with this body: check the whole crate (bench/must_fail.sh), as a law of a type may refuse it elsewhere
+  PASSES             the function meets its contract with this body: check the whole crate (bench/must_fail.sh), as a
+                     law of a type may refuse it elsewhere
   does not compile   it never came to the prover
   not tried          with the reason: it does not apply, changes no function, or the prover gave up or was ended
-An edit of a constant is tried on the functions that name it. --only takes edits whose file's name contains WORD. What the checks said is kept in FOLDER (below ~/.cache/lizdrog). The status is 0 where all are refused.
+An edit of a constant is tried on the functions that name it. --only takes edits whose file's name contains WORD. What
+the checks said is kept in FOLDER (below ~/.cache/lizdrog). The status is 0 where all are refused.
 Nothing that this says counts as proved: that is for `rt ci`."""
 import argparse
 import os
@@ -113,7 +119,8 @@ def end_of(text, opens):
 
 
 def symbol_at(text, file, at, homes):
-    """The path below its crate of the function around a place, as a check names it; none where it stands in no function."""
+    """The path below its crate of the function around a place, as a check names it; none where it stands in no
+    function."""
     heads = [it for it in HEAD.finditer(text) if it.start() <= at]
     for it in reversed(heads):
         body = re.compile(rf"^{it['room']}\{{|\{{$", re.M).search(text, it.end())
@@ -144,7 +151,8 @@ def body_of(text, head):
 
 
 def without_bodies(text, file, homes, kept):
-    """A text in which the functions have a body that gives nothing, but for those kept; what stands for them is their contract."""
+    """A text in which the functions have a body that gives nothing, but for those kept; what stands for them is their
+    contract."""
     parts, at = [], 0
     for head in HEAD.finditer(text):
         body = body_of(text, head)
@@ -172,13 +180,15 @@ def functions_of(folder):
 
 def in_cycles(folder):
     """The paths of the functions that call each other in a ring, whose proof is one of all of them."""
-    return symbols_at(folder, re.compile(rf"#\[cycle\(\w+\)\]\n(?:.*\n)?? *(?:pub(?:\([^)]*\))? )?fn \w+"))
+    return symbols_at(folder, re.compile(r"#\[cycle\(\w+\)\]\n(?:.*\n)?? *(?:pub(?:\([^)]*\))? )?fn \w+"))
 
 
 def made_functions(crate, log):
-    """The paths of the functions that no source writes, as what gives up a type's values, in a log of `rt ci` that has proved them."""
+    """The paths of the functions that no source writes, as what gives up a type's values, in a log of `rt ci` that has
+    proved them."""
     said = SAID.findall(log.read_text(errors="replace")) if log else []
-    return [symbol.partition("::")[2] for symbol, _ in said if symbol.startswith(f"{crate}::") and symbol.endswith("+Destruct::drop")]
+    return [symbol.partition("::")[2] for symbol, _ in said if symbol.startswith(f"{crate}::")
+            and symbol.endswith("+Destruct::drop")]
 
 
 def users_of(folder, constant):
@@ -194,7 +204,8 @@ def write_hole(folder, crate, path):
         (at / f"{name}.antt").unlink(missing_ok=True)
     at.mkdir(parents=True, exist_ok=True)
     module = ".".join(["Rattle", crate, "proofs", *parts])
-    (at / "Proof.antt").write_text(f"use {module}.Statement.{{statement}}\n\npub {parts[-1]}_spec : {{M : Type 1}} → statement M\n{parts[-1]}_spec = ?\n")
+    (at / "Proof.antt").write_text(f"use {module}.Statement.{{statement}}\n\npub {parts[-1]}_spec : {{M : Type 1}} → "
+                                   f"statement M\n{parts[-1]}_spec = ?\n")
     return f"{module}.Proof.{parts[-1]}_spec"
 
 
@@ -202,7 +213,15 @@ class Room:
     """A copy of a crate in which edits are written, and checked over the kept libraries."""
 
     def __init__(self, crate, folder, log, seconds=0):
-        self.crate, self.folder, self.log, self.seconds, self.count, self.assumed, self.texts = crate, folder, log, seconds, 0, set(), {}
+        self.crate, self.folder, self.log, self.seconds, self.count, self.assumed, self.texts = (
+            crate,
+            folder,
+            log,
+            seconds,
+            0,
+            set(),
+            {},
+        )
         self.own = TOP / "crates" / crate
         for part in PARTS:
             if (self.own / part).is_dir():
@@ -219,9 +238,11 @@ class Room:
         self.words = [str(kit / "bin" / "rattle"), *words, "--incremental", str(memory)]
 
     def assume(self, asked, functions):
-        """Gives these functions but those that are asked for a proof that is a hole and no body of their own, so that what calls them is
+        """Gives these functions but those that are asked for a proof that is a hole and no body of their own, so that
+        what calls them is
         checked over their contracts alone."""
-        self.assumed, homes, kept = set(), homes_of(self.own), [it for it in functions_of(self.own) if it in asked or it not in functions]
+        self.assumed, homes, kept = set(), homes_of(self.own), [it for it in functions_of(self.own) if it in asked
+                                                                or it not in functions]
         for path in functions:
             parts = path.split("::")
             at = self.folder / "proofs" / "/".join(parts)
@@ -234,7 +255,8 @@ class Room:
                 self.assumed.add(write_hole(self.folder, self.crate, path))
         for source in sorted((self.own / "src").rglob("*.rt")):
             file = str(source.relative_to(self.own))
-            self.texts[file] = without_bodies(source.read_text(), file, homes, kept) if functions else source.read_text()
+            self.texts[file] = without_bodies(source.read_text(), file, homes,
+                                              kept) if functions else source.read_text()
             (self.folder / file).write_text(self.texts[file])
 
     def write(self, texts):
@@ -248,10 +270,13 @@ class Room:
         began = told = time.monotonic()
         self.count += 1
         log = self.log / f"{self.crate}-{self.count}-{label}.txt"
-        say = lambda words: print(f"{self.crate}: {label}: {len(functions)} functions: {words}", file=sys.stderr, flush=True)
+        say = lambda words: print(f"{self.crate}: {label}: {len(functions)} functions: {words}", file=sys.stderr,
+                                  flush=True)
         with open(log, "w", encoding="utf-8") as out:
-            words = [*self.words, *asked, "--allow-holes", "--progress", "--stage-times", str(log.with_suffix(".stages"))]
-            ran = subprocess.Popen(words, cwd=self.folder, stdin=subprocess.DEVNULL, stdout=out, stderr=subprocess.STDOUT)
+            words = [*self.words, *asked, "--allow-holes", "--progress", "--stage-times",
+                     str(log.with_suffix(".stages"))]
+            ran = subprocess.Popen(words, cwd=self.folder, stdin=subprocess.DEVNULL, stdout=out,
+                                   stderr=subprocess.STDOUT)
         had = 0.0
         try:
             while ran.poll() is None:
@@ -260,7 +285,8 @@ class Room:
                 ended = bool(self.seconds) and had > self.seconds
                 if ended or time.monotonic() - told > 30:
                     told = time.monotonic()
-                    say(f"{progress_of(log)}; {told - began:.0f} s, {had:.0f} s of a processor" + (", ended" if ended else ""))
+                    say(f"{progress_of(log)}; {told - began:.0f} s, {had:.0f} s of a processor"
+                        + (", ended" if ended else ""))
                 if ended:
                     return None
         finally:
@@ -313,7 +339,8 @@ def judge(edit, said, crate, assumed):
     goals = [it.rpartition(".")[2] for part in goals for it in re.findall(r"`([^`]+)`", part)]
     own = re.compile(rf"^(?:\./)?proofs/{path.replace('::', '/')}/\S+: error: (.*)$", re.M)
     faults = own.findall(said)
-    edit.kind = "refused by names" if faults and all(NAMES_ONLY.search(it) for it in faults) and "did not prove" not in words else "refused"
+    edit.kind = "refused by names" if faults and all(NAMES_ONLY.search(it)
+                                                     for it in faults) and "did not prove" not in words else "refused"
     edit.why = "goals: " + ", ".join(dict.fromkeys(goals))
     if not goals:
         edit.kind, edit.why = "not tried", f"no goal of its own is open: {words[:200]}"
@@ -349,7 +376,8 @@ def merged(room, edits):
 
 
 def try_round(room, edits, label, assumable):
-    """Tries edits of different functions in one check; those that do not compile are taken out, and it is made again."""
+    """Tries edits of different functions in one check; those that do not compile are taken out, and it is made
+    again."""
     while edits:
         room.assume([path for it in edits for path in it.functions], assumable)
         texts = merged(room, edits)
@@ -449,9 +477,11 @@ def main():
         parser.error(f"{unknown[0]} is no crate")
     status = 0
     for crate in given.crates:
-        edits = try_crate(crate, given.only, given.most, given.seconds, given.callees, given.proved, given.names, given.log)
+        edits = try_crate(crate, given.only, given.most, given.seconds, given.callees, given.proved, given.names,
+                          given.log)
         status |= any(it.kind != "refused" for it in edits)
         count = lambda kind: sum(it.kind == kind for it in edits)
         kinds = "refused", "refused by names", "PASSES", "does not compile", "not tried"
-        print(f"edits of {crate}: {len(edits)}: " + ", ".join(f"{count(it)} {it}" for it in kinds if count(it)), flush=True)
+        print(f"edits of {crate}: {len(edits)}: " + ", ".join(f"{count(it)} {it}" for it in kinds if count(it)),
+              flush=True)
     sys.exit(status)

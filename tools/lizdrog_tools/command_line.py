@@ -1,4 +1,5 @@
-"""The words of the command `lizdrog`: its options, and what is surely wrong with the rest. It imports nothing, so that each call begins at once."""
+"""The words of the command `lizdrog`: its options, and what is surely wrong with the rest. It imports nothing, so that
+each call begins at once."""
 
 LEAST_WORDS = {"run": 7, "generate": 3}
 MOST_SCRIPTS = 16
@@ -68,7 +69,7 @@ def doubts(words: list[str]) -> str:
     """What is seen of words that the program took for no command."""
     words, _ = without_journal(words)
     if any(it.startswith("-") for it in words):
-        return ("a word that begins with - is written after the word --, and the one option is --journal NAME after run; "
-                "standard input is /dev/stdin")
+        return ("a word that begins with - is written after the word --, and the one option is --journal NAME after "
+                "run; standard input is /dev/stdin")
     is_long = words[0] == "run" and len(words) > LEAST_WORDS["run"] + MOST_SCRIPTS
     return f"run takes {MOST_SCRIPTS} scripts at most" if is_long else "these words are no command"

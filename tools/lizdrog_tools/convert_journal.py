@@ -1,12 +1,15 @@
-"""Turns the ECOs of a journal into a script, or into Tcl for layout tools: convert_journal.py OUTPUT [--to script|tcl] [--first N] [--last N]
+"""Turns the ECOs of a journal into a script, or into Tcl for layout tools: convert_journal.py OUTPUT [--to script|tcl]
+[--first N] [--last N]
 
-OUTPUT is the output of a run, its journal alone, or a saved journal of several blocks. An ECO of several edits becomes a group of the
-script. --first and --last give the numbers of the entries to take (default: all); entries have the numbers that they have in the journal.
+OUTPUT is the output of a run, its journal alone, or a saved journal of several blocks. An ECO of several edits becomes
+a group of the script. --first and --last give the numbers of the entries to take (default: all); entries have the
+numbers that they have in the journal.
 
-The Tcl has the words of OpenSTA's editing commands: replace_cell, make_instance, delete_instance, make_net, delete_net, connect_pin,
-disconnect_pin, and for buffers insert_buffer NET INSTANCE NEW_NET CELL SINKS, which the head of the file defines by the others; a tool
-with other words needs other definitions there. Parasitics are comments, since a layout tool makes the wires itself. Edits that take
-each other back (a cell put in and taken out again) stay, as the journal has them.
+The Tcl has the words of OpenSTA's editing commands: replace_cell, make_instance, delete_instance, make_net, delete_net,
+connect_pin, disconnect_pin, and for buffers insert_buffer NET INSTANCE NEW_NET CELL SINKS, which the head of the file
+defines by the others; a tool with other words needs other definitions there. Parasitics are comments, since a layout
+tool makes the wires itself. Edits that take each other back (a cell put in and taken out again) stay, as the journal
+has them.
 """
 import argparse
 import re
@@ -95,8 +98,8 @@ def tcl_pin(word):
 def tcl_edit(edit):
     """The command of an edit."""
     name, *words = edit.split(" ")
-    plain = {"repower_gate": "replace_cell", "insert_gate": "make_instance", "remove_gate": "delete_instance", "insert_net": "make_net",
-             "remove_net": "delete_net"}
+    plain = {"repower_gate": "replace_cell", "insert_gate": "make_instance", "remove_gate": "delete_instance",
+             "insert_net": "make_net", "remove_net": "delete_net"}
     if name in plain:
         return " ".join([plain[name], *map(braced, words)])
     if name == "connect_pin":
@@ -104,7 +107,8 @@ def tcl_edit(edit):
     if name == "disconnect_pin":
         return f"disconnect_pin [net_of_pin {tcl_pin(words[0])}] {tcl_pin(words[0])}"
     if name == "insert_buffer":
-        return f"insert_buffer {' '.join(map(braced, words[:2]))} {braced(words[2])} {braced(words[3])} {{{' '.join(map(tcl_pin, words[4:]))}}}"
+        sinks = " ".join(map(tcl_pin, words[4:]))
+        return f"insert_buffer {' '.join(map(braced, words[:4]))} {{{sinks}}}"
     return f"# {edit}"
 
 
@@ -126,6 +130,7 @@ def main():
     if given.first < 1:
         parser.error("entries are counted from 1")
     entries = parsed(given.output, read_journal, may_be_empty=True)
-    chosen = [(number, edits) for number, edits in entries.items() if given.first <= number and (given.last is None or number <= given.last)]
+    chosen = [(number, edits) for number, edits in entries.items() if given.first <= number
+              and (given.last is None or number <= given.last)]
     for line in (as_tcl if given.to == "tcl" else as_script)(chosen):
         print(line)

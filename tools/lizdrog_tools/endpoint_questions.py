@@ -1,6 +1,8 @@
-"""Writes a script that asks the slack of every endpoint: endpoint_questions.py LIBRARY NETLIST [--kind setup|hold] [--part N] >SCRIPT
+"""Writes a script that asks the slack of every endpoint: endpoint_questions.py LIBRARY NETLIST [--kind setup|hold]
+[--part N] >SCRIPT
 
-Endpoints are the data pins of registers and the output ports. A script has at most 10,000 commands; of a design with more questions
+Endpoints are the data pins of registers and the output ports. A script has at most 10,000 commands; of a design with
+more questions
 --part N gives the N-th 10,000, from 1, and standard error says how many parts there are.
 """
 import argparse

@@ -1,8 +1,8 @@
 """The one way in which the tools open files, and say what is wrong with them.
 
-A text comes plain or compressed (gzip, xz, zstd), by what the file begins with and not by its name. What no tool can use is an
-`InputFault`: it has the file, the line where there is one, and a sentence. A tool prints it as `NAME: FILE:LINE: SENTENCE` and ends
-with status 2.
+A text comes plain or compressed (gzip, xz, zstd), by what the file begins with and not by its name. What no tool can
+use is an `InputFault`: it has the file, the line where there is one, and a sentence. A tool prints it as `NAME:
+FILE:LINE: SENTENCE` and ends with status 2.
 """
 import functools
 import gzip
@@ -50,7 +50,8 @@ def unpacked_zstd(name: str | os.PathLike, data: bytes) -> bytes:
     """What a text packed by zstd holds, by the program of that name."""
     program = shutil.which("zstd")
     if program is None:
-        raise InputFault(name, None, "the file is compressed (zstd), and there is no program zstd here: apt-get install zstd")
+        raise InputFault(name, None,
+                         "the file is compressed (zstd), and there is no program zstd here: apt-get install zstd")
     ran = subprocess.run([program, "-dcq"], input=data, capture_output=True, check=False)
     if ran.returncode:
         raise InputFault(name, None, "the file is compressed (zstd), and damaged")
@@ -110,7 +111,8 @@ def line_and_column(text: str, offset: int) -> tuple[int, int]:
 
 
 def tool(name: str) -> Callable[[Callable[[], int | None]], Callable[[], int]]:
-    """Makes a function the main function of a tool: it gives the status, 2 with a sentence where an input cannot be used."""
+    """Makes a function the main function of a tool: it gives the status, 2 with a sentence where an input cannot be
+    used."""
     def around(work: Callable[[], int | None]) -> Callable[[], int]:
         @functools.wraps(work)
         def main() -> int:

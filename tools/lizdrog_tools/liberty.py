@@ -15,7 +15,8 @@ LOAD_UNITS = {"ff": 1e3, "pf": 1e6}
 SENSES = {"positive_unate": [(RISE, RISE), (FALL, FALL)], "negative_unate": [(FALL, RISE), (RISE, FALL)]}
 BOTH_SENSES = [(one, other) for other in (RISE, FALL) for one in (RISE, FALL)]
 EDGES = {"rising_edge": RISE, "falling_edge": FALL}
-TESTS = {f"{kind}_{edge}": (kind, tran) for kind in ("setup", "hold") for edge, tran in (("rising", RISE), ("falling", FALL))}
+TESTS = {f"{kind}_{edge}": (kind, tran) for kind in ("setup", "hold") for edge, tran in (("rising", RISE),
+                                                                                         ("falling", FALL))}
 READ_TYPES = {"combinational", *EDGES, *TESTS}
 
 
@@ -118,7 +119,8 @@ class Table:
         """The value between the entries, as a float; none where the table is not whole."""
         if len(self.values) != len(self.xs) * len(self.ys):
             return None
-        columns = [line(self.xs, [self.values[i * len(self.ys) + j] for i in range(len(self.xs))], x) for j in range(len(self.ys))]
+        columns = [line(self.xs, [self.values[i * len(self.ys) + j] for i in range(len(self.xs))], x)
+                   for j in range(len(self.ys))]
         return line(self.ys, columns, y)
 
 
@@ -155,7 +157,8 @@ class Cell:
 
     def parts(self):
         """What has to be the same in both libraries."""
-        return {"pin": {(name, way) for name, (way, _) in self.pins.items()}, "arc": set(self.arcs), "test": set(self.tests)}
+        return {"pin": {(name, way) for name, (way, _) in self.pins.items()}, "arc": set(self.arcs),
+                "test": set(self.tests)}
 
 
 class Library:
@@ -211,12 +214,14 @@ class Library:
 
     def arcs(self, cell, pin, clock, kind, group):
         edge = EDGES.get(kind)
-        nodes = [(edge, it) for it in (RISE, FALL)] if edge else SENSES.get(group.simple.get("timing_sense"), BOTH_SENSES)
+        nodes = [(edge, it) for it in (RISE, FALL)] if edge else SENSES.get(group.simple.get("timing_sense"),
+                                                                            BOTH_SENSES)
         for before, tran in nodes:
             delays, slews = group.named(f"cell_{tran}"), group.named(f"{tran}_transition")
             if delays and slews:
                 arc = (clock, before, pin, tran, "edge" if edge else "comb")
-                cell.arcs.setdefault(arc, []).append((self.table(delays[-1], "input_net_transition"), self.table(slews[-1], "input_net_transition")))
+                cell.arcs.setdefault(arc, []).append((self.table(delays[-1], "input_net_transition"),
+                                                      self.table(slews[-1], "input_net_transition")))
 
     def table(self, group, first):
         """A table with the variable `first` along xs."""
@@ -226,7 +231,8 @@ class Library:
             variable = template.simple.get(f"variable_{number}") if template else None
             if variable:
                 words = group.complex.get(f"index_{number}") or template.complex.get(f"index_{number}") or []
-                axes[variable] = numbers(words, self.load_unit if variable == "total_output_net_capacitance" else self.time_unit)
+                axes[variable] = numbers(words, self.load_unit if variable == "total_output_net_capacitance"
+                                         else self.time_unit)
         values = numbers(group.complex.get("values", []), self.time_unit)
         xs, others = axes.get(first, [0.0]), [it for name, it in axes.items() if name != first]
         ys = others[0] if others else [0.0]

@@ -12,7 +12,8 @@ QUICK = TOP / "out" / "quick_build" / "timing_shell"
 
 
 def work_folder() -> pathlib.Path:
-    """A folder of this clone outside of it, for libraries and copies of sources: `rt ci` refuses sources at other places of a clone."""
+    """A folder of this clone outside of it, for libraries and copies of sources: `rt ci` refuses sources at other
+    places of a clone."""
     cache = os.environ.get("XDG_CACHE_HOME") or os.path.expanduser("~/.cache")
     return pathlib.Path(cache) / "lizdrog" / f"{TOP.name}-{zlib.crc32(str(TOP).encode()):08x}"
 

@@ -1,8 +1,8 @@
 """Which program runs: the proved one or the one without proof, where it is of the sources as they are.
 
-What is kept beside the programs tells of each of which sources it was made: their sum, and the size and time of each file when that sum
-was last seen. A call compares sizes and times, some milliseconds, and sums the sources only where these differ. An installed copy has
-its program beside its scripts, and no sources.
+What is kept beside the programs tells of each of which sources it was made: their sum, and the size and time of each
+file when that sum was last seen. A call compares sizes and times, some milliseconds, and sums the sources only where
+these differ. An installed copy has its program beside its scripts, and no sources.
 """
 import os
 
@@ -12,7 +12,8 @@ FOLDER = f"{TOP}/out/quick_build"
 QUICK = f"{FOLDER}/timing_shell"
 INSTALLED = f"{TOP}/program/timing_shell"
 ABOUT_INSTALLED = f"{TOP}/program/about"
-# What a program is made of; and what it was proved to do, which is all that a proof is about. (Another proof of the same is no change.)
+# What a program is made of; and what it was proved to do, which is all that a proof is about. (Another proof of the
+# same is no change.)
 MADE_OF, PROVED_OF = ("src",), ("src", "specs")
 WITHOUT_PROOF = "this program was built without proof"
 
@@ -77,7 +78,8 @@ def sources(parts: tuple[str, ...]) -> list[tuple[str, int, int]]:
     except OSError as why:
         raise Stop(f"no sources are here: {why}") from why
     found = [("crates.txt", stat.st_size, stat.st_mtime_ns)]
-    return sorted(found + [file for crate in crates for part in parts for file in files_below(f"crates/{crate}/{part}")])
+    return sorted(found + [file for crate in crates for part in parts
+                           for file in files_below(f"crates/{crate}/{part}")])
 
 
 def stamps_of(files: list[tuple[str, int, int]]) -> str:
@@ -96,7 +98,8 @@ def sum_of(files: list[tuple[str, int, int]]) -> str:
 
 
 def is_of(kept: Kept, name: str, files: list[tuple[str, int, int]], head: str = "") -> bool:
-    """Whether these are the sources that a program is made of, by what was kept under a name; `head` is the program's own stamp."""
+    """Whether these are the sources that a program is made of, by what was kept under a name; `head` is the program's
+    own stamp."""
     stamps = head + stamps_of(files)
     if kept.stamps != stamps:
         kept.verdict = "current" if kept.sources == sum_of(files) else "stale"
@@ -145,7 +148,8 @@ def build(say) -> None:
         if quick_is_current():
             return
         log = pathlib.Path(FOLDER, "log")
-        say(f"building the program without proof, some six minutes (two to eighteen were seen); the tools' words go to {log}")
+        say("building the program without proof, some six minutes (two to eighteen were seen); the tools' words go "
+            f"to {log}")
         files = sources(MADE_OF)
         made_of = sum_of(files)
         try:
@@ -168,12 +172,14 @@ def choose(wants_proved: bool, may_build: bool, say) -> str:
     if proved_is_current():
         return PROVED
     if wants_proved:
-        stale = "the sources are newer than the proved program" if is_program(PROVED) else "there is no proved program here"
+        stale = (
+            "the sources are newer than the proved program" if is_program(PROVED) else "there is no proved program here"
+        )
         raise Stop(f"{stale}: `rt ci` in {TOP} proves and builds it")
     if not quick_is_current():
         if (is_program(PROVED) or is_program(QUICK)) and not may_build:
-            raise Stop(f"the sources have changed since the program was built: `rt ci` in {TOP} proves and builds it anew "
-                       "(hours at worst), `lizdrog --build` builds it without proof (minutes); nothing was run")
+            raise Stop(f"the sources have changed since the program was built: `rt ci` in {TOP} proves and builds it "
+                       "anew (hours at worst), `lizdrog --build` builds it without proof (minutes); nothing was run")
         build(say)
     return QUICK
 

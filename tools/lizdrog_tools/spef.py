@@ -6,8 +6,8 @@ import re
 from lizdrog_tools.files import TextFault, parsed
 
 SPEF_TOKEN = re.compile(r'//[^\n]*|/\*.*?\*/|"[^"]*"|(\S+)', re.S)
-SECTIONS = {"*NAME_MAP", "*PORTS", "*PHYSICAL_PORTS", "*POWER_NETS", "*GROUND_NETS", "*D_NET", "*R_NET", "*D_PNET", "*R_PNET",
-            "*DEFINE", "*PDEFINE", "*VARIATION_PARAMETERS"}
+SECTIONS = {"*NAME_MAP", "*PORTS", "*PHYSICAL_PORTS", "*POWER_NETS", "*GROUND_NETS", "*D_NET", "*R_NET", "*D_PNET",
+            "*R_PNET", "*DEFINE", "*PDEFINE", "*VARIATION_PARAMETERS"}
 PASSED_OVER = {"*PORTS", "*PHYSICAL_PORTS", "*POWER_NETS", "*GROUND_NETS"}
 PARTS = {"*CONN", "*CAP", "*RES", "*END", "*INDUC"}
 ATTRIBUTES = {"*C", "*L", "*S", "*D"}
@@ -34,16 +34,22 @@ class SpefNet:
         return {node for row in self.ress for node in row[:2]}
 
     def misshape(self) -> str | None:
-        """Why the resistors cannot be a tree, as far as counts tell; none where they may be one, or where there are none."""
+        """Why the resistors cannot be a tree, as far as counts tell; none where they may be one, or where there are
+        none."""
         count, ends = len(self.ress), self.ends()
         bare = self.nodes() - ends
         if not count:
             return None
         if bare:
-            return f"{'no resistor ends at the node' if len(bare) == 1 else 'no resistors end at the nodes'} {', '.join(sorted(bare)[:6])}"
+            said = "no resistor ends at the node" if len(bare) == 1 else "no resistors end at the nodes"
+            return f"{said} {', '.join(sorted(bare)[:6])}"
         if count >= len(ends):
             return f"{count} resistors join {len(ends)} nodes, so there is a loop of resistors"
-        return f"{count} resistors cannot join {len(ends)} nodes, so some are not reached from the driver" if count < len(ends) - 1 else None
+        return (
+            f"{count} resistors cannot join {len(ends)} nodes, so some are not reached from the driver"
+            if count < len(ends) - 1
+            else None
+        )
 
 
 class Spef:
@@ -77,7 +83,8 @@ class Spef:
             self.at += 1
         elif section in PASSED_OVER:
             self.passed_over[section] = self.passed_over.get(section, 0) + 1
-            if word not in ATTRIBUTES and word.startswith("*") and not all(map(REFERENCE.fullmatch, word.rsplit(self.delimiter, 1))):
+            if word not in ATTRIBUTES and word.startswith("*") and not all(map(REFERENCE.fullmatch,
+                                                                               word.rsplit(self.delimiter, 1))):
                 self.odd_words.append((word, offset, section))
         elif section is None:
             self.header(word)
@@ -121,7 +128,11 @@ class Spef:
         if not mark or not before:
             return self.name(word)
         name = self.name(before)
-        return f"#{behind.lstrip('0') or 0}" if name == net and re.fullmatch("[0-9]+", behind) else f"{name}:{self.spelled(behind)}"
+        return (
+            f"#{behind.lstrip('0') or 0}"
+            if name == net and re.fullmatch("[0-9]+", behind)
+            else f"{name}:{self.spelled(behind)}"
+        )
 
     def value(self, word, unit):
         """A number or triplet times its unit, rounded to the nearest, halves upward; 0 where it is none."""
@@ -146,7 +157,8 @@ class Spef:
                 self.row(net, part)
         self.at += self.word() == "*END"
         own = {*net.pins, *(it for row in net.ress for it in row[:2])}
-        net.caps = [(next((it for it in nodes if it in own or it.startswith("#")), nodes[0]), value) for nodes, value in net.caps]
+        net.caps = [(next((it for it in nodes if it in own or it.startswith("#")), nodes[0]), value) for nodes,
+                    value in net.caps]
 
     def row(self, net, part):
         """One row of a part of a net."""
@@ -155,7 +167,8 @@ class Spef:
                 net.pins.append(self.node(self.word(1), net.name))
             self.at += 1
         elif part == "*RES":
-            net.ress.append((self.node(self.word(1), net.name), self.node(self.word(2), net.name), self.value(self.word(3), self.res_unit)))
+            net.ress.append((self.node(self.word(1), net.name), self.node(self.word(2), net.name),
+                             self.value(self.word(3), self.res_unit)))
             self.at += 4
         elif part == "*CAP":
             two = not SPEF_VALUE.fullmatch(self.word(2))

@@ -5,7 +5,9 @@ import re
 
 from lizdrog_tools.files import TextFault, line_of, parsed
 
-VERILOG_TOKEN = re.compile(r"//[^\n]*|/\*.*?\*/|\(\*(?!\)).*?\*\)|^`[^\n]*|\\(\S+)|([A-Za-z_][\w$]*)|(\d+'\w+)|(\d+)|([^\s\w])", re.S | re.M)
+VERILOG_TOKEN = re.compile(
+    r"//[^\n]*|/\*.*?\*/|\(\*(?!\)).*?\*\)|^`[^\n]*|\\(\S+)|([A-Za-z_][\w$]*)|(\d+'\w+)|(\d+)|([^\s\w])", re.S | re.M
+)
 
 
 IDENTIFIER = 2
@@ -32,7 +34,8 @@ class Netlist:
     def __init__(self, text):
         self.text, self.name = text, ""
         self.ports, self.instances, self.declared = {}, {}, {}
-        self.tokens = [(it.lastindex, it.group(it.lastindex), it.start()) for it in VERILOG_TOKEN.finditer(text) if it.lastindex]
+        self.tokens = [(it.lastindex, it.group(it.lastindex), it.start()) for it in VERILOG_TOKEN.finditer(text)
+                       if it.lastindex]
         self.place = 0
         self.module()
 
@@ -72,7 +75,13 @@ class Netlist:
             if self.look() in ("input", "output") and end == ")":
                 break
             sort, word, offset = self.take()
-            if word == "[" and sort == 5 and self.look(1) == ":" and BIT.fullmatch(self.look()) and BIT.fullmatch(self.look(2)):
+            if (
+                word == "["
+                and sort == 5
+                and self.look(1) == ":"
+                and BIT.fullmatch(self.look())
+                and BIT.fullmatch(self.look(2))
+            ):
                 span = bits_of(int(self.look()), int(self.look(2)))
                 self.place += 4
             elif sort in (1, 2) and word != "wire":
@@ -166,7 +175,8 @@ def parse_netlist(text: str) -> Netlist:
         _, name, offset = netlist.tokens[min(modules[1] + 1, len(netlist.tokens) - 1)]
         raise TextFault(line_of(text, offset), f"a second module, {name}: {FLATTEN}")
     if not any(sort == IDENTIFIER and word == "endmodule" for sort, word, _ in netlist.tokens):
-        raise TextFault(line_of(text, len(text)), f"the module {netlist.name} has no endmodule: the netlist is cut short")
+        raise TextFault(line_of(text, len(text)),
+                        f"the module {netlist.name} has no endmodule: the netlist is cut short")
     return netlist
 
 

@@ -9,12 +9,15 @@ from lizdrog_tools.places import BENCH, DEV, TOOLS, TOP, find_program  # noqa: F
 
 GIVEN = os.environ.get("LIZDROG_TEST_PROGRAM")
 PROGRAM = pathlib.Path(GIVEN) if GIVEN else find_program()
-needs_program = unittest.skipUnless(PROGRAM, "no program stands here: the gate builds it, and dev/quick_build.py builds one without proof")
+needs_program = unittest.skipUnless(PROGRAM,
+                                    "no program stands here: the gate builds it, and dev/quick_build.py builds one "
+                                    "without proof")
 
 
 def run(*words, cwd=None, **how):
     """Runs a command and gives its status, its output and its errors."""
-    ran = subprocess.run([str(it) for it in words], cwd=cwd, stdin=subprocess.DEVNULL, capture_output=True, text=True, check=False, **how)
+    ran = subprocess.run([str(it) for it in words], cwd=cwd, stdin=subprocess.DEVNULL, capture_output=True, text=True,
+                         check=False, **how)
     return ran.returncode, ran.stdout, ran.stderr
 
 
@@ -90,8 +93,10 @@ report_wns hold
 
 def write_documents(folder, **changed):
     """Writes the small documents into a folder; gives the words of a run on them."""
-    texts = {"early": LIBRARY, "late": LIBRARY, "netlist": NETLIST, "sdc": CONSTRAINTS, "spef": SPEF, "script": SCRIPT, **changed}
-    ends = {"early": "early.lib", "late": "late.lib", "netlist": "top.v", "sdc": "top.sdc", "spef": "top.spef", "script": "s.eco"}
+    texts = {"early": LIBRARY, "late": LIBRARY, "netlist": NETLIST, "sdc": CONSTRAINTS, "spef": SPEF, "script": SCRIPT,
+             **changed}
+    ends = {"early": "early.lib", "late": "late.lib", "netlist": "top.v", "sdc": "top.sdc", "spef": "top.spef",
+            "script": "s.eco"}
     for role, text in texts.items():
         pathlib.Path(folder, ends[role]).write_bytes(text.encode("latin-1"))
     return ["run", "early.lib", "late.lib", "top.v", "top.sdc", "top.spef", "1", "s.eco"]

@@ -1,8 +1,9 @@
 #!/usr/bin/env python3
 """Runs the tests of the tools: tools/tests/run.py [-v] [--program FILE] [WORD ..]
 
-They need no proof and take some two minutes. Tests that need the program take FILE, or the one that the gate has built, else one built
-without proof (dev/quick_build.py), and else are skipped; the last line says how many. WORD takes only tests with it in their name.
+They need no proof and take some two minutes. Tests that need the program take FILE, or the one that the gate has built,
+else one built without proof (dev/quick_build.py), and else are skipped; the last line says how many. WORD takes only
+tests with it in their name.
 """
 import argparse
 import os
@@ -29,7 +30,8 @@ def main():
     for reason in sorted({reason for _, reason in ran.skipped}):
         print(f"tools: skipped: {reason}")
     failed = len(ran.failures) + len(ran.errors)
-    print(f"tools: {ran.testsRun - failed - len(ran.skipped)} tests passed, {failed} failed, {len(ran.skipped)} skipped")
+    print(f"tools: {ran.testsRun - failed - len(ran.skipped)} tests passed, {failed} failed, {len(ran.skipped)} "
+          "skipped")
     return 1 if failed or not ran.testsRun else 0
 
 

@@ -47,7 +47,9 @@ fn plain(count: u64) -> u64 {
 }
 """
 # A process that is taken for a prover: its first word ends so, and it runs in a crate of a repository.
-PROVER = "import sys, time\nuntil = time.process_time() + 0.3\nwhile time.process_time() < until: pass\ntime.sleep(60)\n"
+PROVER = (
+    "import sys, time\nuntil = time.process_time() + 0.3\nwhile time.process_time() < until: pass\ntime.sleep(60)\n"
+)
 
 
 class Seconds(unittest.TestCase):
@@ -75,7 +77,8 @@ class Seconds(unittest.TestCase):
 
     def test_a_chain_goes_by_what_crates_use(self):
         uses = {"a": [], "b": ["a"], "c": ["a"], "d": ["b", "c", "smallvec"]}
-        self.assertEqual(gate_seconds.longest_chain({"a": 1.0, "b": 5.0, "c": 2.0, "d": 1.0}, uses), (7.0, ["a", "b", "d"]))
+        self.assertEqual(gate_seconds.longest_chain({"a": 1.0, "b": 5.0, "c": 2.0, "d": 1.0}, uses),
+                         (7.0, ["a", "b", "d"]))
 
     def test_a_prover_is_watched_until_the_watch_is_ended(self):
         crate = self.folder / "repository" / "crates" / "sta_units"
@@ -100,10 +103,12 @@ class Seconds(unittest.TestCase):
 
 class Exits(unittest.TestCase):
     def test_drops(self):
-        found = {name: exits.drops_of(name, parameters, body, first) for name, parameters, body, first in exits.functions_of(SOURCE)}
+        found = {name: exits.drops_of(name, parameters, body, first) for name, parameters, body,
+                 first in exits.functions_of(SOURCE)}
         store = found["store"]
         self.assertEqual(store.exits, 3)
-        self.assertEqual(store.at_exits, [(5, ["names"]), (6, ["names", "table"]), (9, ["names", "table", "spare", "inner"])])
+        self.assertEqual(store.at_exits, [(5, ["names"]), (6, ["names", "table"]),
+                                          (9, ["names", "table", "spare", "inner"])])
         self.assertEqual([name for _, name in store.at_ends], ["inner", "spare"])
         self.assertEqual(store.arms, [(13, "Err(_) => Err(Memory),")])
         self.assertEqual(found["plain"].count(), 0)

@@ -52,7 +52,8 @@ class Files(unittest.TestCase):
                 self.assertEqual(self.run_all(end), plain)
 
     def test_damaged_packs(self):
-        for data, sort in ((gzip.compress(b"x" * 100)[:-9], "gzip"), (lzma.compress(b"x" * 100)[:40], "xz"), (b"\x1f\x8b\x07", "gzip")):
+        for data, sort in ((gzip.compress(b"x" * 100)[:-9], "gzip"), (lzma.compress(b"x" * 100)[:40], "xz"),
+                           (b"\x1f\x8b\x07", "gzip")):
             (self.folder / "top.v").write_bytes(data)
             status, out, err = common.tool("endpoint_questions", "late.lib", "top.v", cwd=self.folder)
             self.assertEqual((status, out), (2, ""))
@@ -112,7 +113,8 @@ class Files(unittest.TestCase):
         words = ("s.eco", "out", "--netlist", "top.v", "--library", "late.lib")
         status, _, err = common.tool("read_answers", *words, "--json", cwd=self.folder)
         self.assertEqual((status, err), (0, ""))
-        (self.folder / "out").write_text(OUTPUT.replace("repower_gate g1", "repower_gate g7").replace("3 0 path", "3 2 path"))
+        (self.folder / "out").write_text(OUTPUT.replace("repower_gate g1", "repower_gate g7").replace("3 0 path",
+                                                                                                      "3 2 path"))
         status, out, err = common.tool("read_answers", *words, cwd=self.folder)
         self.assertEqual(status, 2, out)
         self.assertIn("names what neither the netlist nor the library has", err)

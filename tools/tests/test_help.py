@@ -1,4 +1,5 @@
-"""What `lizdrog --help` says of the commands of scripts: the page has the same ones, and the program takes each example."""
+"""What `lizdrog --help` says of the commands of scripts: the page has the same ones, and the program takes each
+example."""
 import pathlib
 import re
 import shutil
@@ -37,8 +38,9 @@ class Help(unittest.TestCase):
 
     def test_which_help_is_asked(self):
         asked = command_line.asked_help
-        for words, command in ((["--help"], ""), (["-h"], ""), (["help"], ""), (["help", "run"], "run"), (["run", "-h"], "run"),
-                               (["generate", "--help"], "generate"), (["run", "help"], None), ([], None)):
+        for words, command in ((["--help"], ""), (["-h"], ""), (["help"], ""), (["help", "run"], "run"),
+                               (["run", "-h"], "run"), (["generate", "--help"], "generate"), (["run", "help"], None),
+                               ([], None)):
             self.assertEqual(asked(words), command, words)
 
 
