@@ -37,7 +37,7 @@ def why_not_applied(edit):
 
 class Documents(unittest.TestCase):
     def test_readme_is_short(self):
-        self.assertLessEqual(len((common.TOP / "README.md").read_text().splitlines()), 120)
+        self.assertLessEqual(len((common.TOP / "README.md").read_text().splitlines()), 100)
 
     def test_links_lead_somewhere(self):
         for page in [common.TOP / "README.md", *DOCS.glob("*.md"), common.TOP / "examples" / "README.md"]:
