@@ -1,17 +1,25 @@
 """The documents: what they name is there."""
 import pathlib
 import re
+import sys
 import unittest
 
 import common
 
 CRATES, DOCS, EDITS = common.TOP / "crates", common.TOP / "docs", common.TOP / "bench" / "must-fail"
+PAGES = [it for it in [common.TOP / "README.md", common.TOP / "CHANGELOG.md", *DOCS.glob("*.md"), *common.TOP.glob("examples/**/README.md")] if it.exists()]
+TRIED = "## Where each crate is tried"
 
 
 def index_rows():
-    text = (DOCS / "DEFINITIONS.md").read_text()
-    rows = re.findall(r"^\| (.*) \|$", text[text.index("## Index"):], re.M)
+    text = (DOCS / "RULES.md").read_text()
+    rows = re.findall(r"^\| (.*) \|$", text[:text.index(TRIED)], re.M)
     return [row.split(" | ") for row in rows if not row.startswith("Rule | ")]
+
+
+def crate_file(name):
+    """The file of a crate that a page names: CRATE/src/FILE.rt, or CRATE/specs/FILE without its ending."""
+    return CRATES / (name if name.endswith(".rt") else f"{name}.antt")
 
 
 def why_not_applied(edit):
@@ -39,11 +47,30 @@ class Documents(unittest.TestCase):
     def test_readme_is_short(self):
         self.assertLessEqual(len((common.TOP / "README.md").read_text().splitlines()), 100)
 
+    def test_pages_are_of_their_size(self):
+        self.assertEqual(common.run(sys.executable, common.TOP / "dev" / "page_sizes.py", "--check")[0], 0)
+
     def test_links_lead_somewhere(self):
-        for page in [common.TOP / "README.md", *DOCS.glob("*.md"), common.TOP / "examples" / "README.md"]:
-            for name in re.findall(r"`((?:docs|tools|bench|examples)/[\w./-]+|[A-Z]{4,}\.md)`", page.read_text()):
+        for page in PAGES:
+            text = page.read_text()
+            for name in re.findall(r"`((?:docs|tools|dev|bench|examples)/[\w./-]+|[A-Z]{4,}\.md)`", text):
                 places = [common.TOP / name, DOCS / name, page.parent / name]
                 self.assertTrue(any(it.exists() for it in places), f"{page.name} names {name}")
+        for page in [*PAGES, *(DOCS / "log").glob("*.md")]:
+            for name in re.findall(r"\]\(([^)#:]+)[^)]*\)", page.read_text()):
+                self.assertTrue((page.parent / name).exists(), f"{page.name} has a link to {name}")
+
+    def test_files_of_crates_are_there(self):
+        for page in PAGES:
+            for name in re.findall(r"`(?:crates/)?(\w+/(?:src/[\w/]+\.rt|specs/\w+))(?:\.antt)?`", page.read_text()):
+                self.assertTrue(crate_file(name).is_file(), f"{page.name} names {name}")
+
+    def test_commands_are_there(self):
+        """Programs that blocks of commands start: those of this repository are files."""
+        for page in PAGES:
+            for block in re.findall(r"^```\n(.*?)^```", page.read_text(), re.S | re.M):
+                for name in re.findall(r"(?m)^(?:\.\./)*(?:\./)?((?:tools|dev|bench)/[\w/]+\.(?:py|sh))", block):
+                    self.assertTrue((common.TOP / name).is_file(), f"{page.name} starts {name}")
 
     def test_definitions_of_the_index_are_there(self):
         for row in index_rows():
@@ -65,7 +92,7 @@ class Documents(unittest.TestCase):
                  if not (CRATES / name if "/" in name else CRATES / "shell_tests" / "src" / "examples" / name).exists()]
         if gone:
             # A test may move at any time, and what the page says of it is no reason to refuse the change.
-            self.skipTest(f"the index of docs/DEFINITIONS.md names tests that are gone: {'; '.join(gone)}")
+            self.skipTest(f"the index of docs/RULES.md names tests that are gone: {'; '.join(gone)}")
 
     def test_code_and_edits_of_the_index_are_there(self):
         gone = []
@@ -81,14 +108,13 @@ class Documents(unittest.TestCase):
             gone += [] if code & {CRATES / crate / name for name in changed} else [f"{row[0]}: {crate}/{edit} changes none of its code"]
         if gone:
             # As above: code may be cut anew at any time.
-            self.skipTest(f"the index of docs/DEFINITIONS.md names code or edits that are gone: {'; '.join(gone)}")
+            self.skipTest(f"the index of docs/RULES.md names code or edits that are gone: {'; '.join(gone)}")
 
     def test_each_crate_is_tried_where_the_map_says(self):
-        text = (DOCS / "ARCHITECTURE.md").read_text()
-        text = text[text.index("## Where each crate is tried"):text.index("## Around the program")]
-        rows = [row.split(" | ") for row in re.findall(r"^\| (`.*) \|$", text, re.M)]
-        crates = [line.partition(":")[0] for line in (common.TOP / "crates.txt").read_text().splitlines() if not line.startswith("#")]
-        crates = [crate for crate in crates if not re.fullmatch(r"(base|engine|reader|shell|gate)_tests", crate)]
+        text = (DOCS / "RULES.md").read_text()
+        rows = [row.split(" | ") for row in re.findall(r"^\| (`.*) \|$", text[text.index(TRIED):], re.M)]
+        text = (common.TOP / "crates.txt").read_text()
+        crates = re.findall(r"(?m)^(\w+):", text[:text.index("\n# tests\n")])
         gone = [] if [row[0].strip("`") for row in rows] == crates else ["its crates are not those of crates.txt, in their order"]
         for crate, *tests, edit in rows:
             for file, name in re.findall(r"`([\w/]+\.rt)` `(\w+)`", " ".join(tests)):
@@ -99,7 +125,7 @@ class Documents(unittest.TestCase):
                 gone += [] if (place / f"{name}.edit").is_file() else [f"{crate}: {name}"]
         if gone:
             # As above.
-            self.skipTest(f"docs/ARCHITECTURE.md does not say where each crate is tried: {'; '.join(gone)}")
+            self.skipTest(f"docs/RULES.md does not say where each crate is tried: {'; '.join(gone)}")
 
     def test_edits_that_must_be_refused_apply(self):
         edits = [*CRATES.glob("*/must-fail/*"), *EDITS.glob("*/*")]
