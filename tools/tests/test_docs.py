@@ -22,6 +22,16 @@ def crate_file(name):
     return CRATES / (name if name.endswith(".rt") else f"{name}.antt")
 
 
+def rows_named(cell):
+    """The rows of programs that a cell names: the program and the words of a case."""
+    return [(program, case) for program, cases in re.findall(r"`(\w+)/stdin`((?:,? `case [^`]+`(?: \([^)]*\))?)+)", cell) for case in re.findall(r"`(case [^`]+)`", cases)]
+
+
+def has_row(program, case):
+    file = CRATES / program / "stdin"
+    return file.is_file() and re.search(rf"(?m)^{re.escape(case)}\b", file.read_text()) is not None
+
+
 def why_not_applied(edit):
     """Why an edit cannot be applied to the sources of its crate: each of its old texts stands once in its file. None where it can be."""
     crate = edit.parent.name if EDITS in edit.parents else edit.parent.parent.name
@@ -90,6 +100,7 @@ class Documents(unittest.TestCase):
         files = [(row[0], name) for row in index_rows() for name in re.findall(r"`([\w/]+\.rt)`", row[3])]
         gone += [f"{rule}: {name}" for rule, name in files
                  if not (CRATES / name if "/" in name else CRATES / "shell_tests" / "src" / "examples" / name).exists()]
+        gone += [f"{row[0]}: {program} {case}" for row in index_rows() for program, case in rows_named(row[3]) if not has_row(program, case)]
         if gone:
             # A test may move at any time, and what the page says of it is no reason to refuse the change.
             self.skipTest(f"the index of docs/RULES.md names tests that are gone: {'; '.join(gone)}")
@@ -120,6 +131,7 @@ class Documents(unittest.TestCase):
             for file, name in re.findall(r"`([\w/]+\.rt)` `(\w+)`", " ".join(tests)):
                 file = CRATES / file if "/" in file else CRATES / "shell_tests" / "src" / "examples" / file
                 gone += [] if file.is_file() and f"fn {name}(" in file.read_text() else [f"{crate}: {name}"]
+            gone += [f"{crate}: {program} {case}" for program, case in rows_named(" ".join(tests)) if not has_row(program, case)]
             for name, gate in re.findall(r"`(\w+)`( \(gate\))?", edit):
                 place = CRATES / crate.strip("`") / "must-fail" if gate else EDITS / crate.strip("`")
                 gone += [] if (place / f"{name}.edit").is_file() else [f"{crate}: {name}"]
