@@ -59,7 +59,7 @@ def sentences(text):
     found = []
     for line in paragraphs(text):
         line = re.sub(r"`[^`]*`", lambda it: it.group().replace(" ", "_"), line)
-        found += [it for it in re.split(r"(?<=[^.][.!?])[*)\"]* (?=[*(\"`A-Z0-9])|(?<=[.!?][)\"]) ", line) if it.strip(" *")]
+        found += [it for it in re.split(r"(?<=[^.][.!?])[*)\"]* (?=[*(\[\"`A-Z0-9])|(?<=[.!?][)\"]) ", line) if it.strip(" *")]
     return found
 
 

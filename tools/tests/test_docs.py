@@ -12,8 +12,7 @@ TRIED = "## Where each crate is tried"
 
 
 def index_rows():
-    text = (DOCS / "RULES.md").read_text()
-    rows = re.findall(r"^\| (.*) \|$", text[:text.index(TRIED)], re.M)
+    rows = re.findall(r"^\| (.*) \|$", (DOCS / "RULES.md").read_text(), re.M)
     return [row.split(" | ") for row in rows if not row.startswith("Rule | ")]
 
 
@@ -122,7 +121,7 @@ class Documents(unittest.TestCase):
             self.skipTest(f"the index of docs/RULES.md names code or edits that are gone: {'; '.join(gone)}")
 
     def test_each_crate_is_tried_where_the_map_says(self):
-        text = (DOCS / "RULES.md").read_text()
+        text = (DOCS / "TESTS.md").read_text()
         rows = [row.split(" | ") for row in re.findall(r"^\| (`.*) \|$", text[text.index(TRIED):], re.M)]
         text = (common.TOP / "crates.txt").read_text()
         crates = re.findall(r"(?m)^(\w+):", text[:text.index("\n# tests\n")])
@@ -137,7 +136,7 @@ class Documents(unittest.TestCase):
                 gone += [] if (place / f"{name}.edit").is_file() else [f"{crate}: {name}"]
         if gone:
             # As above.
-            self.skipTest(f"docs/RULES.md does not say where each crate is tried: {'; '.join(gone)}")
+            self.skipTest(f"docs/TESTS.md does not say where each crate is tried: {'; '.join(gone)}")
 
     def test_edits_that_must_be_refused_apply(self):
         edits = [*CRATES.glob("*/must-fail/*"), *EDITS.glob("*/*")]
