@@ -26,7 +26,7 @@ import tempfile
 import threading
 import time
 
-import trials
+from lizdrog_dev import trials
 
 LIMIT = 67108864
 NOBODY = 65534

@@ -1,4 +1,5 @@
 """The documents: what they name is there."""
+import os
 import pathlib
 import re
 import sys
@@ -80,6 +81,14 @@ class Documents(unittest.TestCase):
             for block in re.findall(r"^```\n(.*?)^```", page.read_text(), re.S | re.M):
                 for name in re.findall(r"(?m)^(?:\.\./)*(?:\./)?((?:tools|dev|bench)/[\w/]+\.(?:py|sh))", block):
                     self.assertTrue((common.TOP / name).is_file(), f"{page.name} starts {name}")
+
+    def test_no_links(self):
+        """`rt ci` refuses the repository where a link is in it."""
+        links = []
+        for folder, folders, names in os.walk(common.TOP):
+            folders[:] = [it for it in folders if it not in (".git", "out")]
+            links += [f"{folder}/{it}" for it in [*folders, *names] if os.path.islink(f"{folder}/{it}")]
+        self.assertEqual(links, [])
 
     def test_definitions_of_the_index_are_there(self):
         for row in index_rows():

@@ -22,8 +22,9 @@ class Pages(unittest.TestCase):
     def setUp(self):
         self.top = pathlib.Path(tempfile.mkdtemp())
         self.addCleanup(shutil.rmtree, self.top)
-        for name in ("examples", "tools", "docs", "bench"):
-            shutil.copytree(common.TOP / name, self.top / name, ignore=shutil.ignore_patterns("__pycache__", "*.lib.gz", "*.out", "must-fail"))
+        for name in ("examples", "tools", "dev", "docs", "bench"):
+            left_out = shutil.ignore_patterns("__pycache__", "*.lib.gz", "*.out", "must-fail")
+            shutil.copytree(common.TOP / name, self.top / name, ignore=left_out)
         (self.top / "lizdrog").write_text(f'#!/bin/sh\nexec "{common.PROGRAM}" "$@"\n')
         (self.top / "lizdrog").chmod(0o755)
 
