@@ -66,7 +66,8 @@ For example `lizdrog install ~/.local`. The copy needs Python 3.11 and bash, no 
 TEST = """  lizdrog test [--proved] [--quick]
 
 It builds the program without proof where there is none, and tries the examples, the tools, and 200 random scripts against a plain timer,
-within ten minutes. Its last line is `N passed, M failed`. --proved takes the program that the gate proved, --quick 20 scripts."""
+within ten minutes on two processors. Its last line is `N passed, M failed`. --proved takes the program that the gate proved, and
+runs the rows that the gate built; --quick takes 20 scripts."""
 
 
 def table(title: str, rows: list[tuple[str, str, str]]) -> str:

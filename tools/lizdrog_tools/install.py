@@ -50,7 +50,7 @@ def link_command(prefix: pathlib.Path, home: pathlib.Path) -> pathlib.Path:
     return command
 
 
-def main(words: list[str], say: Callable[[str], None]) -> int:
+def main(words: list[str], wants_proved: bool, say: Callable[[str], None]) -> int:
     """Installs into the folder that is named; gives the status."""
     if len(words) != 1 or words[0].startswith("-"):
         print(INSTALL)
@@ -64,7 +64,7 @@ def main(words: list[str], say: Callable[[str], None]) -> int:
     if home.exists() and not (home / "program" / "about").is_file():
         say(f"{home} is there and is no installed copy of Lizdrog: nothing was changed")
         return WRONG_WORDS
-    program = programs.choose(False, False, say)
+    program = programs.choose(wants_proved, False, say)
     try:
         copy_to(home, program)
         command = link_command(prefix, home)

@@ -107,26 +107,21 @@ def serve(given: dict, words: list[str]) -> int:
     return status
 
 
-def other_command(words: list[str]) -> int | None:
-    """Does what is asked of the scripts and not of the program; none where nothing of that is asked."""
+def answer(words: list[str]) -> int:
+    """The status of a call with these words."""
     asked = command_line.asked_help(words)
     if asked is not None:
         from lizdrog_tools import help_text
         return 0 if write_all(help_text.of(asked).encode() + b"\n") else 5
-    if words[:1] == ["install"]:
-        from lizdrog_tools import install
-        return install.main(words[1:], say)
-    return None
-
-
-def answer(words: list[str]) -> int:
-    """The status of a call with these words."""
-    status = other_command(words)
-    if status is not None:
-        return status
     given, words = command_line.options_of(words)
     if words == [] and given["version"]:
         return 0 if write_all("\n".join([*programs.version(), ""]).encode()) else 5
+    if words and words[0] == "install":
+        from lizdrog_tools import install
+        return install.main(words[1:], given["proved"], say)
+    if words and words[0] == "test":
+        from lizdrog_tools import try_clone
+        return try_clone.main(words[1:], given["proved"], say)
     why = "" if words == [] and given["build"] else command_line.misfit(words) if words is not None else "there is no such option"
     if why:
         written = write_all(b"fault words\n")
