@@ -1,188 +1,238 @@
-"""What the gate costs: processor seconds by crate, and by function.
+"""What the gate costs: processor seconds by crate, by proof, tests and edits, and the longest chain of crates.
 
-    dev/gate_seconds.py [--out FILE]             beside `rt ci` in this repository: samples the provers until none is left
-                                                   for five minutes (or Ctrl-C), then prints the table; FILE keeps one line
-                                                   for each check: crate, proof | tests | edit, processor s, wall s, MB
-    dev/gate_seconds.py --table FILE             prints the table of such a file again
-    dev/gate_seconds.py --functions CRATE..      proves these crates from nothing over the libraries below them (which
-                                                   stand after `rt check` or `rt lib` there) and prints each function above
-                                                   --above seconds (20), the sum, and what comes before the first function
+    dev/gate_seconds.py [--out FILE] [--under FOLDER]   beside `rt ci` in this repository (`.ci/run` starts it so): samples the provers
+                                                        until it is ended (SIGTERM, Ctrl-C) or saw none for five minutes, then prints
+                                                        the summary; FILE has a line for each check: crate, proof | tests | edit,
+                                                        processor s, wall s, MB, when it was first and last seen
+    dev/gate_seconds.py --table FILE                    prints the summary of such a file again
+    dev/gate_seconds.py --functions CRATE..             proves these crates from nothing over the built libraries below them (which are
+                                                        there after `rt check` or `rt lib`), and prints each function above --above
+                                                        seconds (20), the sum, and what comes before the first function
 
-A check's seconds are its own process's clock, so other work on the machine hardly matters. The prover may be in a
-caller's walk before it ends with a callee: a small function with many seconds mostly carries those of its caller."""
+The summary is a table for a page, and below it what is dearer than it shall be: a crate whose proof takes more than its budget (150 s;
+readers 250 s, crates of tests and of rows 300 s), and a function above 8 s, where --log names logs that tell it, as fn_seconds.py
+writes them. A check's seconds are its own process's clock, so other work on the machine hardly matters. The prover may be in a
+caller's walk before it ends with a callee: a small function with many seconds mostly carries those of its caller. --under is for checks
+of copies of the repository, as /tmp/rt-copy- for those of `rt ci CRATE`.
+"""
 import argparse
 import collections
+import dataclasses
 import os
+import pathlib
 import re
-import shutil
-import subprocess
+import signal
 import sys
+import tempfile
 import time
 
-from lizdrog_tools.places import TOP
+from lizdrog_dev import fn_seconds
+from lizdrog_dev.crate_list import uses_of_crates
+from lizdrog_tools.places import CRATES, TOP
 
-TICK = os.sysconf("SC_CLK_TCK")
+KINDS = ("proof", "tests", "edit")
+IDLE_SECONDS = 300
+EVERY_SECONDS = 1
+BUDGET, READER_BUDGET, TEST_BUDGET, FUNCTION_BUDGET = 150, 250, 300, 8
+READERS = ("script_reader", "liberty_syntax", "liberty_cells", "verilog_netlist", "spef_reader", "sdc_reader")
+LOGGED = re.compile(r"^\[ *([\d.]+)\] checked (\S+), \d+ of \d+")
 
 
-def processor_seconds(pid):
-    """Seconds of a process and of its ended children, or none where it is gone."""
+@dataclasses.dataclass
+class Check:
+    """A check of a gate: of which crate and kind, and what it cost until it was last seen."""
+
+    crate: str
+    kind: str
+    seconds: float
+    megabytes: int
+    first: float
+    last: float
+
+    def line(self) -> str:
+        """The check as a line of a file."""
+        first, last = (time.strftime("%H:%M:%S", time.localtime(it)) for it in (self.first, self.last))
+        return f"{self.crate}\t{self.kind}\t{self.seconds:.1f}\t{self.last - self.first:.0f}\t{self.megabytes}\t{first}\t{last}\n"
+
+
+# ------------------------------------------------------------------------------------------------ watching
+
+def words_of_process(pid: int | str) -> list[str]:
+    return pathlib.Path(f"/proc/{pid}/cmdline").read_bytes().decode(errors="replace").split("\0")
+
+
+def is_prover(words: list[str]) -> bool:
+    return words[0].rsplit("/", 1)[-1] == "rattle" and len(words) > 3 and words[1] in ("check", "build")
+
+
+def check_of(pid: str, under: str, now: float, boot: float) -> tuple[float, Check] | None:
+    """The check that a process makes, with when the process began: none for others, and for a prover's own helpers."""
     try:
-        with open(f"/proc/{pid}/stat") as stat:
-            fields = stat.read().rsplit(")", 1)[1].split()
-    except OSError:
-        return None
-    return sum(int(it) for it in fields[11:15]) / TICK
-
-
-def check_of(pid, under):
-    """The crate and kind of a prover's process in a folder under `under`: none for others, and for a prover's own helpers."""
-    try:
-        with open(f"/proc/{pid}/cmdline", "rb") as line:
-            words = line.read().decode(errors="replace").split("\0")
-        if not words[0].endswith("/rattle") or len(words) < 4 or words[1] not in ("check", "build"):
+        words = words_of_process(pid)
+        if not is_prover(words):
             return None
-        with open(f"/proc/{pid}/stat") as stat:
-            fields = stat.read().rsplit(")", 1)[1].split()
-        with open(f"/proc/{fields[1]}/cmdline", "rb") as line:
-            if line.read().split(b"\0")[0].endswith(b"/rattle"):
-                return None
         folder = os.readlink(f"/proc/{pid}/cwd")
-        if not folder.startswith(under):
+        is_edit = "rt-edit-" in folder
+        if not (folder + "/").startswith(under) and not (is_edit and any(f"={under}" in it for it in words)):
             return None
-        with open(f"/proc/{pid}/status") as status:
-            most = int(re.search(r"VmHWM:\s+(\d+)", status.read())[1]) // 1024
+        stat = pathlib.Path(f"/proc/{pid}/stat").read_text(encoding="latin-1").rsplit(")", 1)[1].split()
+        if words_of_process(stat[1])[0].rsplit("/", 1)[-1] == "rattle":
+            return None
+        status = pathlib.Path(f"/proc/{pid}/status").read_text(encoding="latin-1")
+        most = int(re.search(r"VmHWM:\s+(\d+)", status)[1]) // 1024
         crate = words[words.index("--crate-name") + 1]
     except (OSError, IndexError, TypeError, ValueError):
         return None
-    kind = "edit" if "rt-edit-" in folder else "tests" if "--test" in words else "proof"
-    return crate, kind, fields[19], most
+    seconds, began = fn_seconds.processor_seconds(pid), boot + int(stat[19]) / fn_seconds.TICK
+    kind = "edit" if is_edit else "tests" if "--test" in words else "proof"
+    return None if seconds is None else (began, Check(crate, kind, seconds, most, began, now))
 
 
-def watch(out, under):
-    """Samples until no prover was seen for five minutes; the rows by check."""
+def look(seen: dict, under: str, boot: float) -> bool:
+    """Looks at all processes once; whether a prover was among them."""
+    found = False
+    for pid in filter(str.isdecimal, os.listdir("/proc")):
+        made = check_of(pid, under, time.time(), boot)
+        if made is not None:
+            began, seen[pid, made[0]] = made
+            found = True
+    return found
+
+
+def write(out: str | None, checks) -> None:
+    """Writes the checks so far, in one step."""
+    if out:
+        part = pathlib.Path(out + ".new")
+        part.parent.mkdir(parents=True, exist_ok=True)
+        part.write_text("".join(it.line() for it in sorted(checks, key=lambda it: it.first)), encoding="utf-8")
+        os.replace(part, out)
+
+
+def stop(*_) -> None:
+    raise KeyboardInterrupt
+
+
+def watch(out: str | None, under: str) -> list[Check]:
+    """Samples until it is ended, or no prover was seen for five minutes; the checks that were seen."""
     seen, idle = {}, 0.0
+    boot = time.time() - float(pathlib.Path("/proc/uptime").read_text(encoding="ascii").split()[0])
+    signal.signal(signal.SIGTERM, stop)
     try:
-        while idle < 300:
-            found = False
-            for pid in filter(str.isdigit, os.listdir("/proc")):
-                check, spent = check_of(pid, under), processor_seconds(pid)
-                if check is None or spent is None:
-                    continue
-                found = True
-                crate, kind, began, most = check
-                first = seen[pid, began][4] if (pid, began) in seen else time.time()
-                seen[pid, began] = (crate, kind, spent, most, first, time.time())
-            keep(out, seen)
-            idle = 0.0 if found else idle + 1
-            time.sleep(1)
+        while idle < IDLE_SECONDS:
+            idle = 0.0 if look(seen, under, boot) else idle + EVERY_SECONDS
+            write(out, seen.values())
+            time.sleep(EVERY_SECONDS)
     except KeyboardInterrupt:
         pass
-    return [(crate, kind, spent) for crate, kind, spent, *_ in seen.values()]
+    write(out, seen.values())
+    return list(seen.values())
 
 
-def keep(out, seen):
-    """Writes the rows so far."""
-    if not out:
-        return
-    with open(out + ".new", "w") as file:
-        for crate, kind, spent, most, first, last in sorted(seen.values(), key=lambda row: row[4]):
-            file.write(f"{crate}\t{kind}\t{spent:.1f}\t{last - first:.0f}\t{most}\n")
-    os.replace(out + ".new", out)
+def read(file: str) -> list[Check]:
+    """The checks of a file."""
+    checks = []
+    for number, line in enumerate(pathlib.Path(file).read_text(encoding="utf-8").splitlines(), 1):
+        cells = line.split("\t")
+        try:
+            crate, kind, seconds, wall, megabytes = cells[0], cells[1], float(cells[2]), float(cells[3]), int(cells[4])
+        except (ValueError, IndexError):
+            sys.exit(f"gate_seconds: {file}:{number}: this is no line of a check: {line[:60]}")
+        checks.append(Check(crate, kind, seconds, megabytes, 0.0, wall))
+    return checks
 
 
-def read(path):
-    with open(path) as file:
-        rows = [line.rstrip("\n").split("\t") for line in file if line.strip()]
-    return [(row[0], row[1], float(row[2])) for row in rows]
+# ------------------------------------------------------------------------------------------------ the summary
 
-
-def print_table(rows):
-    """Seconds by crate and kind, the dearest first, and the sums."""
-    kinds = ("proof", "tests", "edit")
+def sums_of(checks: list[Check]) -> dict[str, collections.Counter]:
+    """The seconds of each crate by kind."""
     sums = collections.defaultdict(collections.Counter)
-    for crate, kind, spent in rows:
-        sums[crate][kind] += spent
-    print(f"{'crate':22}{'proof':>9}{'tests':>9}{'edits':>9}{'sum':>9}   processor seconds")
-    for crate, by in sorted(sums.items(), key=lambda it: -sum(it[1].values())):
-        print(f"{crate:22}" + "".join(f"{by[kind]:9.0f}" for kind in kinds) + f"{sum(by.values()):9.0f}")
-    totals = [sum(by[kind] for by in sums.values()) for kind in kinds]
-    print(f"{'sum':22}" + "".join(f"{it:9.0f}" for it in totals) + f"{sum(totals):9.0f}   = {sum(totals) / 60:.0f} minutes")
+    for it in checks:
+        sums[it.crate][it.kind] += it.seconds
+    return sums
 
 
-def uses_of_crates():
-    found = {}
-    with open(f"{TOP}/crates.txt") as file:
-        for line in file:
-            line = line.split("#")[0].strip()
-            if ":" in line:
-                head, uses = line.split(":", 1)
-                found[head.split()[0]] = uses.split()
-    return found
+def longest_chain(proofs: dict[str, float], uses: dict[str, list[str]]) -> tuple[float, list[str]]:
+    """The dearest chain of crates, each of which waits for the proof of the one before: its seconds, and the crates."""
+    best: dict[str, tuple[float, list[str]]] = {}
+    for crate, below in uses.items():
+        seconds, chain = max((best[it] for it in below if it in best), default=(0.0, []))
+        best[crate] = (seconds + proofs.get(crate, 0.0), [*chain, crate])
+    return max(best.values(), default=(0.0, []))
 
 
-def crates_below(name, uses):
+def budget_of(crate: str) -> int:
+    if crate.endswith(("_tests", "_rows")):
+        return TEST_BUDGET
+    return READER_BUDGET if crate in READERS else BUDGET
+
+
+def functions_of_logs(logs: list[str]) -> list[tuple[float, str]]:
+    """The seconds of each function that a log tells, the dearest first; the first of a crate carries the front end, and is left out."""
     found = []
-    for it in uses[name]:
-        if it in uses:
-            found += [low for low in (*crates_below(it, uses), it) if low not in found]
-    return found
+    for log in logs:
+        last = None
+        for line in pathlib.Path(log).read_text(encoding="utf-8", errors="replace").splitlines():
+            at = LOGGED.match(line)
+            if at:
+                if last is not None:
+                    found.append((float(at[1]) - last, at[2]))
+                last = float(at[1])
+    return sorted(found, reverse=True)
 
 
-def words_of(name, uses, kit):
-    """The prover's words for a crate over the libraries of this repository."""
-    folder = f"{TOP}/crates/{name}"
-    root = "src/main.rt" if os.path.isfile(f"{folder}/src/main.rt") else "src/lib.rt"
-    words = ["--crate-name", name, root]
-    for it in ["std", *(it for it in uses[name] if it not in uses)]:
-        words += ["--extern", f"{it}={kit}/rlibs/{it}.rlib"]
-    words += ["-L", f"dependency={kit}/rlibs"]
-    for it in uses[name]:
-        if it in uses:
-            words += ["--extern", f"{it}={TOP}/crates/{it}/out/rlib/{it}.rlib"]
-    for it in crates_below(name, uses):
-        words += ["-L", f"dependency={TOP}/crates/{it}/out/rlib"]
-    logic = ["--antt-project", f"{kit}/rattle/logic/antt-project.json", "--logic-built", f"{kit}/logic_built"]
-    return [*words, *logic, "--links", f"{name}=", "--jobs", "1", "--progress"]
+def summary(checks: list[Check], logs: list[str] = ()) -> list[str]:
+    """The lines for a page: the table, the sums, the longest chain, and what is dearer than it shall be."""
+    sums = sums_of(checks)
+    lines = ["| Crate | Proof | Tests | Edits | Sum |", "|---|---|---|---|---|"]
+    for crate, by in sorted(sums.items(), key=lambda it: -sum(it[1].values())):
+        lines.append(f"| `{crate}` | " + " | ".join(f"{by[kind]:.0f}" for kind in KINDS) + f" | {sum(by.values()):.0f} |")
+    totals = [sum(by[kind] for by in sums.values()) for kind in KINDS]
+    lines.append("| all | " + " | ".join(f"{it:.0f}" for it in totals) + f" | {sum(totals):.0f} |")
+    proofs = {crate: by["proof"] for crate, by in sums.items()}
+    seconds, chain = longest_chain(proofs, uses_of_crates())
+    proved = [it for it in chain if proofs.get(it)]
+    lines += ["", f"Processor seconds; in all {sum(totals) / 60:.0f} minutes, {max((it.megabytes for it in checks), default=0)} MB at most "
+              "for one check.", f"Longest chain: {seconds:.0f} s: {', '.join(proved) or 'none'}."]
+    for crate, spent in sorted(proofs.items(), key=lambda it: -it[1]):
+        if spent > budget_of(crate):
+            lines.append(f"warning: the proof of {crate} takes {spent:.0f} s, and its budget is {budget_of(crate)} s")
+    lines += [f"warning: the function {name} takes {spent:.1f} s, and {FUNCTION_BUDGET} s is the most for one"
+              for spent, name in functions_of_logs(logs) if spent > FUNCTION_BUDGET]
+    return lines
 
 
-def functions(name, above):
+# ------------------------------------------------------------------------------------------------ functions
+
+def functions(crate: str, above: float) -> bool:
     """Proves a crate from nothing and prints its dear functions; whether it was proved."""
-    uses = uses_of_crates()
-    if name not in uses:
-        sys.exit(f"{name} is no crate of crates.txt")
-    for it in crates_below(name, uses):
-        if not os.path.isdir(f"{TOP}/crates/{it}/out/rlib/{it}.rlib"):
-            sys.exit(f"the library {it} is not built: run `rt check` in crates/{name} first")
-    kit = os.path.dirname(os.path.dirname(os.path.realpath(shutil.which("rt") or sys.exit("there is no rt on the path"))))
-    run = [f"{kit}/bin/rattle", "check", *words_of(name, uses, kit)]
-    ran = subprocess.Popen(run, cwd=f"{TOP}/crates/{name}", stdout=subprocess.PIPE, stderr=subprocess.STDOUT, text=True, errors="replace")
-    rows, last, spent = [], 0.0, 0.0
-    for line in ran.stdout:
-        spent = processor_seconds(ran.pid) or spent
-        at = re.match(r"checked (\S+), \d+ of \d+", line)
-        if at:
-            rows.append((spent - last, at[1]))
-            last = spent
-    _, status, used = os.wait4(ran.pid, 0)
-    total = used.ru_utime + used.ru_stime
-    first = rows[0][0] if rows else total
-    print(f"{name}: {total:.0f} processor s, {len(rows)} functions, {first:.0f} s before the first ended, status {os.waitstatus_to_exitcode(status)}")
-    for seconds, function in sorted(rows[1:], reverse=True):
+    if crate not in uses_of_crates():
+        sys.exit(f"gate_seconds: {crate} is no crate of crates.txt")
+    kit, folder = fn_seconds.kit_folder(), CRATES / crate
+    log = pathlib.Path(tempfile.gettempdir(), f"gate_seconds-{crate}.log")
+    proof = fn_seconds.measure([f"{kit}/bin/rattle", "check", *fn_seconds.words_of(crate, folder, kit)], folder, log)
+    first = proof.functions[0][0] if proof.functions else proof.seconds
+    print(f"{crate}: {proof.seconds:.0f} processor s, {len(proof.functions)} functions, {first:.0f} s before the first ended, "
+          f"status {proof.status}; the log is {log}")
+    for seconds, function in sorted(proof.functions[1:], reverse=True):
         if seconds >= above:
             print(f"{seconds:8.1f}  {function}")
-    return status == 0
+    return proof.status == 0
 
 
 def main():
     parser = argparse.ArgumentParser(description=__doc__, formatter_class=argparse.RawDescriptionHelpFormatter)
     parser.add_argument("--out", metavar="FILE")
-    parser.add_argument("--under", default="/", metavar="FOLDER", help="counts only checks that run under this folder, as /tmp/rt-copy-")
+    parser.add_argument("--under", default=f"{TOP}/", metavar="FOLDER")
     parser.add_argument("--table", metavar="FILE")
+    parser.add_argument("--log", nargs="+", default=[], metavar="LOG")
     parser.add_argument("--functions", nargs="+", metavar="CRATE")
     parser.add_argument("--above", type=float, default=20.0)
     given = parser.parse_args()
-    if given.table and not os.path.isfile(given.table):
-        parser.error(f"there is no file {given.table}")
+    for file in [*([given.table] if given.table else []), *given.log]:
+        if not os.path.isfile(file):
+            parser.error(f"there is no file {file}")
     if given.functions:
-        sys.exit(0 if all([functions(name, given.above) for name in given.functions]) else 1)
-    print_table(read(given.table) if given.table else watch(given.out, given.under))
+        return 0 if all([functions(crate, given.above) for crate in given.functions]) else 1
+    checks = read(given.table) if given.table else watch(given.out, given.under)
+    print("\n".join(summary(checks, given.log)))
+    return 0

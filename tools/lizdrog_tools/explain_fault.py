@@ -9,6 +9,7 @@ import re
 import stat
 import sys
 
+from lizdrog_tools.command_line import without_journal
 from lizdrog_tools.files import line_and_column, raw_text, tool
 from lizdrog_tools.liberty import Group, Library, liberty_tokens, read_groups
 from lizdrog_tools.sdc import pin_word, read_commands
@@ -73,17 +74,6 @@ def caret(line, column):
 # ------------------------------------------------------------------------------------------------ a document's fault
 
 ANEW = ["to go on under the derates of today, run its script (tools/convert_journal.py) once, with --journal and an empty file"]
-
-
-def without_journal(words):
-    """The words of a run without its option, and the name of its saved journal, or none."""
-    options = words[:words.index("--")] if "--" in words else words
-    found = next((at for at, word in enumerate(options) if word == "--journal" or word.startswith("--journal=")), None)
-    if found is None:
-        return words, None
-    if words[found] != "--journal":
-        return words[:found] + words[found + 1:], words[found].split("=", 1)[1]
-    return words[:found] + words[found + 2:], words[found + 1] if found + 1 < len(words) else None
 
 
 def explain_document(role, code, place, words, journal=None):

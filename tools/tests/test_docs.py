@@ -58,7 +58,8 @@ class Documents(unittest.TestCase):
         self.assertLessEqual(len((common.TOP / "README.md").read_text().splitlines()), 100)
 
     def test_pages_are_of_their_size(self):
-        self.assertEqual(common.run(sys.executable, common.TOP / "dev" / "page_sizes.py", "--check")[0], 0)
+        status, out, _ = common.run(sys.executable, common.TOP / "dev" / "page_sizes.py", "--check")
+        self.assertEqual(status, 0, out)
 
     def test_links_lead_somewhere(self):
         for page in PAGES:

@@ -56,7 +56,8 @@ class Audit(unittest.TestCase):
     def test_top_call_rests_on_no_engine(self):
         status, out, _ = script("audit_words", "--words")
         self.assertEqual(status, 0)
-        of, words = groups(), [(line.split()[0], line.split()[-1]) for line in out.splitlines()]
+        of = groups()
+        words = [(line.split()[0], line.split()[-1]) for line in out.splitlines()]
         self.assertGreater(len(words), 1000)
         others = {(crate, name) for crate, name in words if of[crate] not in READ_GROUPS and crate not in READ_CRATES}
         self.assertLessEqual(others, KNOWN_WORDS)
@@ -65,7 +66,8 @@ class Audit(unittest.TestCase):
         self.assertIn(script("audit_words")[1], (DOCS / "GUARANTEE.md").read_text())
 
     def test_clauses_are_listed(self):
-        self.assertIn("serve: ensures ends, kept, rising, shelf_count, completeness", script("clause_names", "shell_session")[1])
+        out = script("clause_names", "shell_session")[1]
+        self.assertIn("serve: ensures ends, kept, rising, shelf_count, completeness", out)
         self.assertEqual(script("clause_names", "no_such_crate")[0], 2)
 
 
