@@ -1,6 +1,6 @@
 """What the hostile trials share: designs, runs of a program with limits, whether an answer is of the documented form, and a table.
 
-The form is that of README.md (statuses), docs/SCRIPTS.md (the output) and docs/FAULTS.md (codes and places). Nothing here looks at what
+The form is that of docs/COMMANDS.md (statuses), docs/SCRIPTS.md (the output) and docs/FAULTS.md (codes and places). Nothing here looks at what
 the program does to learn what it should do.
 """
 import dataclasses
