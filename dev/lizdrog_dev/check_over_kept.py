@@ -18,7 +18,7 @@ import pathlib
 import shutil
 import sys
 
-from lizdrog_tools.places import TOP
+from lizdrog_tools.places import TOP, WORK
 
 KEPT = pathlib.Path("/opt/rattle-kept")
 
@@ -134,7 +134,7 @@ def main():
     kit = pathlib.Path(os.path.realpath(shutil.which("rt"))).parent.parent
     kept = {}
     for crate in below(uses, name):
-        to = TOP / "out" / "kept_libraries" / crate
+        to = WORK / "kept_libraries" / crate
         if crate in as_sources:
             continue
         if clone and built_in(clone, crate):
@@ -143,7 +143,7 @@ def main():
             kept[crate] = to
     check, sources = words_of(kit, uses, name, kept)
     print("sources:", " ".join(sources) or "none", flush=True)
-    memory = TOP / "out" / "kept_libraries" / ("memory-" + name)
+    memory = WORK / "kept_libraries" / ("memory-" + name)
     memory.mkdir(parents=True, exist_ok=True)
     os.chdir(TOP / "crates" / name)
     os.execv(kit / "bin" / "rattle", ["rattle", *check, *flags, "--incremental", str(memory), "--progress"])

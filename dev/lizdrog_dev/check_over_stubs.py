@@ -17,9 +17,9 @@ import sys
 
 from lizdrog_dev import check_over_kept as over
 from lizdrog_dev import try_edits as edits
-from lizdrog_tools.places import TOP
+from lizdrog_tools.places import TOP, WORK
 
-OUT = TOP / "out" / "stubs"
+OUT = WORK / "stubs"
 # Methods of the language's own types go by names that the checker gives them.
 OWN_TYPE = re.compile(r"(?:^|::)[a-z]\w*[A-Z]\w*::\w+$")
 
@@ -70,7 +70,7 @@ def kept_libraries(uses, name, as_sources):
         found = over.newest_kept(crate)
         whole = all(it in kept for it in over.below(uses, crate))
         if found and whole and crate not in as_sources and over.is_of(found, TOP / "crates" / crate, crate):
-            to = TOP / "out" / "kept_libraries" / crate
+            to = WORK / "kept_libraries" / crate
             if over.library(crate, to):
                 kept[crate] = to
     return kept
@@ -133,7 +133,7 @@ def main():
         folder = stub(crate)
         check = [it.replace(f"={TOP}/crates/{crate}/src/lib.rt", f"={folder}/src/lib.rt") for it in check]
     print("without bodies:", " ".join(sources) or "none", flush=True)
-    memory = TOP / "out" / "kept_libraries" / ("stubs-" + name)
+    memory = WORK / "kept_libraries" / ("stubs-" + name)
     memory.mkdir(parents=True, exist_ok=True)
     own = TOP / "crates" / name
     if alone:

@@ -11,7 +11,7 @@ functions whose file, line and path contain WORD.
 --proved leaves that proof out, where `rt ci` has kept it of these very sources; LOG is what that run said. All plants then go into one check beside the
 unchanged calls, and the functions of the crate get proofs that are holes, so that a plant which calls them is checked over their contracts, which is
 all that its proof sees of them (functions that call each other in a ring are proved where they are called). The methods of traits are left out, and
---max counts what does not compile, too. What the checks said is kept in out/plants, and what they checked, so that a run whose minutes were too few
+--max counts what does not compile, too. What the checks said is kept in ~/.cache/lizdrog, and what they checked, so that a run whose minutes were too few
 goes on where it ended when it is begun again.
 
 Printed are the rows of `rt plant` (the plants that pass, and the functions without a clause), and at the end a table: of each crate its functions, the
@@ -36,7 +36,7 @@ import types
 
 from lizdrog_dev import check_over_kept as over
 from lizdrog_dev import try_edits
-from lizdrog_tools.places import TOP, DEV
+from lizdrog_tools.places import TOP, DEV, WORK
 
 LAST = re.compile(r"^plants crate=.*$", re.M)
 # Of a check: the folder of a hole for a function that no source writes and this copy does not make.
@@ -144,7 +144,7 @@ def over_contracts(tool, crate, log):
             found = [it for it in written if f"{crate}::{it}" in said.keys() - proved]
             self.assumed = {try_edits.write_hole(pathlib.Path(folder), crate, it) for it in found}
             self.empty({tuple(it.split("::")[-2:]) for it in found if "+" not in it} | {("", it) for it in found if "::" not in it})
-            self.count, self.log = 0, TOP / "out" / "plants"
+            self.count, self.log = 0, WORK / "plants"
             # A check that is ended is not lost: the next one takes what it had checked.
             self.memory = self.log / f"memory-{crate}"
             self.memory.mkdir(parents=True, exist_ok=True)
@@ -231,7 +231,7 @@ def with_kept_tokens(tokens, folder):
 
 def lay_memory(crate):
     """Lets the check begin with what check_over_kept.py and try_edits.py have checked of the crate."""
-    kept, to = TOP / "out" / "kept_libraries" / f"memory-{crate}", TOP / "crates" / crate / "out" / "incremental"
+    kept, to = WORK / "kept_libraries" / f"memory-{crate}", TOP / "crates" / crate / "out" / "incremental"
     if kept.is_dir() and not to.exists():
         shutil.copytree(kept, to)
 
@@ -243,7 +243,7 @@ def plant(crate, given):
     tool = load(kit / "rt-plant")
     # Another toolchain may cut a text into other tokens.
     made = os.stat(kit / "rattle")
-    tool.bodies.Source.tokens = with_kept_tokens(tool.bodies.Source.tokens, TOP / "out" / "plants" / f"tokens-{made.st_size}-{int(made.st_mtime)}")
+    tool.bodies.Source.tokens = with_kept_tokens(tool.bodies.Source.tokens, WORK / "plants" / f"tokens-{made.st_size}-{int(made.st_mtime)}")
     # Each crate's sum holds those of all below it, which would be made anew on every way down.
     tool.rt.Crate.stamp = functools.lru_cache(None)(tool.rt.Crate.stamp)
     gone = lay_below(tool.rt, over.crates(), crate)

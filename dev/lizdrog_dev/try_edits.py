@@ -16,7 +16,7 @@ that `rt ci` has proved of these very sources. Then a line for each edit says
   PASSES             the function meets its contract with this body: check the whole crate (bench/must_fail.sh), as a law of a type may refuse it elsewhere
   does not compile   it never came to the prover
   not tried          with the reason: it does not apply, changes no function, or the prover gave up or was ended
-An edit of a constant is tried on the functions that name it. --only takes edits whose file's name contains WORD. What the checks said is kept in FOLDER (out/try_edits). The status is 0 where all are refused.
+An edit of a constant is tried on the functions that name it. --only takes edits whose file's name contains WORD. What the checks said is kept in FOLDER (below ~/.cache/lizdrog). The status is 0 where all are refused.
 Nothing that this says counts as proved: that is for `rt ci`."""
 import argparse
 import os
@@ -30,7 +30,7 @@ import tempfile
 import time
 
 from lizdrog_dev import check_over_kept as over
-from lizdrog_tools.places import TOP
+from lizdrog_tools.places import TOP, WORK
 
 PARTS = ("src", "specs", "proofs")
 CONSTANT = re.compile(r"^ *(?:pub(?:\([^)]*\))? )?const (\w+):")
@@ -210,11 +210,11 @@ class Room:
         kit = pathlib.Path(os.path.realpath(shutil.which("rt"))).parent.parent
         uses, kept = over.crates(), {}
         for name in over.below(uses, crate):
-            to = TOP / "out" / "kept_libraries" / name
+            to = WORK / "kept_libraries" / name
             if over.library(name, to):
                 kept[name] = to
         words, self.sources = over.words_of(kit, uses, crate, kept)
-        memory = TOP / "out" / "kept_libraries" / f"memory-{crate}"
+        memory = WORK / "kept_libraries" / f"memory-{crate}"
         memory.mkdir(parents=True, exist_ok=True)
         self.words = [str(kit / "bin" / "rattle"), *words, "--incremental", str(memory)]
 
@@ -437,7 +437,7 @@ def main():
     parser.add_argument("--callees", action="store_true")
     parser.add_argument("--proved", action="store_true")
     parser.add_argument("--names", type=pathlib.Path, metavar="FILE")
-    parser.add_argument("--log", type=pathlib.Path, default=TOP / "out" / "try_edits", metavar="FOLDER")
+    parser.add_argument("--log", type=pathlib.Path, default=WORK / "try_edits", metavar="FOLDER")
     given = parser.parse_args()
     # So that a check that runs is ended too.
     signal.signal(signal.SIGTERM, lambda *_: sys.exit(143))
