@@ -12,10 +12,10 @@ USAGE = """Lizdrog, a static timing server.
   lizdrog test       try this clone: examples, tools and the program against a plain timer     install PREFIX  run without a clone
   lizdrog --build    build the program without proof now, in minutes (`rt ci` proves it and builds it, in hours)
   lizdrog --version  the commit, the toolchain, and whether the program that would run is proved    --help  this, and the commands"""
-MORE = """  --proved           refuse to run a program that is not proved    --program FILE   run this one, of which nothing is known here
+MORE = """  --proved           refuse to run a program that is not proved    --program FILE   run this program, whatever it is
 Status: 0 all rows are answers, 1 some row is refused, no or not yet, 2 wrong words, 3 a document or the design has a fault or a saved
 edit is refused, 4 a document cannot be fetched, 5 the output cannot be written, 6 no memory. What the codes mean: docs/FAULTS.md.
-70 is of this script, not of the program: there is no program to run, and it says why."""
+70 comes from the command itself: it found no program to run, and says why."""
 
 # The words of each command of a script, an example, and what it asks or does. docs/SCRIPTS.md says all of it.
 QUESTIONS = [

@@ -13,7 +13,7 @@ It prints a line for each row with its question, as `report_endpoint r2:D setup 
   --session N                           the session whose script it is; an output of several sessions asks for it
 
 Endpoints are those of the script's report_endpoint and report_worst; tools/endpoint_questions.py writes a script that asks all. The paths
-of a report_paths stand one below the other, worst first; below a draft stands each of its trials with its answer.
+of a report_paths are one below the other, worst first; below a draft is each of its trials with its answer.
 """
 import argparse
 import copy
