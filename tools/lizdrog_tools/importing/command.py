@@ -21,6 +21,7 @@ from .report import Place, Report, write_report
 from .resolve import resolve
 from .run_sdc import run_constraints
 from .sdc_writer import SdcWriter
+from .shared_ports import part_ports, share_loads
 from .spef_merge import Merger, merge_spef, write_spef
 from .variants import Variants
 from .verilog_flat import NotFlat, read_flat, write_flat
@@ -90,6 +91,7 @@ class Import:
     def work(self) -> dict[str, str]:
         """The texts of the documents by their names."""
         netlist = read_netlist(self.project, self.late, self.report)
+        part_ports(netlist, (self.early, self.late), self.report)
         check_instances(netlist, self.early, self.late)
         design = Design(netlist, self.late)
         constraints = run_constraints([str(self.project.path(it)) for it in self.project.sdc], design, self.report, self.project.folder)
@@ -113,6 +115,7 @@ class Import:
         undelayed = Variants(design, self.early, self.late)
         express_ideal(constraints, design, undelayed, wires, self.report)
         undelayed.make()
+        share_loads(design.netlist, constraints)
         express_drives(constraints, design, (self.early, self.late), wires, self.report)
         resolve(constraints, design, self.report)
 

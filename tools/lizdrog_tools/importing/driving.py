@@ -34,13 +34,14 @@ def looked_up(table: Table, slew: Fraction, load: Fraction) -> Fraction:
     return between(axes[0], rows, at[0])
 
 
-def net_load(net: str, design: Design, cells: LibrarySet, wires: Merger | None) -> Fraction:
-    """The load of a net: its wires, and the pins of its sinks."""
+def net_load(net: str, split: str, design: Design, cells: LibrarySet, wires: Merger | None, constraints: Constraints) -> Fraction:
+    """The load of a net: its wires, the pins of its sinks, and the loads of output ports that are one net with it."""
+    shared = [port for port, other in design.netlist.shared.items() if other == net]
     load = Fraction(wires.nets[net].load()) if wires and net in wires.nets else Fraction(0)
     for end in design.ends[net].sinks:
         if end.instance is not None:
             load += Fraction(cells.get(design.netlist.instances[end.instance].cell).pins[end.pin].capacitance)
-    return load
+    return load + sum((Fraction(loads[split]) for port in shared if (loads := constraints.loads.get(port, {})) and split in loads), Fraction(0))
 
 
 def driving_arc(drive: Drive, cell: Cell) -> Timing | str:
@@ -60,7 +61,7 @@ def as_decimal(value: Fraction) -> Decimal:
 
 
 def express_drives(constraints: Constraints, design: Design, sides: tuple[LibrarySet, LibrarySet], wires: Merger | None, report: Report) -> None:
-    """Each driven port gets the slew of its driver, and its input delays the delay that the load adds to the driver."""
+    """Each driven port gets the slew of its driver, and its input delays the delay that the load adds to the driver, as a delay of the net."""
     clock_ports = {it.port: it for it in constraints.clocks.values() if it.port}
     for port, drive in constraints.drives.items():
         for split, cells in zip(SPLITS, sides, strict=True):
@@ -68,7 +69,7 @@ def express_drives(constraints: Constraints, design: Design, sides: tuple[Librar
             if isinstance(arc, str):
                 report.lose("driving-cell", drive.place, f"the driving cell {drive.cell} of {port}: {arc}")
                 break
-            drive_port(port, split, drive, arc, net_load(port, design, cells, wires), constraints)
+            drive_port(port, split, drive, arc, net_load(port, split, design, cells, wires, constraints), constraints)
         else:
             report.change("driving-cell", drive.place, f"the driving cell {drive.cell} of {port} as its transition and delay at the load of the port's net")
             if port in clock_ports and clock_ports[port].is_propagated:
@@ -79,7 +80,8 @@ def drive_port(port: str, split: str, drive: Drive, arc: Timing, load: Fraction,
     for edge in EDGES:
         slew = Fraction(drive.slews[SENSES[arc.sense][edge]])
         table = arc.tables[f"cell_{edge}"]
-        added = looked_up(table, slew, load) - looked_up(table, slew, Fraction(0))
+        derate = Fraction(constraints.derates.get((split, "net"), Decimal(1)))
+        added = (looked_up(table, slew, load) - looked_up(table, slew, Fraction(0))) * derate
         constraints.slews.setdefault(port, {})[split, edge] = as_decimal(looked_up(arc.tables[f"{edge}_transition"], slew, load))
         for corners in constraints.inputs[port].by_clock.values() if port in constraints.inputs else ():
             if (split, edge) in corners:

@@ -80,7 +80,10 @@ class TreeReader:
         self.step()
         args = []
         while self.sort and not self.at(")"):
-            if self.sort in (QUOTED, WORD):
+            if self.at(":") and args:
+                self.step()
+                args[-1] += f":{self.word}"
+            elif self.sort in (QUOTED, WORD):
                 args.append(CONTINUED.sub("", self.word) if self.sort == QUOTED else self.word)
             self.step()
         self.step()

@@ -44,6 +44,9 @@ class Netlist:
     vectors: dict[str, Vector] = dataclasses.field(default_factory=dict)
     blocks: dict[str, str] = dataclasses.field(default_factory=dict)
     block_pins: dict[str, str] = dataclasses.field(default_factory=dict)
+    # Output ports that are one net with another port, and the cell that was put between them.
+    shared: dict[str, str] = dataclasses.field(default_factory=dict)
+    wire_cells: dict[str, str] = dataclasses.field(default_factory=dict)
 
     def net_called(self, name: str) -> str | None:
         """The net that a name stands for; none where there is no such net."""

@@ -3,6 +3,7 @@ import re
 from decimal import Decimal, InvalidOperation
 
 from .constraints import EDGES, SPLITS, Clock, ClockGroups, Constraints, Delay, Disabled, Drive, PathEnd, PathException, PortDelays, Uncertainty
+from .design import is_sequential
 from .session import Session, Words
 from .tcl import CommandFault
 
@@ -286,11 +287,18 @@ class TimingCommands:
             return None
         end = PathEnd()
         for made in (it for text in said.values[option] for it in self.session.objects(text, (*END_KINDS, "block", "block_pin"))):
-            if made.kind in ("block", "block_pin"):
+            if made.kind == "block" and not self.has_registers(made.name):
+                self.session.drop("no-path", f"{self.session.command} {option} {made.name}: a block without registers")
+            elif made.kind in ("block", "block_pin"):
                 self.session.lose(f"{self.session.command}-block", f"{self.session.command} {option} {made.name}: an instance of a block; name its registers or the top's ports")
             else:
                 end.add(made)
         return end
+
+    def has_registers(self, block: str) -> bool:
+        """Whether a register is in a block of the hierarchy."""
+        start = f"{block}/"
+        return any(it.name.startswith(start) and is_sequential(self.design.cell_of(it)) for it in self.design.netlist.instances.values())
 
     def exception(self, words: list[str], cycles: int | None, said: Words) -> None:
         if self.lose_options(said, (*EDGED, "-through", "-reset_path")):

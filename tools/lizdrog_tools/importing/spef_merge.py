@@ -280,7 +280,8 @@ class Merger:
         names = [name] if reader.divider == "/" else [name, name.replace(reader.divider, "/")]
         for word in names:
             if kind == "port" and word in self.design.netlist.ports and not reader.prefix:
-                return ("port", word)
+                wire = self.design.netlist.wire_cells.get(word)
+                return ("pin", f"{wire}/A") if wire else ("port", word)
             if word in self.design.block_pin_names and (kind == "port") == bool(reader.prefix and word.startswith(reader.prefix)
                                                                              and "/" not in word[len(reader.prefix):]):
                 return ("end", word)

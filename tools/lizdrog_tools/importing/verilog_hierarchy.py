@@ -175,21 +175,26 @@ class Flattener:
         return self.netlist
 
     def ports(self, top: dict[str, Any], bits: dict[Any, int], called: dict[int, str]) -> None:
-        """The ports of the top; two of them cannot be one net."""
+        """The ports of the top, inputs first; an output that is one net with another port is noted."""
         taken: dict[int, str] = {}
-        for port, shape in top["ports"].items():
-            names = bit_names(port, shape, len(shape["bits"]))
+        for port, shape in sorted(top["ports"].items(), key=lambda it: it[1]["direction"]):
             if shape["direction"] == "inout":
                 raise InputFault(self.netlist.place.file, self.netlist.place.line, f"the port {port} is an inout, which is not read")
-            for name, bit in reversed(list(zip(names, shape["bits"], strict=True))):
+            for name, bit in reversed(list(zip(bit_names(port, shape, len(shape["bits"])), shape["bits"], strict=True))):
                 root = self.groups.root(self.number(bits, bit))
-                if root in taken or root in (NET_ZERO, NET_ONE):
-                    other = f"the port {taken[root]}" if root in taken else "a constant"
-                    self.report.lose("shared-port", self.netlist.place, f"the port {name} is one net with {other}; accepted, it has no driver")
+                if root in (NET_ZERO, NET_ONE):
+                    self.report.drop("constant-port", self.netlist.place, f"the port {name} is constant: it has no driver")
                     self.netlist.nets[name] = name
-                else:
+                elif root not in taken:
                     taken[root] = called[root] = name
-                self.netlist.ports[name] = shape["direction"]
+                elif shape["direction"] == "input":
+                    raise InputFault(self.netlist.place.file, self.netlist.place.line, f"the input ports {taken[root]} and {name} are one net (E10)")
+                else:
+                    self.netlist.shared[name] = taken[root]
+                    self.netlist.nets[name] = name
+        for port, shape in top["ports"].items():
+            names = bit_names(port, shape, len(shape["bits"]))
+            self.netlist.ports.update(dict.fromkeys(reversed(names), shape["direction"]))
 
     def fill(self, called: dict[int, str]) -> None:
         """Nets, the other names of each, and the pins of instances."""
