@@ -1,7 +1,5 @@
 #!/usr/bin/env python3
-"""Brings a design as synthesis and layout tools write it to what Lizdrog reads: import_design.py [-o FOLDER] PROJECT.toml"""
-import sys
-
+"""Brings a design as synthesis and layout tools write it to what Lizdrog reads."""
 from lizdrog_tools.importing.command import main
 
-sys.exit(main())
+raise SystemExit(main())

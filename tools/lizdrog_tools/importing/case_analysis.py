@@ -1,12 +1,12 @@
 """Constants, carried through gates by their functions, and arcs that are disabled: both as cells of their own."""
 from collections import deque
 
-from .constraints import Constraints, Disabled
-from .design import Design, Object
-from .liberty_model import TESTS, Cell
-from .netlist import CONSTANTS, ONE, Instance
-from .report import Report
-from .variants import Constants, Cut, Variants, function_of
+from lizdrog_tools.importing.constraints import Constraints, Disabled
+from lizdrog_tools.importing.design import Design, Object
+from lizdrog_tools.importing.liberty_model import TESTS, Cell
+from lizdrog_tools.importing.netlist import CONSTANTS, ONE, Instance
+from lizdrog_tools.importing.report import Report
+from lizdrog_tools.importing.variants import Constants, Cut, Variants, function_of
 
 
 def constant_outputs(cell: Cell) -> dict[str, bool]:
@@ -42,7 +42,11 @@ class Carrier:
 
     def tied(self) -> None:
         """The pins that the netlist ties, and the outputs of cells that are constant by themselves."""
-        ties = {name: made for name in {it.cell for it in self.design.netlist.instances.values()} if (made := constant_outputs(self.design.cells.get(name)))}
+        ties = {
+            name: made
+            for name in {it.cell for it in self.design.netlist.instances.values()}
+            if (made := constant_outputs(self.design.cells.get(name)))
+        }
         for instance in self.design.netlist.instances.values():
             for pin, net in instance.nets.items():
                 if net in CONSTANTS:
@@ -58,7 +62,11 @@ class Carrier:
             cell = self.design.cell_of(instance)
             for name in cell.outputs():
                 function = function_of(cell.pins[name].function)
-                if function is None or name in self.pins[instance.name] or not all(it in cell.pins for it in function.inputs):
+                if (
+                    function is None
+                    or name in self.pins[instance.name]
+                    or not all(it in cell.pins for it in function.inputs)
+                ):
                     continue
                 value = function.value(dict(self.pins[instance.name]))
                 if value is None:
@@ -94,7 +102,11 @@ def express_cases(constraints: Constraints, design: Design, variants: Variants, 
     for made, (text, place) in constraints.cases.items():
         report.change("case", place, f"set_case_analysis {text} of {made.name}")
     if constraints.cases:
-        report.change("case", next(iter(constraints.cases.values()))[1], f"constants reach {len(carrier.nets)} nets; {changed} gates have cells without the arcs that are dead")
+        report.change(
+            "case",
+            next(iter(constraints.cases.values()))[1],
+            f"constants reach {len(carrier.nets)} nets; {changed} gates have cells without the arcs that are dead",
+        )
 
 
 def untimed(constraints: Constraints, carrier: Carrier) -> None:
@@ -118,8 +130,12 @@ def express_disabled(constraints: Constraints, design: Design, variants: Variant
         elif made.kind == "port" and design.netlist.ports[made.name] == "input" and made.name not in clock_ports:
             constraints.inputs.pop(made.name, None)
         else:
-            report.lose("disable-end", item.place, f"set_disable_timing of the {made.kind.replace('_', ' ')} {made.name}: timers differ in what becomes of its tests; "
-                        "the pins of gates, instances, input ports without a clock and library cells are read")
+            report.lose(
+                "disable-end",
+                item.place,
+                f"set_disable_timing of the {made.kind.replace('_', ' ')} {made.name}: timers differ in what becomes of its tests; "
+                "the pins of gates, instances, input ports without a clock and library cells are read",
+            )
             continue
         report.change("disabled", item.place, f"set_disable_timing of {made.name}: a cell without these arcs")
 

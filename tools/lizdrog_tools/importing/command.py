@@ -8,24 +8,31 @@ import shutil
 import sys
 import tempfile
 
-from ..files import InputFault, read_text, tool
-from .case_analysis import express_cases, express_disabled
-from .constraints import Constraints
-from .design import Design
-from .driving import express_drives
-from .ideal import express_ideal
-from .liberty_merge import LibrarySet, Shelf, check_cell, check_frames, kept_cells, write_libraries
-from .netlist import Netlist
-from .project import Project, read_project
-from .report import Place, Report, write_report
-from .resolve import resolve
-from .run_sdc import run_constraints
-from .sdc_writer import SdcWriter
-from .shared_ports import part_ports, share_loads
-from .spef_merge import Merger, merge_spef, write_spef
-from .variants import Variants
-from .verilog_flat import NotFlat, read_flat, write_flat
-from .verilog_hierarchy import read_hierarchy
+from lizdrog_tools.files import InputFault, read_text, tool
+from lizdrog_tools.importing.case_analysis import express_cases, express_disabled
+from lizdrog_tools.importing.constraints import Constraints
+from lizdrog_tools.importing.design import Design
+from lizdrog_tools.importing.driving import express_drives
+from lizdrog_tools.importing.ideal import express_ideal
+from lizdrog_tools.importing.liberty_merge import (
+    LibrarySet,
+    Shelf,
+    check_cell,
+    check_frames,
+    kept_cells,
+    write_libraries,
+)
+from lizdrog_tools.importing.netlist import Netlist
+from lizdrog_tools.importing.project import Project, read_project
+from lizdrog_tools.importing.report import Place, Report, write_report
+from lizdrog_tools.importing.resolve import resolve
+from lizdrog_tools.importing.run_sdc import run_constraints
+from lizdrog_tools.importing.sdc_writer import SdcWriter
+from lizdrog_tools.importing.shared_ports import part_ports, share_loads
+from lizdrog_tools.importing.spef_merge import Merger, merge_spef, write_spef
+from lizdrog_tools.importing.variants import Variants
+from lizdrog_tools.importing.verilog_flat import NotFlat, read_flat, write_flat
+from lizdrog_tools.importing.verilog_hierarchy import read_hierarchy
 
 DIGITS = 60
 WORD = re.compile(r"\\\S+|[A-Za-z_][\w$]*")
@@ -47,7 +54,14 @@ def read_netlist(project: Project, cells: LibrarySet, report: Report) -> Netlist
             netlist = read_flat(texts[0], files[0])
             if project.top not in (None, netlist.name):
                 raise InputFault(files[0], None, f"there is no module {project.top}: the one module is {netlist.name}")
-            bused = next((it for it in netlist.instances.values() if any(pin not in known_pins(cells, it.cell) for pin in it.nets)), None)
+            bused = next(
+                (
+                    it
+                    for it in netlist.instances.values()
+                    if any(pin not in known_pins(cells, it.cell) for pin in it.nets)
+                ),
+                None,
+            )
             if bused is None:
                 return netlist
             reason = f"pins of {bused.name} that its cell has as a bus, or not at all"
@@ -56,7 +70,11 @@ def read_netlist(project: Project, cells: LibrarySet, report: Report) -> Netlist
     words = {it.removeprefix("\\") for text in texts for it in WORD.findall(text)}
     stubs = {name: cells.ports(name) for name in sorted(words & set(cells.where))}
     netlist = read_hierarchy(files, project.top, stubs, report)
-    report.change("flattened", Place(files[0]), f"flattened by yosys, since it has {reason}: {len(netlist.blocks)} blocks, {len(netlist.instances)} cells")
+    report.change(
+        "flattened",
+        Place(files[0]),
+        f"flattened by yosys, since it has {reason}: {len(netlist.blocks)} blocks, {len(netlist.instances)} cells",
+    )
     return netlist
 
 
@@ -75,7 +93,11 @@ def check_instances(netlist: Netlist, early: LibrarySet, late: LibrarySet) -> No
     for instance in netlist.instances.values():
         gone = [it for it in instance.nets if it not in late.get(instance.cell).pins]
         if gone:
-            raise InputFault(netlist.place.file, instance.line or None, f"the instance {instance.name} has a pin {gone[0]}, and its cell {instance.cell} has none (E4)")
+            raise InputFault(
+                netlist.place.file,
+                instance.line or None,
+                f"the instance {instance.name} has a pin {gone[0]}, and its cell {instance.cell} has none (E4)",
+            )
 
 
 class Import:
@@ -94,7 +116,9 @@ class Import:
         part_ports(netlist, (self.early, self.late), self.report)
         check_instances(netlist, self.early, self.late)
         design = Design(netlist, self.late)
-        constraints = run_constraints([str(self.project.path(it)) for it in self.project.sdc], design, self.report, self.project.folder)
+        constraints = run_constraints(
+            [str(self.project.path(it)) for it in self.project.sdc], design, self.report, self.project.folder
+        )
         wires = merge_spef(self.project, design, self.report)
         self.express(constraints, design, wires)
         used = sorted({it.cell for it in netlist.instances.values()})
@@ -102,9 +126,13 @@ class Import:
         for name in names:
             check_cell(name, self.early, self.late, Place(self.project.file))
         early, late = write_libraries(names, self.early, self.late)
-        return {"early.lib": early, "late.lib": late, "netlist.v": write_flat(netlist),
-                "constraints.sdc": SdcWriter(constraints, netlist.name).text(), **({"parasitics.spef": write_spef(wires)} if wires else {})}
-
+        return {
+            "early.lib": early,
+            "late.lib": late,
+            "netlist.v": write_flat(netlist),
+            "constraints.sdc": SdcWriter(constraints, netlist.name).text(),
+            **({"parasitics.spef": write_spef(wires)} if wires else {}),
+        }
 
     def express(self, constraints: Constraints, design: Design, wires: Merger | None) -> None:
         """What needs the cells and the wires: constants, cut arcs, driving cells, ideal clocks; then what the constraints say by themselves."""
@@ -135,7 +163,9 @@ def write_folder(folder: pathlib.Path, texts: dict[str, str], report: Report, fa
         part = pathlib.Path(name)
         for file, text in texts.items():
             (part / file).write_text(text, encoding="latin-1")
-        (part / "lizdrog.toml").write_text(RUN_FILE.format(spef="parasitics.spef" if "parasitics.spef" in texts else "none"))
+        (part / "lizdrog.toml").write_text(
+            RUN_FILE.format(spef="parasitics.spef" if "parasitics.spef" in texts else "none")
+        )
         write_report(report, part, facts)
         folder.mkdir(exist_ok=True)
         for file in ("parasitics.spef",):
@@ -149,14 +179,19 @@ def refuse(report: Report) -> int:
     for remark in report.refused:
         print(f"import: {remark}", file=sys.stderr)
     kinds = ", ".join(f'"{it}"' for it in dict.fromkeys(it.kind for it in report.refused))
-    print(f"import: {len(report.refused)} things would change slacks and cannot be expressed; nothing is written. Where you can do without them, "
-          f"write accept = [{kinds}] into the project", file=sys.stderr)
+    print(
+        f"import: {len(report.refused)} things would change slacks and cannot be expressed; nothing is written. Where you can do without them, "
+        f"write accept = [{kinds}] into the project",
+        file=sys.stderr,
+    )
     return 2
 
 
 @tool("import")
 def main() -> int:
-    parser = argparse.ArgumentParser(prog="import", description=HELP, formatter_class=argparse.RawDescriptionHelpFormatter, usage=argparse.SUPPRESS)
+    parser = argparse.ArgumentParser(
+        prog="import", description=HELP, formatter_class=argparse.RawDescriptionHelpFormatter, usage=argparse.SUPPRESS
+    )
     parser.add_argument("project")
     parser.add_argument("-o", "--output", metavar="FOLDER")
     given = parser.parse_args()
@@ -170,6 +205,8 @@ def main() -> int:
     facts = {"project": project.file, "folder": str(folder)}
     write_folder(folder, texts, done.report, facts)
     report = done.report
-    print(f"import: {folder}: {len(report.changes)} things changed with the same slacks, {len(report.harmless)} left out without effect, "
-          f"{len(report.accepted)} accepted ({os.path.join(folder, 'import.txt')})")
+    print(
+        f"import: {folder}: {len(report.changes)} things changed with the same slacks, {len(report.harmless)} left out without effect, "
+        f"{len(report.accepted)} accepted ({os.path.join(folder, 'import.txt')})"
+    )
     return report.status()

@@ -2,8 +2,8 @@
 import dataclasses
 from decimal import Decimal
 
-from .design import Object
-from .report import Place
+from lizdrog_tools.importing.design import Object
+from lizdrog_tools.importing.report import Place
 
 SPLITS, EDGES, KINDS = ("early", "late"), ("rise", "fall"), ("setup", "hold")
 Corner = tuple[str, str]

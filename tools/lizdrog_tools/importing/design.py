@@ -4,10 +4,10 @@ import functools
 import re
 from collections.abc import Callable, Iterable
 
-from .liberty_merge import LibrarySet
-from .liberty_model import Cell
-from .netlist import CONSTANTS, LEVEL, Ends, Instance, Netlist, Terminal, ends_of_nets
-from .tcl import CommandFault
+from lizdrog_tools.importing.liberty_merge import LibrarySet
+from lizdrog_tools.importing.liberty_model import Cell
+from lizdrog_tools.importing.netlist import CONSTANTS, LEVEL, Ends, Instance, Netlist, Terminal, ends_of_nets
+from lizdrog_tools.importing.tcl import CommandFault
 
 WILD = re.compile(r"[*?]")
 ESCAPED = re.compile(r"\\(.)")
@@ -137,8 +137,16 @@ class Design:
         """The objects of a kind that a pattern means, in the order of the design."""
         if self.divider != "/":
             pattern = pattern.replace(self.divider, "/")
-        finders = {"port": self.ports, "cell": self.find_cells, "pin": self.pins, "net": self.nets, "clock": self.find_clocks,
-                   "lib_cell": self.lib_cells, "lib_pin": self.lib_pins, "lib": self.libs}
+        finders = {
+            "port": self.ports,
+            "cell": self.find_cells,
+            "pin": self.pins,
+            "net": self.nets,
+            "clock": self.find_clocks,
+            "lib_cell": self.lib_cells,
+            "lib_pin": self.lib_pins,
+            "lib": self.libs,
+        }
         return finders[kind](pattern, how)
 
     def among(self, kind: str, names: Iterable[str], pattern: str, how: Search) -> list[Object]:
@@ -183,7 +191,9 @@ class Design:
             fits = matcher(pattern, how)
             return [it for made in self.cell_keys.values() for it in self.pins_of(made) if fits(it.name)]
         head, slash, tail = pattern.rpartition("/")
-        instances = self.find_cells(head, how) if slash else list(self.cell_keys.values()) if how.is_hierarchical else []
+        instances = (
+            self.find_cells(head, how) if slash else list(self.cell_keys.values()) if how.is_hierarchical else []
+        )
         fits = matcher(tail, dataclasses.replace(how, is_hierarchical=False))
         return [it for made in instances for it in self.pins_of(made) if fits(it.name.rpartition("/")[2])]
 
@@ -191,7 +201,11 @@ class Design:
         """The pins of a cell or a block."""
         if made.kind == "block":
             start = f"{made.name}/"
-            return [Object("block_pin", it) for it in self.block_pin_names if it.startswith(start) and "/" not in it[len(start):]]
+            return [
+                Object("block_pin", it)
+                for it in self.block_pin_names
+                if it.startswith(start) and "/" not in it[len(start) :]
+            ]
         cell = self.cell_of(self.netlist.instances[made.name])
         return [Object("pin", f"{made.name}/{it}") for it in cell.pins] if cell else []
 
@@ -218,11 +232,24 @@ class Design:
 
     def related(self, kind: str, made: Object) -> list[Object]:
         """The objects of a kind that belong to another object (-of_objects)."""
-        way = {("pin", "cell"): self.pins_of, ("pin", "block"): self.pins_of, ("cell", "pin"): self.owner, ("cell", "block_pin"): self.owner,
-               ("pin", "net"): self.pins_on, ("port", "net"): self.ports_on, ("cell", "net"): self.cells_on, ("net", "pin"): self.net_of,
-               ("net", "port"): self.net_of, ("net", "block_pin"): self.net_of, ("net", "cell"): self.nets_of, ("clock", "port"): self.clocks_at,
-               ("lib_cell", "cell"): self.kind_of, ("lib_cell", "lib_pin"): self.owner_in_library, ("lib_pin", "lib_cell"): self.pins_in_library,
-               ("lib_pin", "pin"): self.pin_in_library}.get((kind, made.kind))
+        way = {
+            ("pin", "cell"): self.pins_of,
+            ("pin", "block"): self.pins_of,
+            ("cell", "pin"): self.owner,
+            ("cell", "block_pin"): self.owner,
+            ("pin", "net"): self.pins_on,
+            ("port", "net"): self.ports_on,
+            ("cell", "net"): self.cells_on,
+            ("net", "pin"): self.net_of,
+            ("net", "port"): self.net_of,
+            ("net", "block_pin"): self.net_of,
+            ("net", "cell"): self.nets_of,
+            ("clock", "port"): self.clocks_at,
+            ("lib_cell", "cell"): self.kind_of,
+            ("lib_cell", "lib_pin"): self.owner_in_library,
+            ("lib_pin", "lib_cell"): self.pins_in_library,
+            ("lib_pin", "pin"): self.pin_in_library,
+        }.get((kind, made.kind))
         if way is None:
             raise CommandFault(f"-of_objects of a {made.kind} gives no {kind}")
         return way(made)
@@ -275,8 +302,14 @@ class Design:
             return made.name.rpartition("/")[2]
         if name in ("object_class", "object_type"):
             return {"block": "cell", "block_pin": "pin"}.get(made.kind, made.kind)
-        reader = {"port": self.port_attribute, "cell": self.cell_attribute, "block": self.block_attribute, "pin": self.pin_attribute,
-                  "lib_pin": self.lib_pin_attribute, "lib_cell": self.lib_cell_attribute}.get(made.kind)
+        reader = {
+            "port": self.port_attribute,
+            "cell": self.cell_attribute,
+            "block": self.block_attribute,
+            "pin": self.pin_attribute,
+            "lib_pin": self.lib_pin_attribute,
+            "lib_cell": self.lib_cell_attribute,
+        }.get(made.kind)
         return reader(made, name) if reader else None
 
     def port_attribute(self, made: Object, name: str) -> str | None:
@@ -310,7 +343,11 @@ class Design:
             return cell.pins[pin].direction
         if name in ("lib_pin_name", "pin_name"):
             return pin
-        flags = {"is_clock_pin": pin in cell.clock_pins(), "is_data_pin": pin in cell.data_pins(), "is_clock": pin in cell.clock_pins()}
+        flags = {
+            "is_clock_pin": pin in cell.clock_pins(),
+            "is_data_pin": pin in cell.data_pins(),
+            "is_clock": pin in cell.clock_pins(),
+        }
         return str(flags[name]).lower() if name in flags else None
 
 

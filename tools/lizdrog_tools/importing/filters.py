@@ -2,8 +2,8 @@
 import re
 from collections.abc import Callable
 
-from .design import Search, matcher
-from .tcl import CommandFault
+from lizdrog_tools.importing.design import Search, matcher
+from lizdrog_tools.importing.tcl import CommandFault
 
 TOKEN = re.compile(r'\s*(?:(&&|\|\||==|!=|=~|!~|<=|>=|<|>|!|\(|\))|"([^"]*)"|\{([^}]*)\}|([^\s&|=!<>()]+))')
 COMPARING = {"==", "!=", "=~", "!~", "<", ">", "<=", ">="}

@@ -4,18 +4,22 @@ import fnmatch
 from collections.abc import Callable, Iterable
 from decimal import Decimal
 
-from ..files import InputFault, read_text
-from .liberty_model import WRITTEN, Cell, CellReader, Frame, Pin, Table, plain
-from .liberty_tree import Group, Part, read_library
-from .mistyped import mistyped
-from .report import Place, Report
-from .verilog_hierarchy import LibraryPins
+from lizdrog_tools.files import InputFault, read_text
+from lizdrog_tools.importing.liberty_model import WRITTEN, Cell, CellReader, Frame, Pin, Table, plain
+from lizdrog_tools.importing.liberty_tree import Group, Part, read_library
+from lizdrog_tools.importing.mistyped import mistyped
+from lizdrog_tools.importing.report import Place, Report
+from lizdrog_tools.importing.verilog_hierarchy import LibraryPins
 
 TIMES = {Decimal(1): "1ps", Decimal(10): "10ps", Decimal(100): "100ps", Decimal(1000): "1ns"}
 LOADS = {Decimal(10) ** it: (plain(Decimal(10) ** it), "ff") for it in range(-3, 4)}
 LOADS |= {Decimal(10) ** it: (plain(Decimal(10) ** (it - 3)), "pf") for it in range(4, 7)}
 MOST_CELLS = 10000
-THRESHOLDS = [f"{side}_threshold_pct_{edge}" for side in ("input", "output", "slew_lower", "slew_upper") for edge in ("rise", "fall")]
+THRESHOLDS = [
+    f"{side}_threshold_pct_{edge}"
+    for side in ("input", "output", "slew_lower", "slew_upper")
+    for edge in ("rise", "fall")
+]
 FIRST = "first"
 
 
@@ -54,10 +58,18 @@ class LibrarySet:
         chosen = [it for it in places if wish == FIRST or wish is not None and it[0].file.endswith(wish)]
         if not chosen:
             frame, part = places[1]
-            raise InputFault(frame.file, frame.library.line(part), f"the cell {name} stands in {' and in '.join(files)}: "
-                             f'prefer = {{ "{name}" = "{files[0]}" }} in the project says which counts')
+            raise InputFault(
+                frame.file,
+                frame.library.line(part),
+                f"the cell {name} stands in {' and in '.join(files)}: "
+                f'prefer = {{ "{name}" = "{files[0]}" }} in the project says which counts',
+            )
         frame, part = chosen[0]
-        self.report.change("cell-clash", Place(frame.file, frame.library.line(part)), f"the cell {name} of {', '.join(files)} is that of {frame.file}")
+        self.report.change(
+            "cell-clash",
+            Place(frame.file, frame.library.line(part)),
+            f"the cell {name} of {', '.join(files)} is that of {frame.file}",
+        )
         return frame, part
 
     def get(self, name: str) -> Cell | None:
@@ -101,19 +113,33 @@ def check_frames(frames: Iterable[Frame], report: Report) -> None:
                 continue
             before, file = first.setdefault(name, (text, frame.file))
             if Decimal(before) != Decimal(text):
-                report.lose("thresholds", Place(frame.file, frame.line(name) or 0), f"{name} is {text}, and {before} in {file}")
+                report.lose(
+                    "thresholds", Place(frame.file, frame.line(name) or 0), f"{name} is {text}, and {before} in {file}"
+                )
         derate = frame.library.frame.text("slew_derate_from_library")
         if derate is not None and Decimal(derate) != 1:
-            report.lose("slew-derate", Place(frame.file, frame.line("slew_derate_from_library") or 0), f"slew_derate_from_library {derate} is not read")
+            report.lose(
+                "slew-derate",
+                Place(frame.file, frame.line("slew_derate_from_library") or 0),
+                f"slew_derate_from_library {derate} is not read",
+            )
 
 
 def differences(early: Cell, late: Cell) -> str | None:
     """How a cell differs between the libraries in what has to be the same (E3); none where it does not."""
-    if {(it.name, it.direction) for it in early.pins.values()} != {(it.name, it.direction) for it in late.pins.values()}:
+    if {(it.name, it.direction) for it in early.pins.values()} != {
+        (it.name, it.direction) for it in late.pins.values()
+    }:
         return "pins"
+
     def shape(cell: Cell) -> set[tuple]:
-        return {(pin.name, timing.kind, timing.sense, word, source) for pin, timing in cell.timed()
-                for source in timing.related for word in timing.tables}
+        return {
+            (pin.name, timing.kind, timing.sense, word, source)
+            for pin, timing in cell.timed()
+            for source in timing.related
+            for word in timing.tables
+        }
+
     return "arcs or tests" if shape(early) != shape(late) else None
 
 
@@ -135,7 +161,7 @@ class LibraryWriter:
         rows = [table.values]
         if len(table.axes) == 2:
             width = len(table.axes[1][1])
-            rows = [table.values[it:it + width] for it in range(0, len(table.values), width)]
+            rows = [table.values[it : it + width] for it in range(0, len(table.values), width)]
         said = ", \\\n          ".join(f'"{self.entries("time", table, row)}"' for row in rows)
         return [f"        {word} ({self.template(table)}) {{ values ({said}); }}"]
 
@@ -147,14 +173,21 @@ class LibraryWriter:
         return self.templates.setdefault(key, f"{table.kind}_{len(self.templates) + 1}")
 
     def pin(self, pin: Pin) -> list[str]:
-        lines = [f'    pin ("{pin.name}") {{', f"      direction : {pin.direction};", f"      capacitance : {plain(pin.capacitance / self.load)};"]
+        lines = [
+            f'    pin ("{pin.name}") {{',
+            f"      direction : {pin.direction};",
+            f"      capacitance : {plain(pin.capacitance / self.load)};",
+        ]
         lines += ["      clock : true;"] if pin.is_clock else []
         lines += [f'      function : "{pin.function}";'] if pin.function else []
         for word, limit in pin.limits.items():
             unit = {"max_capacitance": self.load, "max_transition": self.time}.get(word, Decimal(1))
             lines.append(f"      {word} : {plain(limit / unit)};")
         for timing in pin.timings:
-            lines += ["      timing () {", f'        related_pin : "{" ".join(timing.related)}"; timing_type : {timing.kind};']
+            lines += [
+                "      timing () {",
+                f'        related_pin : "{" ".join(timing.related)}"; timing_type : {timing.kind};',
+            ]
             lines += [f"        timing_sense : {timing.sense};"] if timing.sense else []
             lines += [f'        when : "{timing.when}";'] if timing.when else []
             for word, table in timing.tables.items():
@@ -177,7 +210,11 @@ class LibraryWriter:
     def text(self, name: str, cells: Iterable[Cell]) -> str:
         body = [line for cell in cells for line in self.cell(cell)]
         count, unit = LOADS[self.load]
-        lines = [f"library ({name}) {{", f'  delay_model : table_lookup;\n  time_unit : "{TIMES[self.time]}";', f"  capacitive_load_unit ({count}, {unit});"]
+        lines = [
+            f"library ({name}) {{",
+            f'  delay_model : table_lookup;\n  time_unit : "{TIMES[self.time]}";',
+            f"  capacitive_load_unit ({count}, {unit});",
+        ]
         for key, template in self.templates.items():
             lines.append(f"  lu_table_template ({template}) {{")
             for number, (axis, entries) in enumerate(key[1:], 1):
@@ -202,7 +239,9 @@ def check_cell(name: str, early: LibrarySet, late: LibrarySet, user: Place) -> N
             raise InputFault(cell.place.file, cell.place.line, f"the cell {name} cannot be read: {cell.misfit}")
     why = differences(*both)
     if why:
-        raise InputFault(both[0].place.file, both[0].place.line, f"the cell {name} has other {why} than in {both[1].place} (E3)")
+        raise InputFault(
+            both[0].place.file, both[0].place.line, f"the cell {name} has other {why} than in {both[1].place} (E3)"
+        )
 
 
 def write_libraries(names: list[str], early: LibrarySet, late: LibrarySet) -> tuple[str, str]:

@@ -5,23 +5,57 @@ import re
 from collections.abc import Iterator
 from decimal import Decimal, InvalidOperation
 
-from ..files import InputFault
-from .boolean import Function, NoFunction, sense_word
-from .liberty_tree import Group, LibraryText
-from .report import Place, Report
+from lizdrog_tools.files import InputFault
+from lizdrog_tools.importing.boolean import Function, NoFunction, sense_word
+from lizdrog_tools.importing.liberty_tree import Group, LibraryText
+from lizdrog_tools.importing.report import Place, Report
 
 TIME_WORD = re.compile(r"\s*([0-9.]+)\s*(s|ms|us|ns|ps|fs)\s*")
-TIME_UNITS = {"s": Decimal(10) ** 12, "ms": Decimal(10) ** 9, "us": Decimal(10) ** 6, "ns": Decimal(1000), "ps": Decimal(1), "fs": Decimal("0.001")}
-CAP_UNITS = {"ff": Decimal(1), "pf": Decimal(1000), "nf": Decimal(10) ** 6, "uf": Decimal(10) ** 9, "f": Decimal(10) ** 15}
+TIME_UNITS = {
+    "s": Decimal(10) ** 12,
+    "ms": Decimal(10) ** 9,
+    "us": Decimal(10) ** 6,
+    "ns": Decimal(1000),
+    "ps": Decimal(1),
+    "fs": Decimal("0.001"),
+}
+CAP_UNITS = {
+    "ff": Decimal(1),
+    "pf": Decimal(1000),
+    "nf": Decimal(10) ** 6,
+    "uf": Decimal(10) ** 9,
+    "f": Decimal(10) ** 15,
+}
 COMBINATIONAL = {"combinational": ("rise", "fall"), "combinational_rise": ("rise",), "combinational_fall": ("fall",)}
 EDGES = {"rising_edge", "falling_edge"}
 TESTS = {f"{kind}_{edge}" for kind in ("setup", "hold") for edge in ("rising", "falling")}
-UNTESTED = ("recovery", "removal", "min_pulse_width", "minimum_period", "non_seq", "nochange", "skew", "clock_gating",
-            "max_clock_tree_path", "min_clock_tree_path", "preset", "clear", "retain")
-DELAY_VARIABLES = {"input_net_transition": "slew", "input_transition_time": "slew", "total_output_net_capacitance": "load"}
+UNTESTED = (
+    "recovery",
+    "removal",
+    "min_pulse_width",
+    "minimum_period",
+    "non_seq",
+    "nochange",
+    "skew",
+    "clock_gating",
+    "max_clock_tree_path",
+    "min_clock_tree_path",
+    "preset",
+    "clear",
+    "retain",
+)
+DELAY_VARIABLES = {
+    "input_net_transition": "slew",
+    "input_transition_time": "slew",
+    "total_output_net_capacitance": "load",
+}
 TEST_VARIABLES = {"related_pin_transition": "clock_slew", "constrained_pin_transition": "slew"}
-WRITTEN = {("delay", "slew"): "input_net_transition", ("delay", "load"): "total_output_net_capacitance",
-           ("test", "clock_slew"): "related_pin_transition", ("test", "slew"): "constrained_pin_transition"}
+WRITTEN = {
+    ("delay", "slew"): "input_net_transition",
+    ("delay", "load"): "total_output_net_capacitance",
+    ("test", "clock_slew"): "related_pin_transition",
+    ("test", "slew"): "constrained_pin_transition",
+}
 MOST_ENTRIES = 64
 
 
@@ -40,7 +74,10 @@ class Table:
 
     def numbers(self) -> tuple[list[list[fractions.Fraction]], list[fractions.Fraction]]:
         """The axes and the values in ps and fF."""
-        axes = [[fractions.Fraction(it) * fractions.Fraction(self.scale(name)) for it in entries] for name, entries in self.axes]
+        axes = [
+            [fractions.Fraction(it) * fractions.Fraction(self.scale(name)) for it in entries]
+            for name, entries in self.axes
+        ]
         return axes, [fractions.Fraction(it) * fractions.Fraction(self.time_scale) for it in self.values]
 
 
@@ -93,7 +130,9 @@ class Cell:
 
     def clock_pins(self) -> set[str]:
         """The pins that edges of arcs or tests refer to."""
-        return {it for _, timing in self.timed() if timing.kind in EDGES or timing.kind in TESTS for it in timing.related}
+        return {
+            it for _, timing in self.timed() if timing.kind in EDGES or timing.kind in TESTS for it in timing.related
+        }
 
     def data_pins(self) -> set[str]:
         return {pin.name for pin, timing in self.timed() if timing.kind in TESTS}
@@ -118,7 +157,9 @@ class Frame:
         self.load = self.load_unit(frame)
         model = frame.text("delay_model")
         if model not in (None, "table_lookup"):
-            raise InputFault(self.file, self.line("delay_model"), f"the delay model {model} is not read: table_lookup alone is")
+            raise InputFault(
+                self.file, self.line("delay_model"), f"the delay model {model} is not read: table_lookup alone is"
+            )
         self.templates = {it.args[0]: it for it in library.named("lu_table_template") if it.args}
         self.types = {it.args[0]: bus_span(it) for it in library.named("type") if it.args}
         self.defaults = {way: frame.text(f"default_{way}_pin_cap") for way in ("input", "output", "inout")}
@@ -138,8 +179,15 @@ class Frame:
         if len(words) == 1:
             words = re.split(r"[,\s]+", words[0].strip())
         if len(words) != 2 or words[1].lower() not in CAP_UNITS:
-            raise InputFault(self.file, self.line("capacitive_load_unit"), "the library has no capacitive_load_unit (number, ff or pf)")
-        return as_decimal(words[0], self.file, self.line("capacitive_load_unit"), "the capacitive_load_unit") * CAP_UNITS[words[1].lower()]
+            raise InputFault(
+                self.file,
+                self.line("capacitive_load_unit"),
+                "the library has no capacitive_load_unit (number, ff or pf)",
+            )
+        return (
+            as_decimal(words[0], self.file, self.line("capacitive_load_unit"), "the capacitive_load_unit")
+            * CAP_UNITS[words[1].lower()]
+        )
 
 
 def bus_span(group: Group) -> tuple[int, int] | None:
@@ -196,7 +244,11 @@ class CellReader:
         name, kind = group.args[0] if group.args else "", group.text("bus_type") or ""
         span = self.types.get(kind)
         if not name or span is None:
-            raise InputFault(self.frame.file, group.line, f"the bus {name} has the bus_type {kind}, which the library does not describe by bit_from and bit_to")
+            raise InputFault(
+                self.frame.file,
+                group.line,
+                f"the bus {name} has the bus_type {kind}, which the library does not describe by bit_from and bit_to",
+            )
         self.members(name, group, bits_of(name, span))
         self.cell.spans[name] = span
 
@@ -224,8 +276,10 @@ class CellReader:
     def pin(self, name: str, group: Group | None, around: Group | None, bits: list[str]) -> None:
         """A pin by its own group, and where that says nothing by the group of its bus."""
         both = [it for it in (group, around) if it is not None]
+
         def said(word: str) -> str | None:
             return next((text for it in both if (text := it.text(word)) is not None), None)
+
         way, line = said("direction"), both[0].line
         if around is None:
             self.cell.spans[name] = None
@@ -235,12 +289,23 @@ class CellReader:
         if way not in ("input", "output", "inout"):
             raise InputFault(self.frame.file, line, f"the pin {name} of {self.cell.name} has the direction {way}")
         if way == "inout" or ":" in name:
-            self.cell.misfit = f"its pin {name} is an inout" if way == "inout" else f"its pin {name} has a colon in its name"
+            self.cell.misfit = (
+                f"its pin {name} is an inout" if way == "inout" else f"its pin {name} has a colon in its name"
+            )
         load = said("capacitance")
         load = self.frame.defaults[way] if load is None else load
-        made = Pin(name, way, as_decimal(load or "0", self.frame.file, line, f"the capacitance of {name}") * self.frame.load, said("function"))
+        made = Pin(
+            name,
+            way,
+            as_decimal(load or "0", self.frame.file, line, f"the capacitance of {name}") * self.frame.load,
+            said("function"),
+        )
         self.capacitances(name, made.capacitance, said, line)
-        for word, scale in (("max_capacitance", self.frame.load), ("max_transition", self.frame.time), ("max_fanout", Decimal(1))):
+        for word, scale in (
+            ("max_capacitance", self.frame.load),
+            ("max_transition", self.frame.time),
+            ("max_fanout", Decimal(1)),
+        ):
             if said(word) is not None:
                 made.limits[word] = as_decimal(said(word), self.frame.file, line, word) * scale
         made.is_clock = said("clock") == "true"
@@ -253,8 +318,15 @@ class CellReader:
     def capacitances(self, name: str, load: Decimal, said, line: int) -> None:
         for edge in ("rise", "fall"):
             text = said(f"{edge}_capacitance")
-            if text is not None and as_decimal(text, self.frame.file, line, f"{edge}_capacitance") * self.frame.load != load:
-                self.lose("pin-capacitance", line, f"pin {name} has a {edge}_capacitance other than its capacitance, which alone is read")
+            if (
+                text is not None
+                and as_decimal(text, self.frame.file, line, f"{edge}_capacitance") * self.frame.load != load
+            ):
+                self.lose(
+                    "pin-capacitance",
+                    line,
+                    f"pin {name} has a {edge}_capacitance other than its capacitance, which alone is read",
+                )
 
     def related(self, group: Group, bits: list[str]) -> list[tuple[list[str], list[str]]]:
         """Pairs of related pins and pins: bit by bit where both are buses of one width, else each to each."""
@@ -279,7 +351,11 @@ class CellReader:
         elif kind in TESTS:
             wanted = not output
         elif kind.startswith(UNTESTED):
-            self.report.drop("test-type", self.place(group.line), f"cell {self.cell.name}: {kind} of {name}: there is no such test in Lizdrog")
+            self.report.drop(
+                "test-type",
+                self.place(group.line),
+                f"cell {self.cell.name}: {kind} of {name}: there is no such test in Lizdrog",
+            )
             return
         elif kind.startswith("three_state"):
             self.lose("three-state", group.line, f"{kind} of {name} is not read")
@@ -307,9 +383,15 @@ class CellReader:
                 for source in known:
                     sense = self.sense(group, kind, pin, source)
                     written = "combinational" if kind in COMBINATIONAL else kind
-                    self.cell.pins[pin].timings.append(Timing([source], written, sense, group.text("when"), tables, group.line))
+                    self.cell.pins[pin].timings.append(
+                        Timing([source], written, sense, group.text("when"), tables, group.line)
+                    )
         if kind in ("combinational_rise", "combinational_fall"):
-            self.report.change("timing-type", self.place(group.line), f"cell {self.cell.name}: {kind} of {name} as combinational with the tables of one edge")
+            self.report.change(
+                "timing-type",
+                self.place(group.line),
+                f"cell {self.cell.name}: {kind} of {name} as combinational with the tables of one edge",
+            )
 
     def sense(self, group: Group, kind: str, pin: str, source: str) -> str | None:
         """The sense that is written, or the one that the pin's function has."""
@@ -322,7 +404,9 @@ class CellReader:
             return None
         found = sense_word(function.senses(source, {})) if source in function.inputs else None
         if found and found != "non_unate":
-            self.report.change("sense", self.place(group.line), f"cell {self.cell.name}: {source} to {pin} is {found} by its function")
+            self.report.change(
+                "sense", self.place(group.line), f"cell {self.cell.name}: {source} to {pin} is {found} by its function"
+            )
         return found
 
     def tables(self, name: str, group: Group, kind: str) -> dict[str, Table]:
@@ -336,8 +420,11 @@ class CellReader:
                 for word, tables in zip(words, groups, strict=True):
                     found[word] = self.table(name, tables[-1], "test" if kind in TESTS else "delay")
             elif any(groups):
-                self.report.drop("half-an-arc", self.place(group.line),
-                                 f"cell {self.cell.name}: {name} has one of {' and '.join(words)}: no arc comes of it")
+                self.report.drop(
+                    "half-an-arc",
+                    self.place(group.line),
+                    f"cell {self.cell.name}: {name} has one of {' and '.join(words)}: no arc comes of it",
+                )
         return {word: table for word, table in found.items() if table is not None}
 
     def table(self, name: str, group: Group, kind: str) -> Table | None:
@@ -353,13 +440,19 @@ class CellReader:
                 continue
             entries = numbers_of(group.values(f"index_{number}") or template.values(f"index_{number}"))
             if variable not in variables or len(axes) == 2 or len(entries) > MOST_ENTRIES:
-                self.lose("table", group.line, f"a table of {name} over {variable} ({len(entries)} entries) is not read")
+                self.lose(
+                    "table", group.line, f"a table of {name} over {variable} ({len(entries)} entries) is not read"
+                )
                 return None
             axes.append((variables[variable], entries))
             count *= len(entries)
         values = numbers_of(group.values("values"))
         if len(values) != count:
-            raise InputFault(self.frame.file, group.line, f"{group.name} of {name} has {len(values)} values, and its template asks for {count}")
+            raise InputFault(
+                self.frame.file,
+                group.line,
+                f"{group.name} of {name} has {len(values)} values, and its template asks for {count}",
+            )
         for text in (*values, *(it for _, entries in axes for it in entries)):
             as_decimal(text, self.frame.file, group.line, f"an entry of {group.name} of {name}")
         return Table(kind, axes, values, self.frame.time, self.frame.load)

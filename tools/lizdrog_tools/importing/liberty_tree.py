@@ -3,11 +3,11 @@ import dataclasses
 import re
 from collections.abc import Iterator
 
-from ..files import InputFault, line_of
+from lizdrog_tools.files import InputFault, line_of
 
 BRACES = re.compile(r'/\*.*?\*/|"[^"]*"|([{}])', re.S)
 COMMENT = re.compile(r"/\*.*?\*/", re.S)
-HEAD = re.compile(r'([A-Za-z_]\w*)\s*\(([^(){};]*)\)\s*$', re.S)
+HEAD = re.compile(r"([A-Za-z_]\w*)\s*\(([^(){};]*)\)\s*$", re.S)
 TOKEN = re.compile(r'/\*.*?\*/|\\\r?\n|"([^"]*)"|([{}();:,])|((?:[^\s{}();:,"/\\]|/(?!\*)|\\(?!\r?\n))+)|(\n)', re.S)
 CONTINUED = re.compile(r"\\\r?\n")
 QUOTED, MARK, WORD, END = 1, 2, 3, 4
@@ -102,7 +102,9 @@ class TreeReader:
         self.step()
         while not self.at("}"):
             if not self.sort:
-                raise InputFault(self.file, group.line, f"the group {group.name} ({', '.join(group.args)}) has no closing bracket")
+                raise InputFault(
+                    self.file, group.line, f"the group {group.name} ({', '.join(group.args)}) has no closing bracket"
+                )
             if self.sort not in (QUOTED, WORD):
                 self.step()
                 continue
@@ -171,7 +173,7 @@ def read_library(text: str, file: str) -> LibraryText:
             depth += 1
             if depth > 2:
                 continue
-            head = COMMENT.sub(lambda it: " " * len(it.group()), text[behind:found.start()])
+            head = COMMENT.sub(lambda it: " " * len(it.group()), text[behind : found.start()])
             said = HEAD.search(head)
             if not said:
                 raise InputFault(file, line_of(text, found.start()), "a { without the name of a group before it")
@@ -179,7 +181,7 @@ def read_library(text: str, file: str) -> LibraryText:
             if depth == 1:
                 whole = part
             else:
-                frame.append((behind, head[:said.start()]))
+                frame.append((behind, head[: said.start()]))
                 parts.append(part)
             behind = found.end()
         elif mark == "}":
@@ -187,7 +189,7 @@ def read_library(text: str, file: str) -> LibraryText:
             if depth == 1:
                 behind = found.end()
             elif depth == 0:
-                frame.append((behind, text[behind:found.start()]))
+                frame.append((behind, text[behind : found.start()]))
                 check_end(text, found.end(), file)
                 break
     if whole is None or whole.name != "library":
@@ -201,8 +203,12 @@ def check_end(text: str, end: int, file: str) -> None:
     """Nothing but comments stands after the library."""
     rest = COMMENT.sub(lambda it: "\n" * it.group().count("\n"), text[end:])
     if rest.strip(" \t\r\n;"):
-        line = line_of(text, end) + rest[:len(rest) - len(rest.lstrip())].count("\n")
-        raise InputFault(file, line, "the library ends before this line: a closing bracket too many, or a second library, which is a file of its own")
+        line = line_of(text, end) + rest[: len(rest) - len(rest.lstrip())].count("\n")
+        raise InputFault(
+            file,
+            line,
+            "the library ends before this line: a closing bracket too many, or a second library, which is a file of its own",
+        )
 
 
 def frame_of(text: str, pieces: list[tuple[int, str]], file: str) -> Group:

@@ -1,14 +1,45 @@
 """Attributes of libraries that no reader takes and that look like a mistyped one."""
 import functools
 
-from .liberty_tree import Group
-from .report import Place, Report
+from lizdrog_tools.importing.liberty_tree import Group
+from lizdrog_tools.importing.report import Place, Report
 
-READ = ("time_unit", "capacitive_load_unit", "delay_model", "lu_table_template", "variable_1", "variable_2", "index_1", "index_2",
-        "direction", "capacitance", "timing", "related_pin", "timing_type", "timing_sense", "cell_rise", "cell_fall",
-        "rise_transition", "fall_transition", "rise_constraint", "fall_constraint", "values", "function")
+READ = (
+    "time_unit",
+    "capacitive_load_unit",
+    "delay_model",
+    "lu_table_template",
+    "variable_1",
+    "variable_2",
+    "index_1",
+    "index_2",
+    "direction",
+    "capacitance",
+    "timing",
+    "related_pin",
+    "timing_type",
+    "timing_sense",
+    "cell_rise",
+    "cell_fall",
+    "rise_transition",
+    "fall_transition",
+    "rise_constraint",
+    "fall_constraint",
+    "values",
+    "function",
+)
 # Words of Liberty that are near one of these and mean something else.
-ANOTHER = {"variable_3", "index_3", "variable_4", "index_4", "timing_label", "when_start", "when_end", "sdf_cond", "value"}
+ANOTHER = {
+    "variable_3",
+    "index_3",
+    "variable_4",
+    "index_4",
+    "timing_label",
+    "when_start",
+    "when_end",
+    "sdf_cond",
+    "value",
+}
 LEAST_LETTERS = 5
 FARTHEST = 2
 

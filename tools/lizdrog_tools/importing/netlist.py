@@ -1,7 +1,7 @@
 """A flat netlist: ports, nets and instances, with the names of the hierarchy that it came from."""
 import dataclasses
 
-from .report import Place
+from lizdrog_tools.importing.report import Place
 
 ZERO, ONE = "1'b0", "1'b1"
 CONSTANTS = (ZERO, ONE)

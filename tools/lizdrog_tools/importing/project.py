@@ -5,7 +5,7 @@ import pathlib
 import tomllib
 from typing import Any
 
-from ..files import InputFault, read_text
+from lizdrog_tools.files import InputFault, read_text
 
 LISTS = ("early", "late", "netlist", "sdc", "accept", "keep")
 KNOWN = {*LISTS, "library", "top", "spef", "prefer", "output", "journal", "workers"}
@@ -84,13 +84,27 @@ def read_project(name: str) -> Project:
         raise fault(name, "library gives both early and late; write either library, or early and late")
     for key, files in (("early", early), ("late", late), ("netlist", lists["netlist"])):
         if not files:
-            raise fault(name, f"the key {key} is missing" + (" (or library, for both early and late)" if key != "netlist" else ""))
+            raise fault(
+                name,
+                f"the key {key} is missing" + (" (or library, for both early and late)" if key != "netlist" else ""),
+            )
     prefer = table.get("prefer", {})
     if not isinstance(prefer, dict) or not all(isinstance(it, str) for it in prefer.values()):
         raise fault(name, 'prefer is a table from a cell to a file: prefer = { NAND2X1 = "a.lib" }')
     for key in ("top", "output"):
         if not isinstance(table.get(key, ""), str):
             raise fault(name, f"{key} is a text")
-    return Project(name, pathlib.Path(os.path.dirname(name) or "."), early, late, lists["netlist"], lists["sdc"],
-                   spef_files(name, table.get("spef")), table.get("top"), lists["accept"], lists["keep"], prefer,
-                   table.get("output"))
+    return Project(
+        name,
+        pathlib.Path(os.path.dirname(name) or "."),
+        early,
+        late,
+        lists["netlist"],
+        lists["sdc"],
+        spef_files(name, table.get("spef")),
+        table.get("top"),
+        lists["accept"],
+        lists["keep"],
+        prefer,
+        table.get("output"),
+    )

@@ -1,15 +1,47 @@
 """The commands that ask for objects, and those that handle collections."""
-from .design import Object, Search, is_sequential
-from .filters import Filter
-from .session import Session, Words
-from .tcl import CommandFault, joined
+from lizdrog_tools.importing.design import Object, Search, is_sequential
+from lizdrog_tools.importing.filters import Filter
+from lizdrog_tools.importing.session import Session, Words
+from lizdrog_tools.importing.tcl import CommandFault, joined
 
-GET = {"get_ports": ("port",), "get_cells": ("cell",), "get_pins": ("pin",), "get_nets": ("net",), "get_clocks": ("clock",),
-       "get_lib_cells": ("lib_cell",), "get_lib_pins": ("lib_pin",), "get_libs": ("lib",), "get_instances": ("cell",)}
-GET_OPTIONS = {"-hierarchical": 0, "-regexp": 0, "-nocase": 0, "-exact": 0, "-quiet": 0, "-filter": 1, "-of_objects": 1, "-leaf": 0,
-               "-segments": 0, "-top_net_of_hierarchical_group": 0, "-hsc": 1, "-include_generated_clocks": 0}
-REGISTER_OPTIONS = {"-clock": 1, "-clock_pins": 0, "-data_pins": 0, "-cells": 0, "-output_pins": 0, "-edge_triggered": 0,
-                    "-level_sensitive": 0, "-rise_clock": 1, "-fall_clock": 1, "-async_pins": 0, "-no_hierarchy": 0}
+GET = {
+    "get_ports": ("port",),
+    "get_cells": ("cell",),
+    "get_pins": ("pin",),
+    "get_nets": ("net",),
+    "get_clocks": ("clock",),
+    "get_lib_cells": ("lib_cell",),
+    "get_lib_pins": ("lib_pin",),
+    "get_libs": ("lib",),
+    "get_instances": ("cell",),
+}
+GET_OPTIONS = {
+    "-hierarchical": 0,
+    "-regexp": 0,
+    "-nocase": 0,
+    "-exact": 0,
+    "-quiet": 0,
+    "-filter": 1,
+    "-of_objects": 1,
+    "-leaf": 0,
+    "-segments": 0,
+    "-top_net_of_hierarchical_group": 0,
+    "-hsc": 1,
+    "-include_generated_clocks": 0,
+}
+REGISTER_OPTIONS = {
+    "-clock": 1,
+    "-clock_pins": 0,
+    "-data_pins": 0,
+    "-cells": 0,
+    "-output_pins": 0,
+    "-edge_triggered": 0,
+    "-level_sensitive": 0,
+    "-rise_clock": 1,
+    "-fall_clock": 1,
+    "-async_pins": 0,
+    "-no_hierarchy": 0,
+}
 PORT_OPTIONS = {"-clock": 1, "-no_clocks": 0, "-edge_triggered": 0, "-level_sensitive": 0, "-exclude_clock_ports": 0}
 
 
@@ -19,11 +51,27 @@ class Queries:
     def __init__(self, session: Session):
         self.session, self.design = session, session.design
         self.commands = {name: self.get for name in GET} | {
-            "all_inputs": self.all_ports, "all_outputs": self.all_ports, "all_clocks": self.all_clocks, "all_registers": self.all_registers,
-            "add_to_collection": self.add, "remove_from_collection": self.remove, "sizeof_collection": self.size, "index_collection": self.index,
-            "copy_collection": self.whole, "flatten": self.whole, "query_objects": self.names, "get_object_name": self.names, "get_full_name": self.names,
-            "get_name": self.names, "sort_collection": self.sort, "filter_collection": self.filter, "compare_collections": self.compare,
-            "get_attribute": self.attribute, "get_property": self.attribute, "object_exists": self.size}
+            "all_inputs": self.all_ports,
+            "all_outputs": self.all_ports,
+            "all_clocks": self.all_clocks,
+            "all_registers": self.all_registers,
+            "add_to_collection": self.add,
+            "remove_from_collection": self.remove,
+            "sizeof_collection": self.size,
+            "index_collection": self.index,
+            "copy_collection": self.whole,
+            "flatten": self.whole,
+            "query_objects": self.names,
+            "get_object_name": self.names,
+            "get_full_name": self.names,
+            "get_name": self.names,
+            "sort_collection": self.sort,
+            "filter_collection": self.filter,
+            "compare_collections": self.compare,
+            "get_attribute": self.attribute,
+            "get_property": self.attribute,
+            "object_exists": self.size,
+        }
 
     def search(self, words: Words) -> Search:
         flags = words.flags
@@ -49,7 +97,9 @@ class Queries:
         return self.session.tokens(kept)
 
     def of_objects(self, text: str) -> list[Object]:
-        return self.session.objects(text, ("cell", "block", "pin", "block_pin", "net", "port", "clock", "lib_cell", "lib_pin"))
+        return self.session.objects(
+            text, ("cell", "block", "pin", "block_pin", "net", "port", "clock", "lib_cell", "lib_pin")
+        )
 
     def filtered(self, found: list[Object], text: str) -> list[Object]:
         kept = Filter(text)
@@ -63,8 +113,12 @@ class Queries:
         way = self.session.command.removeprefix("all_").removesuffix("s")
         if said.has("-clock") or said.has("-edge_triggered") or said.has("-level_sensitive"):
             raise CommandFault(f"{self.session.command} -clock is not read: name the ports")
-        clocks = set(self.design.clocks.values()) if said.has("-no_clocks") or said.has("-exclude_clock_ports") else set()
-        return self.session.tokens([Object("port", it) for it, side in self.design.netlist.ports.items() if side == way and it not in clocks])
+        clocks = (
+            set(self.design.clocks.values()) if said.has("-no_clocks") or said.has("-exclude_clock_ports") else set()
+        )
+        return self.session.tokens(
+            [Object("port", it) for it, side in self.design.netlist.ports.items() if side == way and it not in clocks]
+        )
 
     def all_clocks(self, words: list[str]) -> str:
         self.session.parse(words, {})
@@ -94,7 +148,11 @@ class Queries:
     def parts(name: str, cell, said: Words) -> list[Object]:
         """The register itself, or the pins of it that are asked."""
         pins = set()
-        for option, those in (("-clock_pins", cell.clock_pins()), ("-data_pins", cell.data_pins()), ("-output_pins", cell.outputs())):
+        for option, those in (
+            ("-clock_pins", cell.clock_pins()),
+            ("-data_pins", cell.data_pins()),
+            ("-output_pins", cell.outputs()),
+        ):
             pins |= those if said.has(option) else set()
         if any(said.has(it) for it in ("-clock_pins", "-data_pins", "-output_pins")):
             return [Object("pin", f"{name}/{it}") for it in cell.pins if it in pins]
@@ -116,7 +174,9 @@ class Queries:
         gone = {it for word in said.plain[1:] for it in self.session.items(word)}
         names = {it for it in gone if isinstance(it, str)}
         keeps = said.has("-intersect")
-        return self.session.tokens([it for it in self.session.collection(said.plain[0]) if (it in gone or it.name in names) == keeps])
+        return self.session.tokens(
+            [it for it in self.session.collection(said.plain[0]) if (it in gone or it.name in names) == keeps]
+        )
 
     def size(self, words: list[str]) -> str:
         return str(len(self.session.collection(words[0])))
@@ -126,7 +186,7 @@ class Queries:
         if not all(0 <= it < len(found) for it in places):
             raise CommandFault(f"index_collection: the collection has {len(found)} objects")
         first, last = places[0], places[-1]
-        return self.session.tokens(found[first:last + 1])
+        return self.session.tokens(found[first : last + 1])
 
     def names(self, words: list[str]) -> str:
         found = self.session.items([it for it in words if not it.startswith("-")][0])
@@ -136,7 +196,11 @@ class Queries:
     def sort(self, words: list[str]) -> str:
         said = self.session.parse(words, {"-descending": 0, "-dictionary": 0})
         names = said.plain[1].split() if len(said.plain) > 1 else ["full_name"]
-        found = sorted(self.session.collection(said.plain[0]), key=lambda made: [self.value(made, it) or "" for it in names], reverse=said.has("-descending"))
+        found = sorted(
+            self.session.collection(said.plain[0]),
+            key=lambda made: [self.value(made, it) or "" for it in names],
+            reverse=said.has("-descending"),
+        )
         return self.session.tokens(found)
 
     def filter(self, words: list[str]) -> str:

@@ -69,8 +69,12 @@ class Report:
         return 2 if self.refused else 1 if self.accepted else 0
 
     def sections(self) -> dict[str, list[Remark]]:
-        return {"changed": self.changes, "left_out_without_effect": self.harmless,
-                "left_out_and_accepted": self.accepted, "refused": self.refused}
+        return {
+            "changed": self.changes,
+            "left_out_without_effect": self.harmless,
+            "left_out_and_accepted": self.accepted,
+            "refused": self.refused,
+        }
 
     def as_json(self, facts: dict[str, object]) -> str:
         """The whole report, each remark by itself."""
@@ -79,9 +83,12 @@ class Report:
 
     def as_text(self, facts: dict[str, object]) -> str:
         """The report for a reader: counted by kind, with the first places of each."""
-        titles = {"changed": "Changed, with the same slacks", "left_out_without_effect": "Left out: no slack changes",
-                  "left_out_and_accepted": "Left out: slacks change (accepted by the project)",
-                  "refused": "Not expressed: slacks would change"}
+        titles = {
+            "changed": "Changed, with the same slacks",
+            "left_out_without_effect": "Left out: no slack changes",
+            "left_out_and_accepted": "Left out: slacks change (accepted by the project)",
+            "refused": "Not expressed: slacks would change",
+        }
         lines = [f"{name.replace('_', ' ')}: {value}" for name, value in facts.items()]
         for name, remarks in self.sections().items():
             if remarks:

@@ -1,9 +1,19 @@
 """Expresses by the constraints that Lizdrog reads what others say: clock groups, latencies, delays of several clocks, orders of exceptions."""
 from decimal import Decimal
 
-from .constraints import CORNERS, KINDS, Clock, Constraints, Corner, Delay, PathEnd, PathException, PortDelays
-from .design import Design
-from .report import Report
+from lizdrog_tools.importing.constraints import (
+    CORNERS,
+    KINDS,
+    Clock,
+    Constraints,
+    Corner,
+    Delay,
+    PathEnd,
+    PathException,
+    PortDelays,
+)
+from lizdrog_tools.importing.design import Design
+from lizdrog_tools.importing.report import Report
 
 OTHER_SPLIT = {"early": "late", "late": "early"}
 
@@ -19,7 +29,9 @@ def expand_groups(constraints: Constraints, report: Report) -> None:
             if one and others:
                 ends = PathEnd(clocks=one), PathEnd(clocks=others)
                 constraints.exceptions.append(PathException(KINDS, None, *ends, item.place))
-        report.change("clock-groups", item.place, f"set_clock_groups of {len(item.groups)} groups as false paths both ways")
+        report.change(
+            "clock-groups", item.place, f"set_clock_groups of {len(item.groups)} groups as false paths both ways"
+        )
 
 
 def latency(clock: Clock, corner: Corner) -> Decimal:
@@ -33,13 +45,20 @@ def common_latency(constraints: Constraints, report: Report) -> Decimal:
     common = None
     for clock in (it for it in constraints.clocks.values() if it.port):
         if clock.is_propagated and clock.network_latency:
-            report.drop("network-latency", clock.ideal_places[-1], f"the clock {clock.name} is propagated: its network has the delays of its cells")
+            report.drop(
+                "network-latency",
+                clock.ideal_places[-1],
+                f"the clock {clock.name} is propagated: its network has the delays of its cells",
+            )
         for corner in CORNERS:
             value = latency(clock, corner)
             common = value if common is None else common
             if value != common:
-                report.lose("latency", clock.ideal_places[-1] if clock.ideal_places else clock.place,
-                            f"the clock {clock.name} has a latency of {value} ps ({' '.join(corner)}), and another of {common} ps: one latency of all clocks is read")
+                report.lose(
+                    "latency",
+                    clock.ideal_places[-1] if clock.ideal_places else clock.place,
+                    f"the clock {clock.name} has a latency of {value} ps ({' '.join(corner)}), and another of {common} ps: one latency of all clocks is read",
+                )
                 return common
     return common or Decimal(0)
 
@@ -53,11 +72,18 @@ def shift_by_latencies(constraints: Constraints, report: Report) -> None:
                 for corner, delay in corners.items():
                     moved = moved_delay(kind, constraints.clocks[name], corner, delay, common)
                     if moved:
-                        report.change("latency", delay.place, f"the {kind} delay of {port} against {name} ({' '.join(corner)}) is moved by {moved} ps")
+                        report.change(
+                            "latency",
+                            delay.place,
+                            f"the {kind} delay of {port} against {name} ({' '.join(corner)}) is moved by {moved} ps",
+                        )
                         delay.value += moved
     if common:
-        report.change("latency", next(it.ideal_places[-1] for it in constraints.clocks.values() if it.ideal_places),
-                      f"all clocks at ports are {common} ps late: that moves all times, and no slack")
+        report.change(
+            "latency",
+            next(it.ideal_places[-1] for it in constraints.clocks.values() if it.ideal_places),
+            f"all clocks at ports are {common} ps late: that moves all times, and no slack",
+        )
 
 
 def moved_delay(kind: str, clock: Clock, corner: Corner, delay: Delay, common: Decimal) -> Decimal:
@@ -85,7 +111,11 @@ def single_clock(kind: str, port: str, delays: PortDelays, report: Report) -> No
             if other == name:
                 continue
             if (name, other) not in told:
-                report.lose("add-delay", corners[corner].place, f"the {kind} {port} has a delay against {other}, and here one against {name} beside it")
+                report.lose(
+                    "add-delay",
+                    corners[corner].place,
+                    f"the {kind} {port} has a delay against {other}, and here one against {name} beside it",
+                )
                 told.add((name, other))
             del corners[corner]
 
@@ -94,16 +124,29 @@ def between_clocks(constraints: Constraints, report: Report) -> None:
     """An uncertainty between clocks is one of the capturing clock, where all clocks have the same against it."""
     for kind in KINDS:
         for clock in constraints.clocks.values():
-            pairs = {one: it for (one, other, which), it in constraints.between.items() if other == clock.name and which == kind}
+            pairs = {
+                one: it
+                for (one, other, which), it in constraints.between.items()
+                if other == clock.name and which == kind
+            }
             if not pairs:
                 continue
-            values = {pairs[one].value if one in pairs else clock.uncertainty.get(kind, Decimal(0)) for one in constraints.clocks}
+            values = {
+                pairs[one].value if one in pairs else clock.uncertainty.get(kind, Decimal(0))
+                for one in constraints.clocks
+            }
             place = next(iter(pairs.values())).place
             if len(values) == 1:
                 clock.uncertainty[kind] = values.pop()
-                report.change("uncertainty", place, f"the {kind} uncertainty of all clocks towards {clock.name} is its own")
+                report.change(
+                    "uncertainty", place, f"the {kind} uncertainty of all clocks towards {clock.name} is its own"
+                )
             else:
-                report.lose("uncertainty", place, f"the {kind} uncertainty towards {clock.name} differs by the launching clock: one of the clock alone is read")
+                report.lose(
+                    "uncertainty",
+                    place,
+                    f"the {kind} uncertainty towards {clock.name} differs by the launching clock: one of the clock alone is read",
+                )
 
 
 def same_end(one: PathEnd | None, other: PathEnd | None) -> bool:
@@ -122,12 +165,20 @@ def order_multicycles(constraints: Constraints, report: Report) -> None:
     for made in constraints.exceptions:
         if made.cycles is None:
             continue
-        for before in [it for it in cycles if it.kinds == made.kinds and same_end(it.start, made.start) and same_end(it.end, made.end)]:
+        for before in [
+            it
+            for it in cycles
+            if it.kinds == made.kinds and same_end(it.start, made.start) and same_end(it.end, made.end)
+        ]:
             cycles.remove(before)
         cycles.append(made)
     ordered = sorted(cycles, key=lambda it: (it.priority(), -it.cycles))
     if ordered != cycles:
-        report.change("multicycle-order", cycles[0].place, "multicycles are written general ones first, since the last that matches counts")
+        report.change(
+            "multicycle-order",
+            cycles[0].place,
+            "multicycles are written general ones first, since the last that matches counts",
+        )
     constraints.exceptions = ordered + [it for it in constraints.exceptions if it.cycles is None]
 
 
@@ -139,13 +190,19 @@ def check_ends(constraints: Constraints, design: Design, report: Report) -> None
             if end is None:
                 continue
             for port in [it for it in end.ports if option == "-from" and it in clock_ports]:
-                report.lose("from-clock-port", made.place, f"-from the port {port}, at which a clock begins: name the clock")
+                report.lose(
+                    "from-clock-port", made.place, f"-from the port {port}, at which a clock begins: name the clock"
+                )
             for pin in end.pins:
                 instance, word = design.pin_parts(pin)
                 cell = design.cell_of(instance)
                 fits = word in cell.clock_pins() if option == "-from" else word in cell.data_pins()
                 if not fits:
-                    report.drop("no-path", made.place, f"{option} {pin}: no path {'begins' if option == '-from' else 'ends'} there")
+                    report.drop(
+                        "no-path",
+                        made.place,
+                        f"{option} {pin}: no path {'begins' if option == '-from' else 'ends'} there",
+                    )
 
 
 def resolve(constraints: Constraints, design: Design, report: Report) -> None:

@@ -4,14 +4,14 @@ import pathlib
 import re
 import tempfile
 
-from ..files import InputFault, read_text
-from .constraints import Constraints
-from .design import Design
-from .queries import Queries
-from .report import Place, Report
-from .sdc_commands import TimingCommands
-from .session import Session
-from .tcl import CommandFault, NoTcl, find_tcl
+from lizdrog_tools.files import InputFault, read_text
+from lizdrog_tools.importing.constraints import Constraints
+from lizdrog_tools.importing.design import Design
+from lizdrog_tools.importing.queries import Queries
+from lizdrog_tools.importing.report import Place, Report
+from lizdrog_tools.importing.sdc_commands import TimingCommands
+from lizdrog_tools.importing.session import Session
+from lizdrog_tools.importing.tcl import CommandFault, NoTcl, find_tcl
 
 # Commands without an effect on slacks: limits, wishes of synthesis, power, settings and printing of tools.
 WITHOUT_EFFECT = """group_path set_max_area set_max_fanout set_max_transition set_max_capacitance set_min_capacitance set_min_fanout set_min_transition
@@ -26,16 +26,30 @@ WITHOUT_EFFECT = """group_path set_max_area set_max_fanout set_max_transition se
 # Commands that change slacks and have no counterpart.
 LOST = {
     "create_generated_clock": "registers clocked by it have no clock, and their endpoints are not tested",
-    "set_max_delay": "the paths keep the limit that the clocks give, or none", "set_min_delay": "the paths keep the limit that the clocks give, or none",
-    "set_ideal_network": "the network keeps its delays", "set_ideal_net": "the net keeps its delay", "set_ideal_latency": "the network keeps its delays",
-    "set_ideal_transition": "the network keeps its slews", "set_sense": "the clock goes on where it shall stop or be turned",
-    "set_clock_sense": "the clock goes on where it shall stop or be turned", "set_data_check": "the test is not made",
-    "set_annotated_delay": "the delay is computed", "set_annotated_check": "the test has its value of the library",
-    "set_annotated_transition": "the slew is computed", "set_resistance": "the net keeps its resistance",
-    "set_max_time_borrow": "nothing is borrowed in Lizdrog", "set_clock_jitter": "the uncertainty stays as it is", "set_drive": "the port's slew stays as it is",
-    "read_sdf": "delays are computed", "set_path_margin": "the paths keep their slack", "set_disable_clock_gating_check": "the test is not made anyway",
-    "set_wire_load_selection_group": "nets without parasitics have no wires", "set_noise_margin": "nothing is known of noise",
-    "unknown-command": "", "set_port_fanout_number": "nets without parasitics have no wires"}
+    "set_max_delay": "the paths keep the limit that the clocks give, or none",
+    "set_min_delay": "the paths keep the limit that the clocks give, or none",
+    "set_ideal_network": "the network keeps its delays",
+    "set_ideal_net": "the net keeps its delay",
+    "set_ideal_latency": "the network keeps its delays",
+    "set_ideal_transition": "the network keeps its slews",
+    "set_sense": "the clock goes on where it shall stop or be turned",
+    "set_clock_sense": "the clock goes on where it shall stop or be turned",
+    "set_data_check": "the test is not made",
+    "set_annotated_delay": "the delay is computed",
+    "set_annotated_check": "the test has its value of the library",
+    "set_annotated_transition": "the slew is computed",
+    "set_resistance": "the net keeps its resistance",
+    "set_max_time_borrow": "nothing is borrowed in Lizdrog",
+    "set_clock_jitter": "the uncertainty stays as it is",
+    "set_drive": "the port's slew stays as it is",
+    "read_sdf": "delays are computed",
+    "set_path_margin": "the paths keep their slack",
+    "set_disable_clock_gating_check": "the test is not made anyway",
+    "set_wire_load_selection_group": "nets without parasitics have no wires",
+    "set_noise_margin": "nothing is known of noise",
+    "unknown-command": "",
+    "set_port_fanout_number": "nets without parasitics have no wires",
+}
 LIMITS = {"set_max_fanout", "set_max_transition", "set_max_capacitance", "set_min_capacitance"}
 WIRE_LOADS = ("set_wire_load_model", "set_wire_load_mode", "set_wire_load_min_block_size")
 WHERE = re.compile(r'\(file "(.*?)" line (\d+)\)')
@@ -51,9 +65,17 @@ class Runner:
         self.originals: dict[str, str] = {}
         self.copies = 0
         self.work = tempfile.TemporaryDirectory()
-        self.commands = {**self.queries.commands, **self.timing.commands, "source": self.source, "current_design": self.current_design,
-                         "current_instance": self.current_instance, "set_operating_conditions": self.set_operating_conditions,
-                         **dict.fromkeys(WIRE_LOADS, self.wire_load), **dict.fromkeys(WITHOUT_EFFECT, self.without_effect), **dict.fromkeys(LOST, self.lost)}
+        self.commands = {
+            **self.queries.commands,
+            **self.timing.commands,
+            "source": self.source,
+            "current_design": self.current_design,
+            "current_instance": self.current_instance,
+            "set_operating_conditions": self.set_operating_conditions,
+            **dict.fromkeys(WIRE_LOADS, self.wire_load),
+            **dict.fromkeys(WITHOUT_EFFECT, self.without_effect),
+            **dict.fromkeys(LOST, self.lost),
+        }
 
     def names(self) -> list[str]:
         """The commands that Tcl has to know; `source` and what is no command are its own."""
@@ -92,7 +114,9 @@ class Runner:
         made = self.copy(name)
         said = find_tcl(self.names(), self.answer).run(made, str(self.folder.resolve()))
         if said[0] != "ok":
-            places = [(self.originals[file], int(line)) for file, line in WHERE.findall(said[2]) if file in self.originals]
+            places = [
+                (self.originals[file], int(line)) for file, line in WHERE.findall(said[2]) if file in self.originals
+            ]
             raise InputFault(*(places[0] if places else (name, None)), said[1])
 
     # ------------------------------------------------------------------------------------------ commands
@@ -128,17 +152,27 @@ class Runner:
 
     def set_operating_conditions(self, words: list[str]) -> str:
         """Conditions matter where libraries scale by them; the kind of analysis is always early against late."""
-        one = dict.fromkeys(("-analysis_type", "-library", "-max", "-min", "-max_library", "-min_library", "-object_list"), 1)
+        one = dict.fromkeys(
+            ("-analysis_type", "-library", "-max", "-min", "-max_library", "-min_library", "-object_list"), 1
+        )
         said = self.session.parse(words, one)
         kind = said.value("-analysis_type")
         if kind not in (None, "on_chip_variation"):
-            self.session.lose("analysis-type", f"set_operating_conditions -analysis_type {kind}: setup and hold are tested with early against late delays")
+            self.session.lose(
+                "analysis-type",
+                f"set_operating_conditions -analysis_type {kind}: setup and hold are tested with early against late delays",
+            )
         names = [*said.plain, *said.values.get("-max", []), *said.values.get("-min", [])]
         for name in names:
             if any(scales(it.library.frame) for it in self.session.design.cells.frames):
-                self.session.lose("operating-conditions", f"set_operating_conditions {name}: the library's factors of voltage and temperature are not applied")
+                self.session.lose(
+                    "operating-conditions",
+                    f"set_operating_conditions {name}: the library's factors of voltage and temperature are not applied",
+                )
             else:
-                self.session.drop("operating-conditions", f"set_operating_conditions {name}: no library scales its delays")
+                self.session.drop(
+                    "operating-conditions", f"set_operating_conditions {name}: no library scales its delays"
+                )
         return ""
 
 

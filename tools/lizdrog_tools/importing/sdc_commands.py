@@ -2,17 +2,47 @@
 import re
 from decimal import Decimal, InvalidOperation
 
-from .constraints import EDGES, SPLITS, Clock, ClockGroups, Constraints, Delay, Disabled, Drive, PathEnd, PathException, PortDelays, Uncertainty
-from .design import is_sequential
-from .session import Session, Words
-from .tcl import CommandFault
+from lizdrog_tools.importing.constraints import (
+    EDGES,
+    SPLITS,
+    Clock,
+    ClockGroups,
+    Constraints,
+    Delay,
+    Disabled,
+    Drive,
+    PathEnd,
+    PathException,
+    PortDelays,
+    Uncertainty,
+)
+from lizdrog_tools.importing.design import is_sequential
+from lizdrog_tools.importing.session import Session, Words
+from lizdrog_tools.importing.tcl import CommandFault
 
 UNIT = re.compile(r"([0-9.]*)\s*([munpf]?)([A-Za-z]+)")
 POWERS = {"": 12, "m": 9, "u": 6, "n": 3, "p": 0, "f": -3}
 MOST_CLOCKS = 8
 EDGE_OPTIONS = {"-min": 0, "-max": 0, "-rise": 0, "-fall": 0}
-PATH_OPTIONS = {"-setup": 0, "-hold": 0, "-rise": 0, "-fall": 0, "-reset_path": 0, "-comment": 1, "-from": 1, "-rise_from": 1, "-fall_from": 1,
-                "-to": 1, "-rise_to": 1, "-fall_to": 1, "-through": 1, "-rise_through": 1, "-fall_through": 1, "-start": 0, "-end": 0}
+PATH_OPTIONS = {
+    "-setup": 0,
+    "-hold": 0,
+    "-rise": 0,
+    "-fall": 0,
+    "-reset_path": 0,
+    "-comment": 1,
+    "-from": 1,
+    "-rise_from": 1,
+    "-fall_from": 1,
+    "-to": 1,
+    "-rise_to": 1,
+    "-fall_to": 1,
+    "-through": 1,
+    "-rise_through": 1,
+    "-fall_through": 1,
+    "-start": 0,
+    "-end": 0,
+}
 EDGED = ("-rise", "-fall", "-rise_from", "-fall_from", "-rise_to", "-fall_to", "-rise_through", "-fall_through")
 END_KINDS = ("clock", "port", "pin", "cell")
 
@@ -24,10 +54,31 @@ class TimingCommands:
         self.session, self.design, self.constraints = session, session.design, constraints
         frame = self.design.cells.frames[0]
         self.time, self.load = frame.time, frame.load
-        names = ("create_clock", "set_input_delay", "set_output_delay", "set_input_transition", "set_load", "set_clock_uncertainty", "set_false_path",
-                 "set_multicycle_path", "set_timing_derate", "set_units", "set_propagated_clock", "set_clock_groups", "set_clock_latency",
-                 "set_clock_transition", "set_case_analysis", "set_logic_zero", "set_logic_one", "set_disable_timing", "set_driving_cell", "reset_path",
-                 "remove_propagated_clock", "remove_clock", "set_hierarchy_separator")
+        names = (
+            "create_clock",
+            "set_input_delay",
+            "set_output_delay",
+            "set_input_transition",
+            "set_load",
+            "set_clock_uncertainty",
+            "set_false_path",
+            "set_multicycle_path",
+            "set_timing_derate",
+            "set_units",
+            "set_propagated_clock",
+            "set_clock_groups",
+            "set_clock_latency",
+            "set_clock_transition",
+            "set_case_analysis",
+            "set_logic_zero",
+            "set_logic_one",
+            "set_disable_timing",
+            "set_driving_cell",
+            "reset_path",
+            "remove_propagated_clock",
+            "remove_clock",
+            "set_hierarchy_separator",
+        )
         self.commands = {name: getattr(self, name) for name in names}
 
     # ------------------------------------------------------------------------------------------ numbers and words
@@ -54,14 +105,21 @@ class TimingCommands:
 
     def ports(self, said: Words, way: str | None) -> list[str]:
         """The ports of the last words, of one direction; others are told."""
-        found, kept = [it for word in said.plain[1:] for it in self.session.objects(word, ("port", "pin", "net", "block_pin"))], []
+        found, kept = [
+            it for word in said.plain[1:] for it in self.session.objects(word, ("port", "pin", "net", "block_pin"))
+        ], []
         if len(said.plain) < 2:
             raise CommandFault(f"{self.session.command} needs ports")
         for made in found:
             if made.kind != "port":
-                self.session.lose(f"{self.session.command}-{made.kind}", f"{self.session.command} of the {made.kind} {made.name}: ports alone are read")
+                self.session.lose(
+                    f"{self.session.command}-{made.kind}",
+                    f"{self.session.command} of the {made.kind} {made.name}: ports alone are read",
+                )
             elif way and self.design.netlist.ports[made.name] != way:
-                self.session.drop("direction", f"{self.session.command}: {made.name} is an {self.design.netlist.ports[made.name]}")
+                self.session.drop(
+                    "direction", f"{self.session.command}: {made.name} is an {self.design.netlist.ports[made.name]}"
+                )
             else:
                 kept.append(made.name)
         return kept
@@ -70,7 +128,9 @@ class TimingCommands:
         """Whether one of these options is there, for which there is no counterpart."""
         there = [it for it in options if said.has(it)]
         if there:
-            self.session.lose(f"{self.session.command}{there[0]}", f"{self.session.command} {' '.join(there)} has no counterpart")
+            self.session.lose(
+                f"{self.session.command}{there[0]}", f"{self.session.command} {' '.join(there)} has no counterpart"
+            )
         return bool(there)
 
     def set_hierarchy_separator(self, words: list[str]) -> None:
@@ -78,7 +138,9 @@ class TimingCommands:
 
     def set_units(self, words: list[str]) -> None:
         """The units of the commands after it."""
-        options = dict.fromkeys(("-time", "-capacitance", "-resistance", "-voltage", "-current", "-power", "-distance", "-temperature"), 1)
+        options = dict.fromkeys(
+            ("-time", "-capacitance", "-resistance", "-voltage", "-current", "-power", "-distance", "-temperature"), 1
+        )
         said = self.session.parse(words, options)
         for option, letter in (("-time", "s"), ("-capacitance", "F")):
             text = said.value(option)
@@ -101,7 +163,10 @@ class TimingCommands:
             raise CommandFault("create_clock needs a -period")
         targets = [it for word in said.plain for it in self.session.objects(word, ("port", "pin", "net", "block_pin"))]
         if any(it.kind != "port" for it in targets) or len(targets) > 1:
-            self.session.lose("clock-target", f"a clock at {', '.join(it.name for it in targets[:4])}: a clock stands at one port, or at none")
+            self.session.lose(
+                "clock-target",
+                f"a clock at {', '.join(it.name for it in targets[:4])}: a clock stands at one port, or at none",
+            )
             return
         if said.plain and not targets:
             return
@@ -112,9 +177,15 @@ class TimingCommands:
         if name is None:
             raise CommandFault("create_clock needs a port or a -name")
         period = self.number(said.value("-period")) * self.time
-        edges = [self.number(it) * self.time for it in (said.value("-waveform") or "").split()] or [Decimal(0), period / 2]
+        edges = [self.number(it) * self.time for it in (said.value("-waveform") or "").split()] or [
+            Decimal(0),
+            period / 2,
+        ]
         if len(edges) != 2 or not 0 <= edges[0] < edges[1] < edges[0] + period:
-            self.session.lose("waveform", f"the waveform {said.value('-waveform')} of {name}: one rise and then one fall within a period are read")
+            self.session.lose(
+                "waveform",
+                f"the waveform {said.value('-waveform')} of {name}: one rise and then one fall within a period are read",
+            )
             return
         self.add_clock(Clock(name, port, period, edges[0], edges[1], self.session.place), said.has("-add"))
 
@@ -123,7 +194,9 @@ class TimingCommands:
         clocks = self.constraints.clocks
         there = [it for it in clocks.values() if clock.port and it.port == clock.port and it.name != clock.name]
         if there and beside:
-            self.session.lose("two-clocks", f"the port {clock.port} has the clock {there[0].name}, and {clock.name} beside it")
+            self.session.lose(
+                "two-clocks", f"the port {clock.port} has the clock {there[0].name}, and {clock.name} beside it"
+            )
             return
         for name in [clock.name, *(it.name for it in there)]:
             if name in clocks:
@@ -132,25 +205,36 @@ class TimingCommands:
         clocks[clock.name] = clock
         self.design.clocks[clock.name] = clock.port
         if len(clocks) > MOST_CLOCKS:
-            self.session.lose("ninth-clock", f"{clock.name} is the clock number {len(clocks)}, and {MOST_CLOCKS} are read")
+            self.session.lose(
+                "ninth-clock", f"{clock.name} is the clock number {len(clocks)}, and {MOST_CLOCKS} are read"
+            )
             del clocks[clock.name]
 
     def remove_clock(self, words: list[str]) -> None:
         raise CommandFault("remove_clock is not read: leave out the create_clock")
 
     def named_clocks(self, text: str) -> list[Clock]:
-        return [self.constraints.clocks[it.name] for it in self.session.objects(text, ("clock",)) if it.name in self.constraints.clocks]
+        return [
+            self.constraints.clocks[it.name]
+            for it in self.session.objects(text, ("clock",))
+            if it.name in self.constraints.clocks
+        ]
 
     def clocks_or_ports(self, said: Words) -> list[Clock]:
         """The clocks of the plain words; a port stands for the clock that begins at it."""
         found = []
-        for made in (it for word in said.plain for it in self.session.objects(word, ("clock", "port", "pin", "block_pin"))):
+        for made in (
+            it for word in said.plain for it in self.session.objects(word, ("clock", "port", "pin", "block_pin"))
+        ):
             if made.kind == "clock":
                 found += [self.constraints.clocks[made.name]] if made.name in self.constraints.clocks else []
                 continue
             at_port = [it for it in self.constraints.clocks.values() if made.kind == "port" and it.port == made.name]
             if not at_port:
-                self.session.lose(f"{self.session.command}-{made.kind}", f"{self.session.command} of the {made.kind} {made.name}: clocks alone are read")
+                self.session.lose(
+                    f"{self.session.command}-{made.kind}",
+                    f"{self.session.command} of the {made.kind} {made.name}: clocks alone are read",
+                )
             found += at_port
         return found
 
@@ -163,11 +247,28 @@ class TimingCommands:
             clock.is_propagated = False
 
     def set_clock_latency(self, words: list[str]) -> None:
-        said = self.session.parse(words, {"-source": 0, "-early": 0, "-late": 0, "-rise": 0, "-fall": 0, "-min": 0, "-max": 0, "-clock": 1, "-dynamic": 1})
+        said = self.session.parse(
+            words,
+            {
+                "-source": 0,
+                "-early": 0,
+                "-late": 0,
+                "-rise": 0,
+                "-fall": 0,
+                "-min": 0,
+                "-max": 0,
+                "-clock": 1,
+                "-dynamic": 1,
+            },
+        )
         if self.lose_options(said, ("-clock", "-dynamic")):
             return
         value = self.first_number(said, self.time)
-        splits = [split for split, options in (("early", ("-early", "-min")), ("late", ("-late", "-max"))) if any(map(said.has, options))] or SPLITS
+        splits = [
+            split
+            for split, options in (("early", ("-early", "-min")), ("late", ("-late", "-max")))
+            if any(map(said.has, options))
+        ] or SPLITS
         edges = [edge for edge in EDGES if said.has(f"-{edge}")] or EDGES
         for clock in self.clocks_or_ports(Words(set(), {}, said.plain[1:])):
             kept = clock.source_latency if said.has("-source") else clock.network_latency
@@ -182,22 +283,48 @@ class TimingCommands:
             clock.ideal_places.append(self.session.place)
 
     def set_clock_uncertainty(self, words: list[str]) -> None:
-        options = {"-setup": 0, "-hold": 0, "-from": 1, "-to": 1, "-rise_from": 1, "-fall_from": 1, "-rise_to": 1, "-fall_to": 1, "-rise": 0, "-fall": 0}
+        options = {
+            "-setup": 0,
+            "-hold": 0,
+            "-from": 1,
+            "-to": 1,
+            "-rise_from": 1,
+            "-fall_from": 1,
+            "-rise_to": 1,
+            "-fall_to": 1,
+            "-rise": 0,
+            "-fall": 0,
+        }
         said = self.session.parse(words, options)
         if self.lose_options(said, EDGED[2:6] + ("-rise", "-fall")):
             return
         value = self.first_number(said, self.time)
         kinds = [it for it in ("setup", "hold") if said.has(f"-{it}")] or ["setup", "hold"]
         if said.has("-from") or said.has("-to"):
-            pairs = [(one.name, other.name) for one in self.named_clocks(said.value("-from") or "") for other in self.named_clocks(said.value("-to") or "")]
+            pairs = [
+                (one.name, other.name)
+                for one in self.named_clocks(said.value("-from") or "")
+                for other in self.named_clocks(said.value("-to") or "")
+            ]
             for one, other in pairs:
-                self.constraints.between.update({(one, other, kind): Uncertainty(value, self.session.place) for kind in kinds})
+                self.constraints.between.update(
+                    {(one, other, kind): Uncertainty(value, self.session.place) for kind in kinds}
+                )
             return
         for clock in self.clocks_or_ports(Words(set(), {}, said.plain[1:])):
             clock.uncertainty.update(dict.fromkeys(kinds, value))
 
     def set_clock_groups(self, words: list[str]) -> None:
-        options = {"-name": 1, "-group": 1, "-asynchronous": 0, "-logically_exclusive": 0, "-physically_exclusive": 0, "-exclusive": 0, "-allow_paths": 0, "-comment": 1}
+        options = {
+            "-name": 1,
+            "-group": 1,
+            "-asynchronous": 0,
+            "-logically_exclusive": 0,
+            "-physically_exclusive": 0,
+            "-exclusive": 0,
+            "-allow_paths": 0,
+            "-comment": 1,
+        }
         said = self.session.parse(words, options)
         if said.has("-allow_paths"):
             self.session.drop("allow-paths", "set_clock_groups -allow_paths cuts no path")
@@ -214,8 +341,16 @@ class TimingCommands:
         self.port_delay(words, "output", self.constraints.outputs)
 
     def port_delay(self, words: list[str], way: str, kept: dict[str, PortDelays]) -> None:
-        options = {**EDGE_OPTIONS, "-clock": 1, "-add_delay": 0, "-clock_fall": 0, "-level_sensitive": 0, "-reference_pin": 1,
-                   "-source_latency_included": 0, "-network_latency_included": 0}
+        options = {
+            **EDGE_OPTIONS,
+            "-clock": 1,
+            "-add_delay": 0,
+            "-clock_fall": 0,
+            "-level_sensitive": 0,
+            "-reference_pin": 1,
+            "-source_latency_included": 0,
+            "-network_latency_included": 0,
+        }
         said = self.session.parse(words, options)
         if self.lose_options(said, ("-clock_fall", "-level_sensitive", "-reference_pin")):
             return
@@ -231,11 +366,23 @@ class TimingCommands:
         for port in ports:
             delays = kept.setdefault(port, PortDelays())
             if not said.has("-add_delay") and set(delays.by_clock) - {clock}:
-                self.session.drop("delay-replaced", f"{self.session.command}: the delays of {port} against {', '.join(set(delays.by_clock) - {clock})} go, as there is no -add_delay")
+                self.session.drop(
+                    "delay-replaced",
+                    f"{self.session.command}: the delays of {port} against {', '.join(set(delays.by_clock) - {clock})} go, as there is no -add_delay",
+                )
                 delays.by_clock = {name: it for name, it in delays.by_clock.items() if name == clock}
             for corner in self.corners(said):
-                self.keep_delay(delays.by_clock.setdefault(clock, {}), corner, Delay(value, self.session.place, said.has("-source_latency_included"),
-                                                                                      said.has("-network_latency_included")), said.has("-add_delay"))
+                self.keep_delay(
+                    delays.by_clock.setdefault(clock, {}),
+                    corner,
+                    Delay(
+                        value,
+                        self.session.place,
+                        said.has("-source_latency_included"),
+                        said.has("-network_latency_included"),
+                    ),
+                    said.has("-add_delay"),
+                )
 
     def keep_delay(self, kept: dict, corner: tuple[str, str], delay: Delay, beside: bool) -> None:
         """A delay of a clock in the place of the one before; beside it the worse of both counts."""
@@ -255,7 +402,9 @@ class TimingCommands:
             self.constraints.drives.pop(port, None)
 
     def set_load(self, words: list[str]) -> None:
-        said = self.session.parse(words, {**EDGE_OPTIONS, "-pin_load": 0, "-wire_load": 0, "-subtract_pin_load": 0, "-corner": 1})
+        said = self.session.parse(
+            words, {**EDGE_OPTIONS, "-pin_load": 0, "-wire_load": 0, "-subtract_pin_load": 0, "-corner": 1}
+        )
         if self.lose_options(said, ("-wire_load", "-subtract_pin_load", "-rise", "-fall")):
             return
         value = self.first_number(said, self.load)
@@ -267,8 +416,20 @@ class TimingCommands:
                 self.constraints.loads.setdefault(port, {}).update(dict.fromkeys(splits, value))
 
     def set_driving_cell(self, words: list[str]) -> None:
-        options = {**EDGE_OPTIONS, "-lib_cell": 1, "-pin": 1, "-from_pin": 1, "-library": 1, "-input_transition_rise": 1, "-input_transition_fall": 1,
-                   "-no_design_rule": 0, "-multiply_by": 1, "-dont_scale": 0, "-clock": 1, "-clock_fall": 0}
+        options = {
+            **EDGE_OPTIONS,
+            "-lib_cell": 1,
+            "-pin": 1,
+            "-from_pin": 1,
+            "-library": 1,
+            "-input_transition_rise": 1,
+            "-input_transition_fall": 1,
+            "-no_design_rule": 0,
+            "-multiply_by": 1,
+            "-dont_scale": 0,
+            "-clock": 1,
+            "-clock_fall": 0,
+        }
         said = self.session.parse(words, options)
         if self.lose_options(said, ("-multiply_by", "-clock", "-clock_fall", "-min", "-max", "-rise", "-fall")):
             return
@@ -276,7 +437,9 @@ class TimingCommands:
         ports = self.ports(Words(set(), {}, ["", *said.plain]), "input")
         slews = {edge: self.number(said.value(f"-input_transition_{edge}") or "0") * self.time for edge in EDGES}
         for port in ports if found else []:
-            self.constraints.drives[port] = Drive(found[0].name, said.value("-from_pin"), said.value("-pin"), slews, self.session.place)
+            self.constraints.drives[port] = Drive(
+                found[0].name, said.value("-from_pin"), said.value("-pin"), slews, self.session.place
+            )
             self.constraints.slews.pop(port, None)
 
     # ------------------------------------------------------------------------------------------ exceptions
@@ -286,11 +449,16 @@ class TimingCommands:
         if not said.has(option):
             return None
         end = PathEnd()
-        for made in (it for text in said.values[option] for it in self.session.objects(text, (*END_KINDS, "block", "block_pin"))):
+        for made in (
+            it for text in said.values[option] for it in self.session.objects(text, (*END_KINDS, "block", "block_pin"))
+        ):
             if made.kind == "block" and not self.has_registers(made.name):
                 self.session.drop("no-path", f"{self.session.command} {option} {made.name}: a block without registers")
             elif made.kind in ("block", "block_pin"):
-                self.session.lose(f"{self.session.command}-block", f"{self.session.command} {option} {made.name}: an instance of a block; name its registers or the top's ports")
+                self.session.lose(
+                    f"{self.session.command}-block",
+                    f"{self.session.command} {option} {made.name}: an instance of a block; name its registers or the top's ports",
+                )
             else:
                 end.add(made)
         return end
@@ -298,7 +466,10 @@ class TimingCommands:
     def has_registers(self, block: str) -> bool:
         """Whether a register is in a block of the hierarchy."""
         start = f"{block}/"
-        return any(it.name.startswith(start) and is_sequential(self.design.cell_of(it)) for it in self.design.netlist.instances.values())
+        return any(
+            it.name.startswith(start) and is_sequential(self.design.cell_of(it))
+            for it in self.design.netlist.instances.values()
+        )
 
     def exception(self, words: list[str], cycles: int | None, said: Words) -> None:
         if self.lose_options(said, (*EDGED, "-through", "-reset_path")):
@@ -307,9 +478,13 @@ class TimingCommands:
         ends = self.path_end(said, "-from"), self.path_end(said, "-to")
         for end, option in zip(ends, ("-from", "-to"), strict=True):
             if end is not None and not end.parts():
-                self.session.drop("empty-objects", f"{self.session.command}: no object of {option} is there, so it says nothing")
+                self.session.drop(
+                    "empty-objects", f"{self.session.command}: no object of {option} is there, so it says nothing"
+                )
                 return
-        made = PathException(kinds or (("setup",) if cycles is not None else ("setup", "hold")), cycles, *ends, self.session.place)
+        made = PathException(
+            kinds or (("setup",) if cycles is not None else ("setup", "hold")), cycles, *ends, self.session.place
+        )
         self.constraints.exceptions.append(made)
 
     def set_false_path(self, words: list[str]) -> None:
@@ -325,8 +500,15 @@ class TimingCommands:
             raise CommandFault(f"set_multicycle_path {said.plain[0]} is no whole number")
         moves_capture = said.has("-end") if said.has("-hold") else not said.has("-start")
         usual = not said.has("-hold")
-        if (said.has("-start") or said.has("-end")) and moves_capture != usual and len({it.period for it in self.constraints.clocks.values()}) > 1:
-            self.session.lose("multicycle-side", "set_multicycle_path moves the edge of the other clock, and the clocks have different periods")
+        if (
+            (said.has("-start") or said.has("-end"))
+            and moves_capture != usual
+            and len({it.period for it in self.constraints.clocks.values()}) > 1
+        ):
+            self.session.lose(
+                "multicycle-side",
+                "set_multicycle_path moves the edge of the other clock, and the clocks have different periods",
+            )
             return
         if said.has("-setup") and said.has("-hold"):
             self.session.lose("multicycle-both", "set_multicycle_path -setup -hold in one command: write two")
@@ -337,14 +519,30 @@ class TimingCommands:
         raise CommandFault("reset_path is not read: leave out the exception")
 
     def set_timing_derate(self, words: list[str]) -> None:
-        options = {"-early": 0, "-late": 0, "-cell_delay": 0, "-net_delay": 0, "-cell_check": 0, "-clock": 0, "-data": 0, "-rise": 0, "-fall": 0,
-                   "-static": 0, "-dynamic": 0, "-increment": 0}
+        options = {
+            "-early": 0,
+            "-late": 0,
+            "-cell_delay": 0,
+            "-net_delay": 0,
+            "-cell_check": 0,
+            "-clock": 0,
+            "-data": 0,
+            "-rise": 0,
+            "-fall": 0,
+            "-static": 0,
+            "-dynamic": 0,
+            "-increment": 0,
+        }
         said = self.session.parse(words, options)
         both = said.has("-clock") and said.has("-data")
-        if self.lose_options(said, ("-cell_check", "-rise", "-fall", "-dynamic", "-increment") + (() if both else ("-clock", "-data"))):
+        if self.lose_options(
+            said, ("-cell_check", "-rise", "-fall", "-dynamic", "-increment") + (() if both else ("-clock", "-data"))
+        ):
             return
         if len(said.plain) > 1:
-            self.session.lose("derate-objects", "set_timing_derate of objects: those of the whole design alone are read")
+            self.session.lose(
+                "derate-objects", "set_timing_derate of objects: those of the whole design alone are read"
+            )
             return
         value = self.first_number(said, Decimal(1))
         splits = [it for it in SPLITS if said.has(f"-{it}")] or SPLITS
@@ -375,5 +573,9 @@ class TimingCommands:
         said = self.session.parse(words, {"-from": 1, "-to": 1, "-restore": 0})
         if self.lose_options(said, ("-restore",)):
             return
-        for made in (it for text in said.plain for it in self.session.objects(text, ("cell", "port", "pin", "lib_cell", "lib_pin", "block_pin"))):
+        for made in (
+            it
+            for text in said.plain
+            for it in self.session.objects(text, ("cell", "port", "pin", "lib_cell", "lib_pin", "block_pin"))
+        ):
             self.constraints.disabled.append(Disabled(made, said.value("-from"), said.value("-to"), self.session.place))

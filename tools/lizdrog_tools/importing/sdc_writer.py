@@ -2,8 +2,17 @@
 import itertools
 from decimal import Decimal
 
-from .constraints import CORNERS, EDGES, SPLITS, Clock, Constraints, Corner, PathEnd, PathException
-from .liberty_model import plain
+from lizdrog_tools.importing.constraints import (
+    CORNERS,
+    EDGES,
+    SPLITS,
+    Clock,
+    Constraints,
+    Corner,
+    PathEnd,
+    PathException,
+)
+from lizdrog_tools.importing.liberty_model import plain
 
 GET = {"clocks": "get_clocks", "ports": "get_ports", "pins": "get_pins", "cells": "get_cells"}
 FLAGS = {"early": "-min", "late": "-max", "rise": "-rise", "fall": "-fall"}
@@ -12,15 +21,19 @@ NAMES_A_LINE = 12
 
 def getter(kind: str, names: list[str]) -> str:
     """The objects of a kind; many names go over several lines."""
-    rows = [" ".join(names[at:at + NAMES_A_LINE]) for at in range(0, len(names), NAMES_A_LINE)]
+    rows = [" ".join(names[at : at + NAMES_A_LINE]) for at in range(0, len(names), NAMES_A_LINE)]
     return f"[{GET[kind]} {{{f' {chr(92)}{chr(10)}    '.join(rows)}}}]"
 
 
 def flags_of(corners: list[Corner]) -> list[str]:
     """The options for a set of splits and edges, as few commands as they take."""
     left, found = set(corners), []
-    whole = [(SPLITS, EDGES), *(((split,), EDGES) for split in SPLITS), *((SPLITS, (edge,)) for edge in EDGES),
-             *(((split,), (edge,)) for split, edge in CORNERS)]
+    whole = [
+        (SPLITS, EDGES),
+        *(((split,), EDGES) for split in SPLITS),
+        *((SPLITS, (edge,)) for edge in EDGES),
+        *(((split,), (edge,)) for split, edge in CORNERS),
+    ]
     for splits, edges in whole:
         those = set(itertools.product(splits, edges))
         if those <= left:
@@ -51,19 +64,37 @@ class SdcWriter:
     """Gathers the lines of a file of constraints."""
 
     def __init__(self, constraints: Constraints, name: str):
-        self.constraints, self.lines = constraints, ["set sdc_version 2.0", f"current_design {name}", "set_units -time ps -capacitance fF"]
+        self.constraints, self.lines = constraints, [
+            "set sdc_version 2.0",
+            f"current_design {name}",
+            "set_units -time ps -capacitance fF",
+        ]
 
     def text(self) -> str:
         for clock in self.constraints.clocks.values():
             self.clock(clock)
         self.uncertainties()
         self.derates()
-        self.of_ports({port: [f"set_input_transition {flags}{plain(value)}" for value, flags in by_value(slews)]
-                       for port, slews in self.constraints.slews.items()})
-        for word, delays in (("set_input_delay", self.constraints.inputs), ("set_output_delay", self.constraints.outputs)):
-            self.of_ports({port: [f"{word} {flags}-clock {clock} {plain(value)}" for clock, corners in it.by_clock.items()
-                                  for value, flags in by_value({corner: delay.value for corner, delay in corners.items()})]
-                           for port, it in delays.items()})
+        self.of_ports(
+            {
+                port: [f"set_input_transition {flags}{plain(value)}" for value, flags in by_value(slews)]
+                for port, slews in self.constraints.slews.items()
+            }
+        )
+        for word, delays in (
+            ("set_input_delay", self.constraints.inputs),
+            ("set_output_delay", self.constraints.outputs),
+        ):
+            self.of_ports(
+                {
+                    port: [
+                        f"{word} {flags}-clock {clock} {plain(value)}"
+                        for clock, corners in it.by_clock.items()
+                        for value, flags in by_value({corner: delay.value for corner, delay in corners.items()})
+                    ]
+                    for port, it in delays.items()
+                }
+            )
         self.of_ports({port: self.load(values) for port, values in self.constraints.loads.items()})
         for made in self.constraints.exceptions:
             self.exception(made)
@@ -71,7 +102,9 @@ class SdcWriter:
 
     def clock(self, clock: Clock) -> None:
         at = f" [get_ports {{{clock.port}}}]" if clock.port else ""
-        self.lines.append(f"create_clock -name {clock.name} -period {plain(clock.period)} -waveform {{{plain(clock.rise)} {plain(clock.fall)}}}{at}")
+        self.lines.append(
+            f"create_clock -name {clock.name} -period {plain(clock.period)} -waveform {{{plain(clock.rise)} {plain(clock.fall)}}}{at}"
+        )
         if clock.port:
             self.lines.append(f"set_propagated_clock [get_clocks {{{clock.name}}}]")
 

@@ -2,9 +2,9 @@
 import dataclasses
 import re
 
-from .design import Design, Object, Search
-from .report import Place, Report
-from .tcl import CommandFault, split_list
+from lizdrog_tools.importing.design import Design, Object, Search
+from lizdrog_tools.importing.report import Place, Report
+from lizdrog_tools.importing.tcl import CommandFault, split_list
 
 TOKEN = re.compile(r"@\d+")
 MARKS = re.compile(r"[\s{}\"]")
@@ -113,7 +113,9 @@ class Session:
             elif item.kind in kinds:
                 found[item] = None
             else:
-                raise CommandFault(f"{self.command}: a {item.kind.replace('_', ' ')} ({item.name}) stands where {' or '.join(kinds)} is asked")
+                raise CommandFault(
+                    f"{self.command}: a {item.kind.replace('_', ' ')} ({item.name}) stands where {' or '.join(kinds)} is asked"
+                )
         return list(found)
 
     def lose(self, kind: str, text: str) -> None:

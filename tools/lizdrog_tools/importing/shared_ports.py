@@ -1,11 +1,11 @@
 """Output ports that are one net with another port: each gets a cell of its own that hands on times and slews as they are."""
 from decimal import Decimal
 
-from .constraints import SPLITS, Constraints
-from .liberty_merge import LibrarySet
-from .liberty_model import Cell, Pin, Table, Timing
-from .netlist import Instance, Netlist
-from .report import Place, Report
+from lizdrog_tools.importing.constraints import SPLITS, Constraints
+from lizdrog_tools.importing.liberty_merge import LibrarySet
+from lizdrog_tools.importing.liberty_model import Cell, Pin, Table, Timing
+from lizdrog_tools.importing.netlist import Instance, Netlist
+from lizdrog_tools.importing.report import Place, Report
 
 CELL = "LIZDROG_WIRE"
 SUFFIX = "__wire"
@@ -33,7 +33,11 @@ def part_ports(netlist: Netlist, sides: tuple[LibrarySet, LibrarySet], report: R
         netlist.wire_cells[port] = name
         for cells in sides:
             cells.cells[CELL] = wire_cell()
-        report.change("shared-port", netlist.place, f"the ports {net} and {port} are one net: the cell {name} without delay and load stands between them")
+        report.change(
+            "shared-port",
+            netlist.place,
+            f"the ports {net} and {port} are one net: the cell {name} without delay and load stands between them",
+        )
 
 
 def share_loads(netlist: Netlist, constraints: Constraints) -> None:

@@ -5,18 +5,26 @@ import re
 from collections.abc import Iterator
 from decimal import Decimal, InvalidOperation
 
-from ..files import InputFault, line_of, read_text
-from .design import Design
-from .liberty_model import plain
-from .project import Project, SpefFile
-from .report import Place, Report
+from lizdrog_tools.files import InputFault, line_of, read_text
+from lizdrog_tools.importing.design import Design
+from lizdrog_tools.importing.liberty_model import plain
+from lizdrog_tools.importing.project import Project, SpefFile
+from lizdrog_tools.importing.report import Place, Report
 
 WORD = re.compile(r'//[^\n]*|/\*.*?\*/|"[^"]*"|(\S+)', re.S)
 SECTIONS = {"*NAME_MAP", "*PORTS", "*PHYSICAL_PORTS", "*POWER_NETS", "*GROUND_NETS", "*D_NET"}
 REFUSED = {"*R_NET", "*D_PNET", "*R_PNET", "*DEFINE", "*PDEFINE", "*VARIATION_PARAMETERS"}
 PARTS = {"*CONN", "*CAP", "*RES", "*END", "*INDUC"}
 VALUE = re.compile(r"[-+]?[\d.][\d.eE:+-]*")
-UNITS = {"PF": Decimal(1000), "FF": Decimal(1), "NF": Decimal(10) ** 6, "UF": Decimal(10) ** 9, "OHM": Decimal(1), "KOHM": Decimal(1000), "MOHM": Decimal(10) ** 6}
+UNITS = {
+    "PF": Decimal(1000),
+    "FF": Decimal(1),
+    "NF": Decimal(10) ** 6,
+    "UF": Decimal(10) ** 9,
+    "OHM": Decimal(1),
+    "KOHM": Decimal(1000),
+    "MOHM": Decimal(10) ** 6,
+}
 NAMED = 5
 Node = tuple[str, str | int]
 
@@ -127,7 +135,9 @@ class SpefReader:
         while self.word:
             word = self.step()
             if word in REFUSED or word == "*SPEF":
-                raise self.fault(f"{word} is not read" if word in REFUSED else "a second *SPEF: a file of parasitics has one")
+                raise self.fault(
+                    f"{word} is not read" if word in REFUSED else "a second *SPEF: a file of parasitics has one"
+                )
             if word == "*D_NET":
                 if None in (self.delimiter, self.cap_unit, self.res_unit):
                     raise self.fault("the header lacks *DELIMITER, *C_UNIT or *R_UNIT")
@@ -171,7 +181,11 @@ class SpefReader:
                 self.step()
         self.step()
         if inductive:
-            self.report.lose("inductance", Place(self.file, line_of(self.text, offset)), f"the inductances of {made.net} are not read")
+            self.report.lose(
+                "inductance",
+                Place(self.file, line_of(self.text, offset)),
+                f"the inductances of {made.net} are not read",
+            )
         return made
 
     def row(self, made: Section, part: str) -> None:
@@ -221,21 +235,37 @@ class Merger:
             if net is None:
                 gone.append(section)
             elif not self.design.ends[net].drivers:
-                self.report.drop("no-driver", Place(name, line_of(reader.text, section.offset)), f"the parasitics of {section.net}, which nothing drives")
+                self.report.drop(
+                    "no-driver",
+                    Place(name, line_of(reader.text, section.offset)),
+                    f"the parasitics of {section.net}, which nothing drives",
+                )
             else:
                 self.add(reader, net, section)
         if gone:
             names = ", ".join(it.net for it in gone[:NAMED])
             why = "; is this the SPEF of this design?" if len(gone) * 2 > count else ""
-            self.report.lose("spef-net", Place(name, line_of(reader.text, gone[0].offset)), f"{len(gone)} of {count} nets are not in the netlist: {names}{why}")
+            self.report.lose(
+                "spef-net",
+                Place(name, line_of(reader.text, gone[0].offset)),
+                f"{len(gone)} of {count} nets are not in the netlist: {names}{why}",
+            )
         if reader.triplets:
-            self.report.drop("triplet", Place(name), f"{reader.triplets} values are triplets, of which the second is taken")
+            self.report.drop(
+                "triplet", Place(name), f"{reader.triplets} values are triplets, of which the second is taken"
+            )
         if reader.couplings:
-            self.report.change("coupling", Place(name), f"{reader.couplings} capacitances between nets as ones to ground, as Lizdrog takes them")
+            self.report.change(
+                "coupling",
+                Place(name),
+                f"{reader.couplings} capacitances between nets as ones to ground, as Lizdrog takes them",
+            )
 
     def add(self, reader: SpefReader, net: str, section: Section) -> None:
         """The wires of a section as wires of its net."""
-        wires = self.nets.setdefault(net, Wires(place=Place(reader.file, line_of(reader.text, section.offset) if net not in self.nets else 0)))
+        wires = self.nets.setdefault(
+            net, Wires(place=Place(reader.file, line_of(reader.text, section.offset) if net not in self.nets else 0))
+        )
         wires.sections += 1
         numbers: dict[Node, Node] = {}
         own = {*section.pins, *(it for row in section.ress for it in row[:2])}
@@ -256,7 +286,11 @@ class Merger:
                 reader.couplings += 1
                 chosen = next((it for it in nodes if it in own or it[0] == "inner" and isinstance(it[1], int)), None)
                 if chosen is None:
-                    raise InputFault(reader.file, line_of(reader.text, section.offset), f"a capacitance of {section.net} between nodes of other nets")
+                    raise InputFault(
+                        reader.file,
+                        line_of(reader.text, section.offset),
+                        f"a capacitance of {section.net} between nodes of other nets",
+                    )
             caps.append((node(chosen), value))
         ress = [(node(one), node(other), value) for one, other, value in section.ress]
         if not ress:
@@ -282,13 +316,18 @@ class Merger:
             if kind == "port" and word in self.design.netlist.ports and not reader.prefix:
                 wire = self.design.netlist.wire_cells.get(word)
                 return ("pin", f"{wire}/A") if wire else ("port", word)
-            if word in self.design.block_pin_names and (kind == "port") == bool(reader.prefix and word.startswith(reader.prefix)
-                                                                             and "/" not in word[len(reader.prefix):]):
+            if word in self.design.block_pin_names and (kind == "port") == bool(
+                reader.prefix and word.startswith(reader.prefix) and "/" not in word[len(reader.prefix) :]
+            ):
                 return ("end", word)
             parts = self.design.pin_parts(word) if kind == "pin" else None
             if parts and parts[0].nets.get(parts[1]) == net:
                 return ("pin", word)
-        self.report.lose("spef-pin", Place(reader.file, line_of(reader.text, section.offset)), f"the parasitics of {section.net} name {name}, which is not on the net")
+        self.report.lose(
+            "spef-pin",
+            Place(reader.file, line_of(reader.text, section.offset)),
+            f"the parasitics of {section.net} name {name}, which is not on the net",
+        )
         return ("inner", -1)
 
 
@@ -330,9 +369,24 @@ class SpefWriter:
     def text(self) -> str:
         for net, wires in self.merger.nets.items():
             self.net(net, wires)
-        head = ['*SPEF "IEEE 1481-1998"', f'*DESIGN "{self.design.netlist.name}"', '*DATE "-"', '*VENDOR "-"', '*PROGRAM "Lizdrog import"', '*VERSION "-"',
-                '*DESIGN_FLOW "-"', "*DIVIDER /", "*DELIMITER :", "*BUS_DELIMITER [ ]", "*T_UNIT 1 PS", "*C_UNIT 1 FF", "*R_UNIT 1 OHM", "*L_UNIT 1 HENRY",
-                "*NAME_MAP", *(f"*{number} {escaped(name)}" for name, number in self.numbers.items())]
+        head = [
+            '*SPEF "IEEE 1481-1998"',
+            f'*DESIGN "{self.design.netlist.name}"',
+            '*DATE "-"',
+            '*VENDOR "-"',
+            '*PROGRAM "Lizdrog import"',
+            '*VERSION "-"',
+            '*DESIGN_FLOW "-"',
+            "*DIVIDER /",
+            "*DELIMITER :",
+            "*BUS_DELIMITER [ ]",
+            "*T_UNIT 1 PS",
+            "*C_UNIT 1 FF",
+            "*R_UNIT 1 OHM",
+            "*L_UNIT 1 HENRY",
+            "*NAME_MAP",
+            *(f"*{number} {escaped(name)}" for name, number in self.numbers.items()),
+        ]
         return "\n".join([*head, *self.body]) + "\n"
 
     def word(self, node: Node, net: str) -> str:
@@ -355,10 +409,21 @@ class SpefWriter:
         self.numbered(wires)
         lines = [f"*D_NET {self.index(net)} {plain(wires.load() if wires.ress else wires.total)}", "*CONN"]
         for node, drives in zip(pins, (it < len(ends.drivers) for it in range(len(pins))), strict=True):
-            lines.append(f"*{'P' if node[0] == 'port' else 'I'} {self.word(node, net)} {'O' if drives == (node[0] == 'pin') else 'I'}")
+            lines.append(
+                f"*{'P' if node[0] == 'port' else 'I'} {self.word(node, net)} {'O' if drives == (node[0] == 'pin') else 'I'}"
+            )
         if wires.ress:
-            lines += ["*CAP", *(f"{at} {self.word(node, net)} {plain(value)}" for at, (node, value) in enumerate(wires.caps, 1))]
-            lines += ["*RES", *(f"{at} {self.word(one, net)} {self.word(other, net)} {plain(value)}" for at, (one, other, value) in enumerate(wires.ress, 1))]
+            lines += [
+                "*CAP",
+                *(f"{at} {self.word(node, net)} {plain(value)}" for at, (node, value) in enumerate(wires.caps, 1)),
+            ]
+            lines += [
+                "*RES",
+                *(
+                    f"{at} {self.word(one, net)} {self.word(other, net)} {plain(value)}"
+                    for at, (one, other, value) in enumerate(wires.ress, 1)
+                ),
+            ]
         self.body += [*lines, "*END"]
 
     def joined(self, net: str, wires: Wires, pins: list[Node]) -> bool:
@@ -367,17 +432,27 @@ class SpefWriter:
         there = {it for row in wires.ress for it in row[:2]}
         has_ends = any(it[0] == "end" for it in there)
         if loop:
-            self.report.lose("spef-loop", wires.place, f"the resistors of {net} form a loop; accepted, the net has its load and no delay")
+            self.report.lose(
+                "spef-loop",
+                wires.place,
+                f"the resistors of {net} form a loop; accepted, the net has its load and no delay",
+            )
             wires.total, wires.caps, wires.ress = wires.load(), [], []
         elif len(parts) > 1 and (has_ends or wires.sections > 1):
             first = next(part for part in parts if pins[0] in part)
             hub = next((it for it in first if it[0] == "end"), pins[0])
             for part in (it for it in parts if it is not first):
                 wires.ress.append((hub, next((it for it in part if it[0] == "end"), part[0]), Decimal(0)))
-            self.report.change("spef-join", wires.place, f"{net} has no wires between its blocks: they are joined without resistance")
+            self.report.change(
+                "spef-join", wires.place, f"{net} has no wires between its blocks: they are joined without resistance"
+            )
         elif len(parts) > 1:
             gone = [name for kind, name in pins if (kind, name) not in there]
-            self.report.lose("spef-tree", wires.place, f"the resistors of {net} do not reach {', '.join(gone[:NAMED]) or 'all nodes'}; accepted, the net has its load and no delay")
+            self.report.lose(
+                "spef-tree",
+                wires.place,
+                f"the resistors of {net} do not reach {', '.join(gone[:NAMED]) or 'all nodes'}; accepted, the net has its load and no delay",
+            )
             wires.total, wires.caps, wires.ress = wires.load(), [], []
         return True
 

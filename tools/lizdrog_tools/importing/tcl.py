@@ -46,7 +46,7 @@ def split_list(text: str) -> list[str]:
             at += 1
         elif text[at] == "{":
             end = closing_brace(text, at)
-            found.append(text[at + 1:end])
+            found.append(text[at + 1 : end])
             at = end + 1
         else:
             quoted = text[at] == '"'
@@ -102,10 +102,18 @@ class Tclsh:
         self.program, self.commands, self.answer = program, commands, answer
 
     def script(self, file: str, folder: str, ends: tuple[int, int]) -> str:
-        return "\n".join([
-            f"set ::lizdrog::prelude {quoted(str(PRELUDE))}", f"source {quoted(str(PRELUDE))}", BRIDGE % ends,
-            f"::lizdrog::define {{{joined(self.commands)}}}", f"cd {quoted(folder)}",
-            f"set ::lizdrog::result [::lizdrog::run {quoted(file)}]", "::lizdrog::send [concat finished $::lizdrog::result]", "exit 0"])
+        return "\n".join(
+            [
+                f"set ::lizdrog::prelude {quoted(str(PRELUDE))}",
+                f"source {quoted(str(PRELUDE))}",
+                BRIDGE % ends,
+                f"::lizdrog::define {{{joined(self.commands)}}}",
+                f"cd {quoted(folder)}",
+                f"set ::lizdrog::result [::lizdrog::run {quoted(file)}]",
+                "::lizdrog::send [concat finished $::lizdrog::result]",
+                "exit 0",
+            ]
+        )
 
     def run(self, file: str, folder: str) -> list[str]:
         """Runs a file: `ok`, or `error`, the message and where it came from."""
@@ -141,11 +149,14 @@ class InPython:
 
     def __init__(self, commands: list[str], answer: Answer):
         import tkinter
+
         self.tcl, self.answer, self.fault = tkinter.Tcl(), answer, None
         self.tcl.eval("namespace eval ::lizdrog {}")
         self.tcl.createcommand("::lizdrog::reply", self.reply)
-        self.tcl.eval("proc ::lizdrog::ask {words} { lassign [::lizdrog::reply $words] status text; "
-                      "if {$status ne {ok}} { error $text }; return $text }")
+        self.tcl.eval(
+            "proc ::lizdrog::ask {words} { lassign [::lizdrog::reply $words] status text; "
+            "if {$status ne {ok}} { error $text }; return $text }"
+        )
         self.tcl.eval(f"set ::lizdrog::prelude {quoted(str(PRELUDE))}")
         self.tcl.eval(f"source {quoted(str(PRELUDE))}")
         self.tcl.eval(f"::lizdrog::define {{{joined(commands)}}}")
@@ -169,4 +180,6 @@ def find_tcl(commands: list[str], answer: Answer) -> Tclsh | InPython:
     try:
         return InPython(commands, answer)
     except ImportError:
-        raise NoTcl("constraints are run in a Tcl, and there is neither tclsh nor Python's tkinter here: apt-get install tcl") from None
+        raise NoTcl(
+            "constraints are run in a Tcl, and there is neither tclsh nor Python's tkinter here: apt-get install tcl"
+        ) from None

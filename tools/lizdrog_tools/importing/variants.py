@@ -4,11 +4,11 @@ import dataclasses
 import functools
 from decimal import Decimal
 
-from .boolean import Function, NoFunction, Value, sense_word
-from .constraints import CORNERS, Corner
-from .design import Design
-from .liberty_merge import LibrarySet
-from .liberty_model import TESTS, Cell, Pin, Table, Timing
+from lizdrog_tools.importing.boolean import Function, NoFunction, Value, sense_word
+from lizdrog_tools.importing.constraints import CORNERS, Corner
+from lizdrog_tools.importing.design import Design
+from lizdrog_tools.importing.liberty_merge import LibrarySet
+from lizdrog_tools.importing.liberty_model import TESTS, Cell, Pin, Table, Timing
 
 TURNED = {"positive_unate": "negative_unate", "negative_unate": "positive_unate"}
 
@@ -30,6 +30,7 @@ class Cut:
         if self.start is not None:
             return self.start in timing.related
         return self.end is not None or timing.kind not in TESTS
+
 
 @dataclasses.dataclass(frozen=True, slots=True)
 class Undelayed:
@@ -58,15 +59,25 @@ class Constants:
     def apply(self, cell: Cell, split: str) -> None:
         known: dict[str, Value] = dict(self.pins)
         for pin in cell.pins.values():
-            pin.timings = [] if pin.name in known else [it for it in pin.timings if not known.keys() & set(it.related) and not is_false(it.when, known)]
+            pin.timings = (
+                []
+                if pin.name in known
+                else [it for it in pin.timings if not known.keys() & set(it.related) and not is_false(it.when, known)]
+            )
             self.turn(pin, known)
 
     def matters(self, cell: Cell, tied: set[str]) -> bool:
         """Whether arcs or tests change by which an arrival could go on: none does from a tied pin."""
         made = copy.deepcopy(cell)
         self.apply(made, "late")
+
         def live(one: Cell) -> list[tuple]:
-            return [(pin.name, it.related, it.kind, it.sense, it.line) for pin, it in one.timed() if not set(it.related) <= tied]
+            return [
+                (pin.name, it.related, it.kind, it.sense, it.line)
+                for pin, it in one.timed()
+                if not set(it.related) <= tied
+            ]
+
         return live(made) != live(cell)
 
     @staticmethod
@@ -142,9 +153,11 @@ class Variants:
             number += 1
             new_name = f"{name}__{number}"
         for split, cells in (("early", self.early), ("late", self.late)):
+
             def change(cell: Cell, split: str = split) -> None:
                 for it in changes:
                     it.apply(cell, split)
+
             cells.vary(name, new_name, change)
         return new_name
 
@@ -152,5 +165,3 @@ class Variants:
 def every_slew(values: dict[Corner, Decimal]) -> tuple[tuple[Corner, Decimal], ...]:
     """The slews of all splits and edges, 0 where nothing is said."""
     return tuple((corner, values.get(corner, Decimal(0))) for corner in CORNERS)
-
-

@@ -1,9 +1,9 @@
 """Reads a netlist that is flat already, and writes one; what is not flat is for yosys (verilog_hierarchy)."""
 import re
 
-from ..files import line_of
-from .netlist import CONSTANTS, ONE, ZERO, Instance, Netlist, Vector
-from .report import Place
+from lizdrog_tools.files import line_of
+from lizdrog_tools.importing.netlist import CONSTANTS, ONE, ZERO, Instance, Netlist, Vector
+from lizdrog_tools.importing.report import Place
 
 HIDDEN = re.compile(r"\\\S+|//[^\n]*|/\*.*?\*/|\(\*(?!\)).*?\*\)|^[ \t]*`[^\n]*", re.S | re.M)
 NAME = r"(?:\\(\S+)\s|([A-Za-z_][\w$]*))"
@@ -15,8 +15,33 @@ MARK = re.compile(r"\s*([^\s\w\\])")
 PLAIN_NAME = re.compile(r"[A-Za-z_][A-Za-z0-9_$]*")
 BIT = re.compile(r"([A-Za-z_][A-Za-z0-9_$]*)\[(0|[1-9]\d{0,8})\]")
 LITERALS = {"1'b0": ZERO, "1'h0": ZERO, "1'b1": ONE, "1'h1": ONE}
-RESERVED = {"module", "endmodule", "input", "output", "inout", "wire", "assign", "supply0", "supply1", "reg", "tri", "parameter",
-            "always", "initial", "generate", "function", "task", "if", "begin", "end", "case", "for", "wand", "wor", "specify"}
+RESERVED = {
+    "module",
+    "endmodule",
+    "input",
+    "output",
+    "inout",
+    "wire",
+    "assign",
+    "supply0",
+    "supply1",
+    "reg",
+    "tri",
+    "parameter",
+    "always",
+    "initial",
+    "generate",
+    "function",
+    "task",
+    "if",
+    "begin",
+    "end",
+    "case",
+    "for",
+    "wand",
+    "wor",
+    "specify",
+}
 WAYS = ("input", "output", "wire")
 
 
@@ -30,9 +55,11 @@ class NotFlat(Exception):
 
 def without_comments(text: str) -> str:
     """The text with blanks for comments and attributes, each line kept."""
+
     def blank(found: re.Match) -> str:
         word = found.group()
         return word if word.startswith("\\") else " " + "\n" * word.count("\n")
+
     return HIDDEN.sub(blank, text)
 
 
@@ -81,7 +108,7 @@ class FlatReader:
             if word == "endmodule":
                 break
             self.statement(word)
-        if self.text[self.at:].strip():
+        if self.text[self.at :].strip():
             raise self.fail("a second module")
         bare = [it for it in self.header_names if it not in self.netlist.ports and it not in self.netlist.vectors]
         if bare:
@@ -110,7 +137,7 @@ class FlatReader:
                 self.header_names.append(word)
                 if way:
                     self.declare(way, word, span)
-                if self.text[self.at:].lstrip()[:1] == ",":
+                if self.text[self.at :].lstrip()[:1] == ",":
                     self.mark(",")
                 continue
             span = self.range() or span

@@ -7,10 +7,10 @@ import subprocess
 import tempfile
 from typing import Any
 
-from ..files import InputFault, read_text
-from .netlist import LEVEL, ONE, SEPARATOR, ZERO, Instance, Netlist, Vector
-from .report import Place, Report
-from .verilog_flat import verilog_word
+from lizdrog_tools.files import InputFault, read_text
+from lizdrog_tools.importing.netlist import LEVEL, ONE, SEPARATOR, ZERO, Instance, Netlist, Vector
+from lizdrog_tools.importing.report import Place, Report
+from lizdrog_tools.importing.verilog_flat import verilog_word
 
 ERROR = re.compile(r"^(?:(.*?):(\d+)(?:\.\d+)?: )?ERROR: (.*)$", re.M)
 RESIZED = re.compile(r"^Warning: (Resizing cell port .*)$", re.M)
@@ -26,7 +26,9 @@ class LibraryPins:
         self.spans = {port: span for port, _, span in ports}
 
     def stub(self) -> str:
-        words = [f"{way} {f'[{span[0]}:{span[1]}] ' if span else ''}{verilog_word(port)}" for port, way, span in self.ports]
+        words = [
+            f"{way} {f'[{span[0]}:{span[1]}] ' if span else ''}{verilog_word(port)}" for port, way, span in self.ports
+        ]
         return f"(* blackbox *) module {verilog_word(self.name)} ({', '.join(words)}); endmodule\n"
 
     def bit(self, port: str, number: int) -> str:
@@ -35,11 +37,17 @@ class LibraryPins:
         return port if span is None else f"{port}[{span[1] + (number if span[0] >= span[1] else -number)}]"
 
 
-def run_yosys(files: list[str], top: str | None, cells: dict[str, LibraryPins], report: Report) -> tuple[dict[str, Any], dict[str, str]]:
+def run_yosys(
+    files: list[str], top: str | None, cells: dict[str, LibraryPins], report: Report
+) -> tuple[dict[str, Any], dict[str, str]]:
     """The modules as yosys has elaborated them, and the original of each file that it was given."""
     program = shutil.which("yosys")
     if program is None:
-        raise InputFault(files[0], None, "this netlist has to be flattened by yosys, and there is no yosys here: apt-get install yosys")
+        raise InputFault(
+            files[0],
+            None,
+            "this netlist has to be flattened by yosys, and there is no yosys here: apt-get install yosys",
+        )
     with tempfile.TemporaryDirectory() as name:
         folder, originals, script = pathlib.Path(name), {}, ["read_verilog -lib cells.v"]
         (folder / "cells.v").write_text("".join(it.stub() for it in cells.values()))
@@ -47,16 +55,27 @@ def run_yosys(files: list[str], top: str | None, cells: dict[str, LibraryPins], 
             copy = f"part{number}.v"
             (folder / copy).write_text(read_text(file), encoding="latin-1")
             originals[copy] = file
-            script.append(f"read_verilog -sv {copy}" if file.removesuffix(".gz").endswith(".sv") else f"read_verilog {copy}")
-        script += [f"hierarchy -check {f'-top {verilog_word(top)}' if top else '-auto-top'}", "proc", "write_json out.json"]
+            script.append(
+                f"read_verilog -sv {copy}" if file.removesuffix(".gz").endswith(".sv") else f"read_verilog {copy}"
+            )
+        script += [
+            f"hierarchy -check {f'-top {verilog_word(top)}' if top else '-auto-top'}",
+            "proc",
+            "write_json out.json",
+        ]
         (folder / "run.ys").write_text("\n".join(script) + "\n")
-        ran = subprocess.run([program, "-q", "run.ys"], cwd=folder, capture_output=True, text=True, errors="replace", check=False)
+        ran = subprocess.run(
+            [program, "-q", "run.ys"], cwd=folder, capture_output=True, text=True, errors="replace", check=False
+        )
         said = ran.stdout + ran.stderr
         if ran.returncode:
             found = ERROR.search(said)
             file = originals.get(found.group(1) or "", files[0]) if found else files[0]
-            raise InputFault(file, int(found.group(2)) if found and found.group(2) else None,
-                             f"yosys refuses it: {found.group(3) if found else said.strip()[-300:]}")
+            raise InputFault(
+                file,
+                int(found.group(2)) if found and found.group(2) else None,
+                f"yosys refuses it: {found.group(3) if found else said.strip()[-300:]}",
+            )
         for found in RESIZED.finditer(said):
             report.lose("width", Place(files[0]), f"a connection has another width than its port: {found.group(1)}")
         return json.loads((folder / "out.json").read_text())["modules"], originals
@@ -95,7 +114,9 @@ def bit_names(base: str, shape: dict[str, Any], width: int) -> list[str]:
 class Flattener:
     """Goes down the modules from the top, and gathers instances of cells, nets and their names."""
 
-    def __init__(self, modules: dict[str, Any], cells: dict[str, LibraryPins], originals: dict[str, str], report: Report):
+    def __init__(
+        self, modules: dict[str, Any], cells: dict[str, LibraryPins], originals: dict[str, str], report: Report
+    ):
         self.modules, self.cells, self.originals, self.report = modules, cells, originals, report
         self.groups = Groups()
         self.names: list[tuple[str, int, bool]] = []
@@ -133,7 +154,9 @@ class Flattener:
                 self.block(path + word, cell, bits)
             else:
                 place = self.place(cell)
-                raise InputFault(place.file, place.line or None, f"{word} is no instance of a cell: yosys made {cell['type']} of it")
+                raise InputFault(
+                    place.file, place.line or None, f"{word} is no instance of a cell: yosys made {cell['type']} of it"
+                )
 
     def leaf(self, key: str, cell: dict[str, Any], bits: dict[Any, int]) -> None:
         pins, place = self.cells[cell["type"]], self.place(cell)
@@ -179,16 +202,26 @@ class Flattener:
         taken: dict[int, str] = {}
         for port, shape in sorted(top["ports"].items(), key=lambda it: it[1]["direction"]):
             if shape["direction"] == "inout":
-                raise InputFault(self.netlist.place.file, self.netlist.place.line, f"the port {port} is an inout, which is not read")
-            for name, bit in reversed(list(zip(bit_names(port, shape, len(shape["bits"])), shape["bits"], strict=True))):
+                raise InputFault(
+                    self.netlist.place.file, self.netlist.place.line, f"the port {port} is an inout, which is not read"
+                )
+            for name, bit in reversed(
+                list(zip(bit_names(port, shape, len(shape["bits"])), shape["bits"], strict=True))
+            ):
                 root = self.groups.root(self.number(bits, bit))
                 if root in (NET_ZERO, NET_ONE):
-                    self.report.drop("constant-port", self.netlist.place, f"the port {name} is constant: it has no driver")
+                    self.report.drop(
+                        "constant-port", self.netlist.place, f"the port {name} is constant: it has no driver"
+                    )
                     self.netlist.nets[name] = name
                 elif root not in taken:
                     taken[root] = called[root] = name
                 elif shape["direction"] == "input":
-                    raise InputFault(self.netlist.place.file, self.netlist.place.line, f"the input ports {taken[root]} and {name} are one net (E10)")
+                    raise InputFault(
+                        self.netlist.place.file,
+                        self.netlist.place.line,
+                        f"the input ports {taken[root]} and {name} are one net (E10)",
+                    )
                 else:
                     self.netlist.shared[name] = taken[root]
                     self.netlist.nets[name] = name
@@ -213,7 +246,9 @@ class Flattener:
                 netlist.nets.setdefault(net, net)
                 if name != net and name not in netlist.ports:
                     netlist.aliases.setdefault(name, net)
-        netlist.block_pins = {key: called.get(self.groups.root(int(number)), "") for key, number in netlist.block_pins.items()}
+        netlist.block_pins = {
+            key: called.get(self.groups.root(int(number)), "") for key, number in netlist.block_pins.items()
+        }
 
 
 def read_hierarchy(files: list[str], top: str | None, cells: dict[str, LibraryPins], report: Report) -> Netlist:

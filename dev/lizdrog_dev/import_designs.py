@@ -40,16 +40,23 @@ class Kind:
     def header(self) -> str:
         unit = {1: "1ps", 1000: "1ns"}[self.time], {1: "(1, ff)", 1000: "(1, pf)"}[self.load]
         delay, (upper, lower) = (50, (80, 20)) if self.has_slews else (ELMORE, (50, 50))
-        lines = [f"library ({self.name}) {{ delay_model : table_lookup;", f'  time_unit : "{unit[0]}"; capacitive_load_unit {unit[1]};',
-                 '  voltage_unit : "1V"; current_unit : "1mA"; pulling_resistance_unit : "1kohm"; leakage_power_unit : "1nW";',
-                 "  nom_process : 1; nom_voltage : 1.8; nom_temperature : 25;"]
+        lines = [
+            f"library ({self.name}) {{ delay_model : table_lookup;",
+            f'  time_unit : "{unit[0]}"; capacitive_load_unit {unit[1]};',
+            '  voltage_unit : "1V"; current_unit : "1mA"; pulling_resistance_unit : "1kohm"; leakage_power_unit : "1nW";',
+            "  nom_process : 1; nom_voltage : 1.8; nom_temperature : 25;",
+        ]
         for edge in ("rise", "fall"):
             lines.append(f"  input_threshold_pct_{edge} : {delay}; output_threshold_pct_{edge} : {delay};")
             lines.append(f"  slew_lower_threshold_pct_{edge} : {lower}; slew_upper_threshold_pct_{edge} : {upper};")
         slews, loads = self.axis(SLEWS, self.time), self.axis(LOADS, self.load)
-        lines.append("  lu_table_template (delay) { variable_1 : input_net_transition; variable_2 : total_output_net_capacitance;")
+        lines.append(
+            "  lu_table_template (delay) { variable_1 : input_net_transition; variable_2 : total_output_net_capacitance;"
+        )
         lines.append(f'    index_1 ("{slews}"); index_2 ("{loads}"); }}')
-        lines.append("  lu_table_template (need) { variable_1 : related_pin_transition; variable_2 : constrained_pin_transition;")
+        lines.append(
+            "  lu_table_template (need) { variable_1 : related_pin_transition; variable_2 : constrained_pin_transition;"
+        )
         lines.append(f'    index_1 ("{slews}"); index_2 ("{slews}"); }}')
         return "\n".join(lines)
 
@@ -67,17 +74,23 @@ class Kind:
         return self.values([[base + slewed * (0.05 * y - 0.02 * x) for y in SLEWS] for x in SLEWS])
 
     def values(self, table: list[list[float]]) -> str:
-        return "values (" + ", ".join('"' + ", ".join(f"{it / self.time:.6f}" for it in row) + '"' for row in table) + ");"
+        return (
+            "values (" + ", ".join('"' + ", ".join(f"{it / self.time:.6f}" for it in row) + '"' for row in table) + ");"
+        )
 
     def arc(self, related: str, sense: str, base: float, slope: float, more: str = "") -> str:
         said = f"timing_sense : {sense};" if sense else ""
-        return (f'timing () {{ related_pin : "{related}"; {said} {more} cell_rise (delay) {{ {self.delay(base, slope)} }} '
-                f"cell_fall (delay) {{ {self.delay(base * 1.1, slope)} }} rise_transition (delay) {{ {self.delay(base / 2, slope)} }} "
-                f"fall_transition (delay) {{ {self.delay(base * 0.45, slope)} }} }}")
+        return (
+            f'timing () {{ related_pin : "{related}"; {said} {more} cell_rise (delay) {{ {self.delay(base, slope)} }} '
+            f"cell_fall (delay) {{ {self.delay(base * 1.1, slope)} }} rise_transition (delay) {{ {self.delay(base / 2, slope)} }} "
+            f"fall_transition (delay) {{ {self.delay(base * 0.45, slope)} }} }}"
+        )
 
     def test(self, clock: str, kind: str, base: float) -> str:
-        return (f'timing () {{ related_pin : "{clock}"; timing_type : {kind}; rise_constraint (need) {{ {self.need(base)} }} '
-                f"fall_constraint (need) {{ {self.need(base * 1.2)} }} }}")
+        return (
+            f'timing () {{ related_pin : "{clock}"; timing_type : {kind}; rise_constraint (need) {{ {self.need(base)} }} '
+            f"fall_constraint (need) {{ {self.need(base * 1.2)} }} }}"
+        )
 
     def input(self, name: str, load: float, more: str = "") -> str:
         return f"    pin ({name}) {{ direction : input; capacitance : {load / self.load:g}; {more} }}"
@@ -94,9 +107,16 @@ class Kind:
     def register(self, name: str) -> str:
         tests = self.test("CK", "setup_rising", 40 / self.factor) + self.test("CK", "hold_rising", 6)
         edge = "timing_type : rising_edge;"
-        return "\n".join([f'  cell ({name}) {{ area : 4; ff (IQ, IQN) {{ clocked_on : "CK"; next_state : "D"; }}', self.input("D", 1.25, tests),
-                          self.input("CK", 0.9, "clock : true;"), self.output("Q", "IQ", self.arc("CK", "", 60, 1.4, edge)),
-                          self.output("QN", "IQN", self.arc("CK", "", 66, 1.4, edge)), "  }"])
+        return "\n".join(
+            [
+                f'  cell ({name}) {{ area : 4; ff (IQ, IQN) {{ clocked_on : "CK"; next_state : "D"; }}',
+                self.input("D", 1.25, tests),
+                self.input("CK", 0.9, "clock : true;"),
+                self.output("Q", "IQ", self.arc("CK", "", 60, 1.4, edge)),
+                self.output("QN", "IQN", self.arc("CK", "", 66, 1.4, edge)),
+                "  }",
+            ]
+        )
 
 
 POSITIVE, NEGATIVE, NEITHER = "positive_unate", "negative_unate", "non_unate"
@@ -105,27 +125,74 @@ POSITIVE, NEGATIVE, NEITHER = "positive_unate", "negative_unate", "non_unate"
 def standard_cells(kind: Kind) -> str:
     """A library of some gates and a register."""
     arc = kind.arc
-    cells = [kind.gate("BUF", "A", [("A", 1.1, [arc("A", POSITIVE, 20, 1.5)])]), kind.gate("CKBUF", "A", [("A", 1.5, [arc("A", POSITIVE, 25, 0.7)])]),
-             kind.gate("INV", "!A", [("A", 1.0, [arc("A", "", 10, 1.8)])]),
-             kind.gate("NAND2", "!(A B)", [("A", 1.2, [arc("A", NEGATIVE, 14, 1.9)]), ("B", 1.3, [arc("B", NEGATIVE, 16, 1.9)])]),
-             kind.gate("AND2", "A*B", [("A", 1.2, [arc("A", POSITIVE, 24, 1.2)]), ("B", 1.3, [arc("B", POSITIVE, 26, 1.2)])]),
-             kind.gate("XOR2", "A^B", [(pin, load, [arc(pin, POSITIVE, 30, 1.3, f'when : "!{other}";'), arc(pin, NEGATIVE, 35, 1.3, f'when : "{other}";')])
-                                       for pin, load, other in (("A", 1.6, "B"), ("B", 1.7, "A"))]),
-             kind.gate("MUX2", "(A !S)+(B S)", [("A", 1.4, [arc("A", POSITIVE, 33, 1.1)]), ("B", 1.45, [arc("B", POSITIVE, 36, 1.1)]),
-                                                ("S", 1.8, [arc("S", NEITHER, 40, 1.1)])]),
-             '  cell (TIELO) { area : 1; pin (Y) { direction : output; function : "0"; } }', kind.register("DFF")]
+    cells = [
+        kind.gate("BUF", "A", [("A", 1.1, [arc("A", POSITIVE, 20, 1.5)])]),
+        kind.gate("CKBUF", "A", [("A", 1.5, [arc("A", POSITIVE, 25, 0.7)])]),
+        kind.gate("INV", "!A", [("A", 1.0, [arc("A", "", 10, 1.8)])]),
+        kind.gate(
+            "NAND2", "!(A B)", [("A", 1.2, [arc("A", NEGATIVE, 14, 1.9)]), ("B", 1.3, [arc("B", NEGATIVE, 16, 1.9)])]
+        ),
+        kind.gate(
+            "AND2", "A*B", [("A", 1.2, [arc("A", POSITIVE, 24, 1.2)]), ("B", 1.3, [arc("B", POSITIVE, 26, 1.2)])]
+        ),
+        kind.gate(
+            "XOR2",
+            "A^B",
+            [
+                (
+                    pin,
+                    load,
+                    [
+                        arc(pin, POSITIVE, 30, 1.3, f'when : "!{other}";'),
+                        arc(pin, NEGATIVE, 35, 1.3, f'when : "{other}";'),
+                    ],
+                )
+                for pin, load, other in (("A", 1.6, "B"), ("B", 1.7, "A"))
+            ],
+        ),
+        kind.gate(
+            "MUX2",
+            "(A !S)+(B S)",
+            [
+                ("A", 1.4, [arc("A", POSITIVE, 33, 1.1)]),
+                ("B", 1.45, [arc("B", POSITIVE, 36, 1.1)]),
+                ("S", 1.8, [arc("S", NEITHER, 40, 1.1)]),
+            ],
+        ),
+        '  cell (TIELO) { area : 1; pin (Y) { direction : output; function : "0"; } }',
+        kind.register("DFF"),
+    ]
     return "\n".join([kind.header(), *cells, "}"]) + "\n"
 
 
 def memory(kind: Kind) -> str:
     """A library with one macro, whose pins are buses."""
     tests = kind.test("CK", "setup_rising", 55 / kind.factor) + kind.test("CK", "hold_rising", 12)
-    types = "".join(f"  type (bus{it}) {{ base_type : array; data_type : bit; bit_width : {it}; bit_from : {it - 1}; bit_to : 0; downto : true; }}\n" for it in (3, 4))
-    return "\n".join([kind.header(), types, '  cell (RAM8X4) { area : 400; interface_timing : true;', kind.input("CK", 3.5, "clock : true;"),
-                      kind.input("WE", 2.2, tests)] +
-                     [f"    bus ({bus}) {{ bus_type : bus{width}; direction : input; capacitance : {load / kind.load:g}; pin ({bus}[{width - 1}:0]) {{ {tests} }} }}"
-                      for bus, width, load in (("A", 3, 2.5), ("D", 4, 1.9))] +
-                     [f"    bus (Q) {{ bus_type : bus4; direction : output; pin (Q[3:0]) {{ {kind.arc('CK', '', 150, 2.1, 'timing_type : rising_edge;')} }} }}", "  }", "}"]) + "\n"
+    types = "".join(
+        f"  type (bus{it}) {{ base_type : array; data_type : bit; bit_width : {it}; bit_from : {it - 1}; bit_to : 0; downto : true; }}\n"
+        for it in (3, 4)
+    )
+    return (
+        "\n".join(
+            [
+                kind.header(),
+                types,
+                "  cell (RAM8X4) { area : 400; interface_timing : true;",
+                kind.input("CK", 3.5, "clock : true;"),
+                kind.input("WE", 2.2, tests),
+            ]
+            + [
+                f"    bus ({bus}) {{ bus_type : bus{width}; direction : input; capacitance : {load / kind.load:g}; pin ({bus}[{width - 1}:0]) {{ {tests} }} }}"
+                for bus, width, load in (("A", 3, 2.5), ("D", 4, 1.9))
+            ]
+            + [
+                f"    bus (Q) {{ bus_type : bus4; direction : output; pin (Q[3:0]) {{ {kind.arc('CK', '', 150, 2.1, 'timing_type : rising_edge;')} }} }}",
+                "  }",
+                "}",
+            ]
+        )
+        + "\n"
+    )
 
 
 def write(folder: pathlib.Path, texts: dict[str, str]) -> None:
@@ -175,15 +242,38 @@ set_multicycle_path 2 -from [get_pins u1/r0/CK] -to [get_cells u2/r*]
 set_false_path -from [get_cells u2/r1] -to [get_ports par]
 """
 # The wires of each net: its name, the driver's node, and rows from a node to a node. A node with a slash is a pin, a number an inner node.
-STAGE_WIRES = {"ck": ["ck 1", "1 r0/CK", "1 r1/CK"], "d[0]": ["d[0] 1", "1 r0/D"], "d[1]": ["d[1] 1", "1 r1/D", "1 p"], "n[0]": ["r0/Q 1", "1 x0/g0/A"],
-               "n[1]": ["r1/Q 1", "1 2", "2 x0/g0/B", "1 x0/g1/B"], "x0/t": ["x0/g0/Y 1", "1 x0/g1/A"], "m": ["x0/g1/Y 1", "1 g0/A"],
-               "k": ["g0/Y g1/A"], "q": ["g1/Y 1", "1 q"]}
-CHIP_WIRES = {"clk": ["clk 1", "1 cb0/A"], "c0": ["cb0/Y 1", "1 cb1/A", "1 2", "2 u1/ck"], "c1": ["cb1/Y 1", "1 u2/ck", "1 ro/CK"],
-              "in[0]": ["in[0] 1", "1 u1/d[0]"], "in[1]": ["in[1] 1", "1 u1/d[1]"], "feed": ["u1/p 1", "1 b0/A"], "mid[0]": ["u1/q 1", "1 u2/d[1]"],
-              "mid[1]": ["b0/Y 1", "1 u2/d[0]"], "loop": ["u2/q 1", "1 ro/D", "1 2", "2 a0/B"]}
+STAGE_WIRES = {
+    "ck": ["ck 1", "1 r0/CK", "1 r1/CK"],
+    "d[0]": ["d[0] 1", "1 r0/D"],
+    "d[1]": ["d[1] 1", "1 r1/D", "1 p"],
+    "n[0]": ["r0/Q 1", "1 x0/g0/A"],
+    "n[1]": ["r1/Q 1", "1 2", "2 x0/g0/B", "1 x0/g1/B"],
+    "x0/t": ["x0/g0/Y 1", "1 x0/g1/A"],
+    "m": ["x0/g1/Y 1", "1 g0/A"],
+    "k": ["g0/Y g1/A"],
+    "q": ["g1/Y 1", "1 q"],
+}
+CHIP_WIRES = {
+    "clk": ["clk 1", "1 cb0/A"],
+    "c0": ["cb0/Y 1", "1 cb1/A", "1 2", "2 u1/ck"],
+    "c1": ["cb1/Y 1", "1 u2/ck", "1 ro/CK"],
+    "in[0]": ["in[0] 1", "1 u1/d[0]"],
+    "in[1]": ["in[1] 1", "1 u1/d[1]"],
+    "feed": ["u1/p 1", "1 b0/A"],
+    "mid[0]": ["u1/q 1", "1 u2/d[1]"],
+    "mid[1]": ["b0/Y 1", "1 u2/d[0]"],
+    "loop": ["u2/q 1", "1 ro/D", "1 2", "2 a0/B"],
+}
 # Which nets of the blocks go on as which nets of the chip, each with the end of the block at which they meet.
-MEETING = {"c0": [("u1", "ck")], "c1": [("u2", "ck")], "in[0]": [("u1", "d[0]")], "in[1]": [("u1", "d[1]")], "mid[1]": [("u2", "d[0]")],
-           "mid[0]": [("u1", "q"), ("u2", "d[1]")], "loop": [("u2", "q")]}
+MEETING = {
+    "c0": [("u1", "ck")],
+    "c1": [("u2", "ck")],
+    "in[0]": [("u1", "d[0]")],
+    "in[1]": [("u1", "d[1]")],
+    "mid[1]": [("u2", "d[0]")],
+    "mid[0]": [("u1", "q"), ("u2", "d[1]")],
+    "loop": [("u2", "q")],
+}
 
 
 @dataclasses.dataclass(slots=True)
@@ -199,8 +289,10 @@ def drawn(wires: dict[str, list[str]], seed: int) -> dict[str, Rows]:
     draw, found = random.Random(seed), {}
     for net, rows in wires.items():
         pairs = [it.split() for it in rows]
-        found[net] = Rows([(one, other, round(draw.uniform(20, 200), 2)) for one, other in pairs],
-                          [(other, round(draw.uniform(0.5, 3), 3)) for _, other in pairs])
+        found[net] = Rows(
+            [(one, other, round(draw.uniform(20, 200), 2)) for one, other in pairs],
+            [(other, round(draw.uniform(0.5, 3), 3)) for _, other in pairs],
+        )
     return found
 
 
@@ -225,20 +317,36 @@ def spef(name: str, nets: dict[str, Rows], units: tuple[str, str]) -> str:
     """Parasitics with a name map; *C_UNIT and *R_UNIT as given."""
     cap_unit, res_unit = {"FF": 1, "PF": 1000}[units[0]], {"OHM": 1, "KOHM": 1000}[units[1]]
     indexes: dict[str, int] = {}
+
     def word(node: str, net: str) -> str:
         if node.isdigit():
             return f"*{indexes.setdefault(net, len(indexes) + 1)}:{node}"
         head, slash, pin = node.rpartition("/")
         return f"*{indexes.setdefault(head, len(indexes) + 1)}:{pin}" if slash else node
+
     body = []
     for net, rows in nets.items():
         nodes = list(dict.fromkeys(it for one, other, _ in rows.ress for it in (one, other) if not it.isdigit()))
-        body.append(f"*D_NET *{indexes.setdefault(net, len(indexes) + 1)} {sum(it for _, it in rows.caps) / cap_unit:.9f}\n*CONN")
+        body.append(
+            f"*D_NET *{indexes.setdefault(net, len(indexes) + 1)} {sum(it for _, it in rows.caps) / cap_unit:.9f}\n*CONN"
+        )
         body += [f"*{'I' if '/' in it else 'P'} {word(it, net)} {'B'}" for it in nodes]
-        body += ["*CAP", *(f"{at} {word(node, net)} {value / cap_unit:.9f}" for at, (node, value) in enumerate(rows.caps, 1))]
-        body += ["*RES", *(f"{at} {word(one, net)} {word(other, net)} {value / res_unit:.9f}" for at, (one, other, value) in enumerate(rows.ress, 1)), "*END"]
+        body += [
+            "*CAP",
+            *(f"{at} {word(node, net)} {value / cap_unit:.9f}" for at, (node, value) in enumerate(rows.caps, 1)),
+        ]
+        body += [
+            "*RES",
+            *(
+                f"{at} {word(one, net)} {word(other, net)} {value / res_unit:.9f}"
+                for at, (one, other, value) in enumerate(rows.ress, 1)
+            ),
+            "*END",
+        ]
     head = SPEF_HEAD.format(name=name, cap=units[0], res=units[1])
-    return head + "*NAME_MAP\n" + "".join(f"*{number} {it}\n" for it, number in indexes.items()) + "\n".join(body) + "\n"
+    return (
+        head + "*NAME_MAP\n" + "".join(f"*{number} {it}\n" for it, number in indexes.items()) + "\n".join(body) + "\n"
+    )
 
 
 def whole_wires(chip: dict[str, Rows], stages: dict[str, dict[str, Rows]]) -> dict[str, Rows]:
@@ -248,8 +356,10 @@ def whole_wires(chip: dict[str, Rows], stages: dict[str, dict[str, Rows]]) -> di
     for block, nets in {"": chip, **stages}.items():
         for net, rows in nets.items():
             into = "in[1]" if net == "feed" else joined.get((block, net), f"{block}/{net}" if block else net)
+
             def word(node: str, block: str = block, net: str = net) -> str:
                 return f"{block}.{net}.{node}" if node.isdigit() else f"{block}/{node}" if block else node
+
             target = whole.setdefault(into, Rows([], []))
             target.ress += [(word(one), word(other), value) for one, other, value in rows.ress]
             target.caps += [(word(node), value) for node, value in rows.caps]
@@ -262,27 +372,53 @@ ENDS = {f"{block}/{end}" for block in ("u1", "u2") for end in ("ck", "d[0]", "d[
 def numbered(rows: Rows) -> Rows:
     """Inner nodes, and the ends of blocks, by numbers of their own."""
     numbers: dict[str, str] = {}
+
     def word(node: str) -> str:
         is_inner = node.isdigit() or node.count(".") == 2 or node in ENDS
         return numbers.setdefault(node, str(len(numbers) + 1)) if is_inner else node
-    return Rows([(word(one), word(other), value) for one, other, value in rows.ress], [(word(node), value) for node, value in rows.caps])
+
+    return Rows(
+        [(word(one), word(other), value) for one, other, value in rows.ress],
+        [(word(node), value) for node, value in rows.caps],
+    )
 
 
 def blocks(folder: pathlib.Path) -> Case:
     """A hierarchy of three levels with two blocks, each with parasitics of its own."""
     chip, stages = drawn(CHIP_WIRES, 1), {"u1": drawn(STAGE_WIRES, 2), "u2": drawn(STAGE_WIRES, 3)}
     early, late = Kind("fast", 0.8, has_slews=False), Kind("slow", 1.0, has_slews=False)
-    write(folder, {"early.lib": standard_cells(early), "late.lib": standard_cells(late), "stage.v": STAGE, "chip.v": TOP, "chip.sdc": BLOCKS_SDC,
-                   "chip.spef.gz": spef("chip", chip, ("PF", "OHM")), "u1.spef": spef("stage", stages["u1"], ("FF", "KOHM")),
-                   "u2.spef": spef("stage", stages["u2"], ("FF", "OHM")), "whole.spef": spef("chip", whole_wires(chip, stages), ("FF", "OHM")),
-                   "project.toml": """early = "early.lib"
+    write(
+        folder,
+        {
+            "early.lib": standard_cells(early),
+            "late.lib": standard_cells(late),
+            "stage.v": STAGE,
+            "chip.v": TOP,
+            "chip.sdc": BLOCKS_SDC,
+            "chip.spef.gz": spef("chip", chip, ("PF", "OHM")),
+            "u1.spef": spef("stage", stages["u1"], ("FF", "KOHM")),
+            "u2.spef": spef("stage", stages["u2"], ("FF", "OHM")),
+            "whole.spef": spef("chip", whole_wires(chip, stages), ("FF", "OHM")),
+            "project.toml": """early = "early.lib"
 late = "late.lib"
 netlist = ["stage.v", "chip.v"]
 top = "chip"
 sdc = "chip.sdc"
 spef = ["chip.spef.gz", { file = "u1.spef", instance = "u1" }, { file = "u2.spef", instance = "u2" }]
-"""})
-    return Case("blocks", folder, ["early.lib"], ["late.lib"], ["stage.v", "chip.v"], "chip", "chip.sdc", "project.toml", ["whole.spef"])
+""",
+        },
+    )
+    return Case(
+        "blocks",
+        folder,
+        ["early.lib"],
+        ["late.lib"],
+        ["stage.v", "chip.v"],
+        "chip",
+        "chip.sdc",
+        "project.toml",
+        ["whole.spef"],
+    )
 
 
 # ------------------------------------------------------------------------------------------------ two libraries and a macro
@@ -325,14 +461,29 @@ def macro(folder: pathlib.Path) -> Case:
     for side, factor in (("early", 0.8), ("late", 1.0)):
         texts[f"{side}.lib"] = standard_cells(Kind(f"cells_{side}", factor, time=1000, load=1000))
         texts[f"ram_{side}.lib"] = memory(Kind(f"ram_{side}", factor))
-    texts |= {f"{name}.gz": text for name, text in texts.items()} | {"store.v": MACRO_V, "store.v.gz": MACRO_V, "store.sdc": MACRO_SDC}
-    texts["project.toml"] = """early = ["early.lib.gz", "ram_early.lib.gz"]
+    texts |= {f"{name}.gz": text for name, text in texts.items()} | {
+        "store.v": MACRO_V,
+        "store.v.gz": MACRO_V,
+        "store.sdc": MACRO_SDC,
+    }
+    texts[
+        "project.toml"
+    ] = """early = ["early.lib.gz", "ram_early.lib.gz"]
 late = ["late.lib.gz", "ram_late.lib.gz"]
 netlist = "store.v.gz"
 sdc = "store.sdc"
 """
     write(folder, texts)
-    return Case("macro", folder, ["early.lib", "ram_early.lib"], ["late.lib", "ram_late.lib"], ["store.v"], "store", "store.sdc", "project.toml")
+    return Case(
+        "macro",
+        folder,
+        ["early.lib", "ram_early.lib"],
+        ["late.lib", "ram_late.lib"],
+        ["store.v"],
+        "store",
+        "store.sdc",
+        "project.toml",
+    )
 
 
 # ------------------------------------------------------------------------------------------------ constraints in Tcl
@@ -431,8 +582,16 @@ group_path -name outputs -to [all_outputs]
 
 def modes(folder: pathlib.Path) -> Case:
     """Constraints in Tcl, with constants, driving cells, latencies, clock groups and disabled arcs."""
-    write(folder, {"early.lib": standard_cells(Kind("fast", 0.8)), "late.lib": standard_cells(Kind("slow", 1.0)), "modes.v": MODES_V, "modes.sdc": MODES_SDC,
-                   "project.toml": 'early = "early.lib"\nlate = "late.lib"\nnetlist = "modes.v"\nsdc = "modes.sdc"\n'})
+    write(
+        folder,
+        {
+            "early.lib": standard_cells(Kind("fast", 0.8)),
+            "late.lib": standard_cells(Kind("slow", 1.0)),
+            "modes.v": MODES_V,
+            "modes.sdc": MODES_SDC,
+            "project.toml": 'early = "early.lib"\nlate = "late.lib"\nnetlist = "modes.v"\nsdc = "modes.sdc"\n',
+        },
+    )
     return Case("modes", folder, ["early.lib"], ["late.lib"], ["modes.v"], "modes", "modes.sdc", "project.toml")
 
 
