@@ -113,6 +113,9 @@ def other_command(words: list[str]) -> int | None:
     if asked is not None:
         from lizdrog_tools import help_text
         return 0 if write_all(help_text.of(asked).encode() + b"\n") else 5
+    if words[:1] == ["import"]:
+        from lizdrog_tools.importing import command
+        return command.called(words[1:])
     if words[:1] == ["install"]:
         from lizdrog_tools import install
         return install.main(words[1:], say)
@@ -127,6 +130,13 @@ def answer(words: list[str]) -> int:
     given, words = command_line.options_of(words)
     if words == [] and given["version"]:
         return 0 if write_all("\n".join([*programs.version(), ""]).encode()) else 5
+    if words and words[0] == "run" and any(it.endswith(".toml") for it in words):
+        from lizdrog_tools import files, run_project
+        try:
+            words = run_project.expanded(words) if run_project.is_project(words) else words
+        except (files.InputFault, OSError) as why:
+            say(str(why))
+            return 2 if write_all(b"fault words\n") else 5
     why = "" if words == [] and given["build"] else command_line.misfit(words) if words is not None else "there is no such option"
     if why:
         written = write_all(b"fault words\n")

@@ -1,7 +1,6 @@
 """The command `import`: reads a project file and writes a folder that Lizdrog reads."""
 import argparse
 import decimal
-import os
 import pathlib
 import re
 import shutil
@@ -27,6 +26,7 @@ from lizdrog_tools.importing.project import Project, read_project
 from lizdrog_tools.importing.report import Place, Report, write_report
 from lizdrog_tools.importing.resolve import resolve
 from lizdrog_tools.importing.run_sdc import run_constraints
+from lizdrog_tools.importing.sanity import check_all
 from lizdrog_tools.importing.sdc_writer import SdcWriter
 from lizdrog_tools.importing.shared_ports import part_ports, share_loads
 from lizdrog_tools.importing.spef_merge import Merger, merge_spef, write_spef
@@ -35,6 +35,7 @@ from lizdrog_tools.importing.verilog_flat import NotFlat, read_flat, write_flat
 from lizdrog_tools.importing.verilog_hierarchy import read_hierarchy
 
 DIGITS = 60
+SPEF, REPORT = "parasitics.spef", "import.json"
 WORD = re.compile(r"\\\S+|[A-Za-z_][\w$]*")
 HELP = """Brings a design as tools write it to what Lizdrog reads: import [-o FOLDER] PROJECT.toml
 
@@ -54,17 +55,10 @@ def read_netlist(project: Project, cells: LibrarySet, report: Report) -> Netlist
             netlist = read_flat(texts[0], files[0])
             if project.top not in (None, netlist.name):
                 raise InputFault(files[0], None, f"there is no module {project.top}: the one module is {netlist.name}")
-            bused = next(
-                (
-                    it
-                    for it in netlist.instances.values()
-                    if any(pin not in known_pins(cells, it.cell) for pin in it.nets)
-                ),
-                None,
-            )
+            bused = next((it for it in netlist.instances.values() if it.nets.keys() & buses(cells, it.cell)), None)
             if bused is None:
                 return netlist
-            reason = f"pins of {bused.name} that its cell has as a bus, or not at all"
+            reason = f"pins of {bused.name} that are buses of its cell"
         except NotFlat as why:
             reason = f"{why.seen} (line {why.line})"
     words = {it.removeprefix("\\") for text in texts for it in WORD.findall(text)}
@@ -78,9 +72,10 @@ def read_netlist(project: Project, cells: LibrarySet, report: Report) -> Netlist
     return netlist
 
 
-def known_pins(cells: LibrarySet, name: str) -> set[str]:
+def buses(cells: LibrarySet, name: str) -> set[str]:
+    """The buses of a cell."""
     cell = cells.get(name)
-    return set(cell.pins) if cell else set()
+    return {port for port, span in cell.spans.items() if span} if cell else set()
 
 
 def check_instances(netlist: Netlist, early: LibrarySet, late: LibrarySet) -> None:
@@ -120,6 +115,9 @@ class Import:
             [str(self.project.path(it)) for it in self.project.sdc], design, self.report, self.project.folder
         )
         wires = merge_spef(self.project, design, self.report)
+        names = sorted({it.cell for it in netlist.instances.values()})
+        place = Place(str(self.project.path(self.project.sdc[0])) if self.project.sdc else self.project.file)
+        check_all(names, (self.early, self.late), constraints, wires, design, self.report, place)
         self.express(constraints, design, wires)
         used = sorted({it.cell for it in netlist.instances.values()})
         names = list(dict.fromkeys([*used, *kept_cells(self.early, self.late, self.project.keep)]))
@@ -131,7 +129,7 @@ class Import:
             "late.lib": late,
             "netlist.v": write_flat(netlist),
             "constraints.sdc": SdcWriter(constraints, netlist.name).text(),
-            **({"parasitics.spef": write_spef(wires)} if wires else {}),
+            **({SPEF: write_spef(wires)} if wires else {}),
         }
 
     def express(self, constraints: Constraints, design: Design, wires: Merger | None) -> None:
@@ -156,6 +154,12 @@ spef = "{spef}"
 """
 
 
+def check_folder(folder: pathlib.Path) -> None:
+    """A folder that an import did not make is left alone."""
+    if folder.exists() and (not folder.is_dir() or any(folder.iterdir()) and not (folder / REPORT).is_file()):
+        raise InputFault(str(folder), None, "this is there and no earlier import made it: name another folder by -o")
+
+
 def write_folder(folder: pathlib.Path, texts: dict[str, str], report: Report, facts: dict[str, object]) -> None:
     """Writes all of it beside the folder, and then puts it in its place."""
     folder.parent.mkdir(parents=True, exist_ok=True)
@@ -164,12 +168,11 @@ def write_folder(folder: pathlib.Path, texts: dict[str, str], report: Report, fa
         for file, text in texts.items():
             (part / file).write_text(text, encoding="latin-1")
         (part / "lizdrog.toml").write_text(
-            RUN_FILE.format(spef="parasitics.spef" if "parasitics.spef" in texts else "none")
+            RUN_FILE.format(spef=SPEF if SPEF in texts else "none")
         )
         write_report(report, part, facts)
         folder.mkdir(exist_ok=True)
-        for file in ("parasitics.spef",):
-            (folder / file).unlink(missing_ok=True)
+        (folder / SPEF).unlink(missing_ok=True)
         for file in part.iterdir():
             shutil.move(str(file), folder / file.name)
 
@@ -180,33 +183,41 @@ def refuse(report: Report) -> int:
         print(f"import: {remark}", file=sys.stderr)
     kinds = ", ".join(f'"{it}"' for it in dict.fromkeys(it.kind for it in report.refused))
     print(
-        f"import: {len(report.refused)} things would change slacks and cannot be expressed; nothing is written. Where you can do without them, "
-        f"write accept = [{kinds}] into the project",
+        f"import: {len(report.refused)} things would change slacks and cannot be expressed; nothing is written. "
+        f"Where you can do without them, write accept = [{kinds}] into the project",
         file=sys.stderr,
     )
     return 2
 
 
-@tool("import")
-def main() -> int:
+def import_project(words: list[str]) -> int:
+    """Imports the project that the words name; gives the status."""
     parser = argparse.ArgumentParser(
-        prog="import", description=HELP, formatter_class=argparse.RawDescriptionHelpFormatter, usage=argparse.SUPPRESS
+        prog="lizdrog import", usage=argparse.SUPPRESS, description=HELP, formatter_class=argparse.RawDescriptionHelpFormatter
     )
-    parser.add_argument("project")
-    parser.add_argument("-o", "--output", metavar="FOLDER")
-    given = parser.parse_args()
+    parser.add_argument("project", metavar="PROJECT.toml")
+    parser.add_argument("-o", "--output", metavar="FOLDER", help="the folder that is written, PROJECT.import where none is named")
+    given = parser.parse_args(words)
     decimal.getcontext().prec = DIGITS
     project = read_project(given.project)
-    done = Import(project)
-    texts = done.work()
-    if done.report.refused:
-        return refuse(done.report)
     folder = pathlib.Path(given.output or project.path(project.output or f"{pathlib.Path(project.file).stem}.import"))
-    facts = {"project": project.file, "folder": str(folder)}
-    write_folder(folder, texts, done.report, facts)
-    report = done.report
+    check_folder(folder)
+    done = Import(project)
+    texts, report = done.work(), done.report
+    if report.refused:
+        return refuse(report)
+    write_folder(folder, texts, report, {"project": project.file, "folder": str(folder)})
     print(
-        f"import: {folder}: {len(report.changes)} things changed with the same slacks, {len(report.harmless)} left out without effect, "
-        f"{len(report.accepted)} accepted ({os.path.join(folder, 'import.txt')})"
+        f"import: {folder}: {len(report.changes)} things changed with the same slacks, {len(report.harmless)} left out "
+        f"without effect, {len(report.accepted)} accepted ({folder / 'import.txt'})"
     )
     return report.status()
+
+
+def called(words: list[str]) -> int:
+    """The command with these words: its status, where an input cannot be used 2 with a sentence."""
+    return tool("import")(lambda: import_project(words))()
+
+
+def main() -> int:
+    return called(sys.argv[1:])

@@ -216,7 +216,7 @@ class Merger:
     def __init__(self, design: Design, report: Report):
         self.design, self.report = design, report
         self.nets: dict[str, Wires] = {}
-        self.outside = {"port": design.netlist.ports, "pin": None}
+        self.files: list[str] = []
 
     def called(self, reader: SpefReader, name: str) -> str | None:
         """The net of a name; a divider other than a slash is tried as one."""
@@ -228,6 +228,7 @@ class Merger:
     def read(self, item: SpefFile, name: str) -> None:
         if item.instance is not None and item.instance not in self.design.block_names:
             raise InputFault(name, None, f"there is no block {item.instance} in the netlist")
+        self.files.append(name)
         reader, gone, count = SpefReader(item, name, self.design, self.report), [], 0
         for section in reader.sections():
             count += 1
