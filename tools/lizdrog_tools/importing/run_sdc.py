@@ -64,6 +64,7 @@ class Runner:
         self.timing, self.queries = TimingCommands(self.session, self.constraints), Queries(self.session)
         self.originals: dict[str, str] = {}
         self.copies = 0
+        self.fault: tuple[str, Place] | None = None
         self.work = tempfile.TemporaryDirectory()
         self.commands = {
             **self.queries.commands,
@@ -88,7 +89,10 @@ class Runner:
         try:
             return self.commands[name](rest) or ""
         except IndexError:
-            raise CommandFault(f"{name} lacks a word") from None
+            self.fault = f"{name} lacks a word", self.session.place
+        except CommandFault as why:
+            self.fault = str(why), self.session.place
+        raise CommandFault(self.fault[0])
 
     # ------------------------------------------------------------------------------------------ files
 
@@ -114,6 +118,8 @@ class Runner:
         made = self.copy(name)
         said = find_tcl(self.names(), self.answer).run(made, str(self.folder.resolve()))
         if said[0] != "ok":
+            if self.fault and self.fault[0] == said[1] and self.fault[1].line:
+                raise InputFault(self.fault[1].file, self.fault[1].line, said[1])
             places = [
                 (self.originals[file], int(line)) for file, line in WHERE.findall(said[2]) if file in self.originals
             ]

@@ -91,11 +91,12 @@ class Session:
 
     def look_up(self, kinds: tuple[str, ...], pattern: str, how: Search, *, quiet: bool = False) -> list[Object]:
         """The objects of the first of the kinds that a pattern means; what means nothing is told."""
-        for kind in kinds:
+        named = [it for it in kinds if not it.startswith("block")]
+        for kind in named:
             found = self.design.find(kind, pattern, how)
             if found:
                 return found
-        what = " or ".join(kinds).replace("_", " ")
+        what = " or ".join(named).replace("_", " ")
         if quiet:
             self.report.drop("no-match", self.place, f"{self.command}: no {what} {pattern} (-quiet)")
         elif how.is_regexp or "*" in pattern or "?" in pattern:

@@ -127,7 +127,11 @@ class Tclsh:
             with os.fdopen(asked, "rb") as reading, os.fdopen(answers, "wb") as writing:
                 child.stdin.write(script.encode("latin-1"))
                 child.stdin.close()
-                return self.serve(reading, writing)
+                try:
+                    return self.serve(reading, writing)
+                except BaseException:
+                    child.kill()
+                    raise
 
     def serve(self, reading, writing) -> list[str]:
         while header := reading.readline():
