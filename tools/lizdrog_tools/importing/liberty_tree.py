@@ -10,6 +10,7 @@ COMMENT = re.compile(r"/\*.*?\*/", re.S)
 HEAD = re.compile(r"([A-Za-z_]\w*)\s*\(([^(){};]*)\)\s*$", re.S)
 TOKEN = re.compile(r'/\*.*?\*/|\\\r?\n|"([^"]*)"|([{}();:,])|((?:[^\s{}();:,"/\\]|/(?!\*)|\\(?!\r?\n))+)|(\n)', re.S)
 CONTINUED = re.compile(r"\\\r?\n")
+LONGEST_HEAD = 500
 QUOTED, MARK, WORD, END = 1, 2, 3, 4
 
 
@@ -195,8 +196,27 @@ def read_library(text: str, file: str) -> LibraryText:
     if whole is None or whole.name != "library":
         raise InputFault(file, 1, "this is no library (Liberty): it has no group `library (..) {`")
     if depth:
-        raise InputFault(file, None, f"{depth} closing brackets are missing at the end of the library")
+        raise unclosed(text, file)
     return LibraryText(file, text, whole.args[0] if whole.args else "", parts, frame_of(text, frame, file))
+
+
+def unclosed(text: str, file: str) -> InputFault:
+    """Where a closing bracket is missing: at the first cell that begins inside another group."""
+    opened: list[Part] = []
+    for found in BRACES.finditer(text):
+        if found.group(1) == "}" and opened:
+            opened.pop()
+        elif found.group(1) == "{":
+            said = HEAD.search(text, max(0, found.start() - LONGEST_HEAD), found.start())
+            opened.append(Part(said.group(1) if said else "", words_of(said.group(2)) if said else [], found.start()))
+            if len(opened) > 2 and opened[-1].name == "cell":
+                (one, outer), (other, line) = (
+                    (f"{it.name} ({', '.join(it.args)})", line_of(text, it.brace)) for it in (opened[1], opened[-1])
+                )
+                return InputFault(
+                    file, line, f"{other} begins inside the group {one} of line {outer}: a closing bracket is missing before it"
+                )
+    return InputFault(file, None, f"{len(opened)} closing brackets are missing at the end of the library")
 
 
 def check_end(text: str, end: int, file: str) -> None:

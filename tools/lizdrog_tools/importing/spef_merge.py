@@ -290,7 +290,7 @@ class Merger:
                     raise InputFault(
                         reader.file,
                         line_of(reader.text, section.offset),
-                        f"a capacitance of {section.net} between nodes of other nets",
+                        f"a capacitance of {section.net} of which no node is of this net, or a value that is no number",
                     )
             caps.append((node(chosen), value))
         ress = [(node(one), node(other), value) for one, other, value in section.ress]
