@@ -35,10 +35,10 @@ class Wrong(Exception):
     """A tool did not do its work."""
 
 
-def opensta(case: import_designs.Case, more: str) -> str:
+def opensta(case: import_designs.Case, more: str, has_credit: bool = True) -> str:
     """What OpenSTA says of a design, and then of some commands."""
     lines = [
-        "set sta_crpr_enabled 1",
+        f"set sta_crpr_enabled {int(has_credit)}",
         "set sta_crpr_mode same_transition",
         *(f"read_liberty -min {it}" for it in case.early),
         *(f"read_liberty -max {it}" for it in case.late),
@@ -60,11 +60,11 @@ def opensta(case: import_designs.Case, more: str) -> str:
     return ran.stdout
 
 
-def slacks_of_opensta(case: import_designs.Case) -> Slacks:
+def slacks_of_opensta(case: import_designs.Case, has_credit: bool = True) -> Slacks:
     """The slack of each endpoint in ps, the worst over its path groups."""
     found: Slacks = {}
     unit = 1000 if "ns" in (case.folder / case.late[0]).read_text()[:400] else 1
-    for line in opensta(case, ENDS).splitlines():
+    for line in opensta(case, ENDS, has_credit).splitlines():
         words = line.split()
         if words[:1] == ["END"] and words[3] != "INF":
             key = (words[1], words[2])
@@ -116,17 +116,27 @@ def slacks_of_lizdrog(folder: pathlib.Path, program: pathlib.Path) -> Slacks:
     return found
 
 
+def differing(theirs: Slacks, ours: Slacks) -> list[tuple[str, str]]:
+    """The endpoints of which one of the two has no slack, or another one."""
+    shared = theirs.keys() & ours.keys()
+    return sorted((theirs.keys() ^ ours.keys()) | {it for it in shared if abs(theirs[it] - ours[it]) > TOLERANCE})
+
+
+def agrees(theirs: Slacks, ours: Slacks) -> bool:
+    return bool(theirs) and not differing(theirs, ours)
+
+
 def compare(name: str, theirs: Slacks, ours: Slacks) -> bool:
     """Tells how the slacks agree."""
-    shared = theirs.keys() & ours.keys()
-    worst = max((abs(theirs[it] - ours[it]) for it in shared), default=0.0)
-    wrong = sorted((theirs.keys() ^ ours.keys()) | {it for it in shared if abs(theirs[it] - ours[it]) > TOLERANCE})
+    worst = max((abs(theirs[it] - ours[it]) for it in theirs.keys() & ours.keys()), default=0.0)
+    wrong = differing(theirs, ours)
     print(
-        f"{name}: {len(theirs)} endpoints in OpenSTA, {len(ours)} in Lizdrog, {len(wrong)} differ; the greatest difference is {worst:.4f} ps"
+        f"{name}: {len(theirs)} endpoints in OpenSTA, {len(ours)} in Lizdrog, {len(wrong)} differ; "
+        f"the greatest difference is {worst:.4f} ps"
     )
     for key in wrong[:SHOWN]:
         print(f"  {' '.join(key)}: OpenSTA {theirs.get(key)}, Lizdrog {ours.get(key)}")
-    return not wrong and bool(shared)
+    return agrees(theirs, ours)
 
 
 def written_again(case: import_designs.Case) -> import_designs.Case:
