@@ -107,21 +107,46 @@ def serve(given: dict, words: list[str]) -> int:
     return status
 
 
+def other_command(words: list[str], is_proved: bool) -> int | None:
+    """The status of a command that scripts answer; none where the program is to answer."""
+    name, rest = (words[0], words[1:]) if words else ("", [])
+    if name == "import":
+        from lizdrog_tools.importing import command
+        return command.called(rest)
+    if name == "install":
+        from lizdrog_tools import install
+        return install.main(rest, is_proved, say)
+    if name == "test":
+        from lizdrog_tools import try_clone
+        return try_clone.main(rest, is_proved, say)
+    return None
+
+
+def project_words(words: list[str]) -> list[str]:
+    """The seven words of a run by a project file."""
+    from lizdrog_tools import run_project
+    return run_project.expanded(words) if run_project.is_project(words) else words
+
+
 def answer(words: list[str]) -> int:
     """The status of a call with these words."""
-    asked = command_line.asked_help(words)
+    asked = None if words[:1] in (["import"], ["corners"], ["report"]) else command_line.asked_help(words)
     if asked is not None:
         from lizdrog_tools import help_text
         return 0 if write_all(help_text.of(asked).encode() + b"\n") else 5
     given, words = command_line.options_of(words)
     if words == [] and given["version"]:
         return 0 if write_all("\n".join([*programs.version(), ""]).encode()) else 5
-    if words and words[0] == "install":
-        from lizdrog_tools import install
-        return install.main(words[1:], given["proved"], say)
-    if words and words[0] == "test":
-        from lizdrog_tools import try_clone
-        return try_clone.main(words[1:], given["proved"], say)
+    status = other_command(words or [], given["proved"])
+    if status is not None:
+        return status
+    if words and words[0] == "run" and any(it.endswith(".toml") for it in words):
+        from lizdrog_tools import files
+        try:
+            words = project_words(words)
+        except (files.InputFault, OSError) as why:
+            say(str(why))
+            return 2 if write_all(b"fault words\n") else 5
     why = "" if words == [] and given["build"] else command_line.misfit(words) if words is not None else "there is no such option"
     if why:
         written = write_all(b"fault words\n")
