@@ -10,6 +10,8 @@ from lizdrog_tools import command_line, programs
 from lizdrog_tools.programs import Stop
 
 NO_PROGRAM = 70
+# Commands that are tools by themselves, each with a --help of its own.
+BESIDE = ("corners",)
 FIRST_BYTES = 65536
 # What the C library does with memory, where nobody has said it. Large pages: the kernel gives them to those that ask (docs/SPEED.md).
 # One arena: where each thread has its own, the others do not use what is freed in it. Of 16 sessions with 40 ECOs each on 7,000 cells,
@@ -109,6 +111,8 @@ def serve(given: dict, words: list[str]) -> int:
 
 def answer(words: list[str]) -> int:
     """The status of a call with these words."""
+    if words and words[0] in BESIDE:
+        os.execv(sys.executable, [sys.executable, f"{programs.TOP}/tools/{words[0]}.py", *words[1:]])
     asked = command_line.asked_help(words)
     if asked is not None:
         from lizdrog_tools import help_text
