@@ -1,4 +1,4 @@
-"""A Slurm of one node on this machine, in a folder of its own: munged, slurmctld and slurmd, started and ended by a test."""
+"""A Slurm of one node on this machine, in a folder of its own, which a test starts and ends."""
 import getpass
 import os
 import pathlib

@@ -1,4 +1,6 @@
 """`corners`: the project file, the jobs and what launches them, the one list of ECOs, and the merged answers."""
+import contextlib
+import io
 import json
 import os
 import pathlib
@@ -8,9 +10,10 @@ import subprocess
 import sys
 import tempfile
 import unittest
+from unittest import mock
 
 import common
-from lizdrog_tools.corners import ecos, merge, project
+from lizdrog_tools.corners import command, ecos, merge, project
 from lizdrog_tools.corners.job import Job, Outcome, State
 from lizdrog_tools.files import InputFault, TextFault
 
@@ -65,9 +68,22 @@ class StandIn(unittest.TestCase):
             text += f'\n[corners.{name}]\nearly = "{name}.lib"\n{more}\n'
         (self.folder / "p.toml").write_text(text)
 
-    def corners(self, *words, **how):
+    def corners(self, *words):
+        """Calls the command in this process; gives its status, its output and its errors."""
         launch = () if "--launch" in words else ("--launch", "sh {job}")
-        return common.tool("corners", "p.toml", "--program", self.program, *launch, *words, cwd=self.folder, **how)
+        called = ["corners", "p.toml", "--program", str(self.program), *launch, *words]
+        out, err = io.StringIO(), io.StringIO()
+        with (
+            mock.patch.object(sys, "argv", called),
+            contextlib.chdir(self.folder),
+            contextlib.redirect_stdout(out),
+            contextlib.redirect_stderr(err),
+        ):
+            try:
+                status = command.main()
+            except SystemExit as ended:
+                status = ended.code
+        return status, out.getvalue(), err.getvalue()
 
     def merged(self, *words, status=0):
         got, out, err = self.corners("--json", "--quiet", *words)
@@ -210,7 +226,8 @@ class Jobs(StandIn):
         for name in ("sh", "cat", "sleep"):
             (tools / name).symlink_to(shutil.which(name))
         self.project(FAULTY)
-        status, out, _ = self.corners("s.eco", "--json", "--quiet", "--launch", "local", env={"PATH": str(tools)})
+        with mock.patch.dict(os.environ, {"PATH": str(tools)}):
+            status, out, _ = self.corners("s.eco", "--json", "--quiet", "--launch", "local")
         self.assertEqual(
             (status, self.states(json.loads(out))),
             (3, [("good", "done", 0), ("bad", "failed", 3), ("slow", "timed out", 124)]),
@@ -227,14 +244,14 @@ class Jobs(StandIn):
 
     def test_a_job_that_is_killed_is_lost(self):
         killer = r"""pid=$$
-while [ "$(tr '\0' ' ' </proc/$pid/cmdline | grep -c -- --job)" = 0 ]; do pid=$(cut -d' ' -f4 /proc/$pid/stat); done
+while [ "$(tr '\0' ' ' </proc/$pid/cmdline | grep -c corners.job)" = 0 ]; do pid=$(cut -d' ' -f4 /proc/$pid/stat); done
 kill -9 $pid
 """
         self.project({"one": (killer, "")})
         self.assertEqual(self.states(self.merged("s.eco", status=3)), [("one", "lost", None)])
 
     def test_only_what_is_missing_runs_again(self):
-        count = "echo x >>runs.{0}\n"
+        count = f"echo x >>{self.folder}/runs.{{0}}\n"
         self.project(
             {"good": (count.format("good") + TWO["slow"][0], ""), "bad": (count.format("bad") + "exit 3\n", "")}
         )

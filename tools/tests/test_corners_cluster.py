@@ -1,4 +1,4 @@
-"""`corners` on a design of 5,000 cells at eight corners, by GNU parallel and by a real Slurm: each answer equals a run by hand."""
+"""`corners` on 5,000 cells at eight corners, by GNU parallel and by a real Slurm: all equal runs by hand."""
 import json
 import pathlib
 import shutil

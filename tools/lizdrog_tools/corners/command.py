@@ -34,9 +34,9 @@ import pathlib
 import sys
 from collections.abc import Iterator
 
-from lizdrog_tools import run_lizdrog
+from lizdrog_tools import programs
 from lizdrog_tools.corners.ecos import EDITS, EcoList, ecos_of, journal_of, script_for
-from lizdrog_tools.corners.job import Job, State, run_job, write_whole
+from lizdrog_tools.corners.job import Job, State, write_whole
 from lizdrog_tools.corners.launch import CannotLaunch, Progress, Round, launch
 from lizdrog_tools.corners.merge import Merged, data_of, read_corner, text_of
 from lizdrog_tools.corners.project import Corner, Project, read_project
@@ -234,8 +234,8 @@ def program_of(given: pathlib.Path | None) -> pathlib.Path:
             raise Refused(f"--program {given}: this is no program")
         return given.absolute()
     try:
-        return run_lizdrog.choose(False, False)[0]
-    except run_lizdrog.Stop as why:
+        return pathlib.Path(programs.choose(False, False, lambda line: print(f"lizdrog: {line}", file=sys.stderr)))
+    except programs.Stop as why:
         raise Refused(str(why)) from why
 
 
@@ -318,8 +318,6 @@ def serve(given: argparse.Namespace) -> int:
 @tool("corners")
 def main() -> int:
     """The command."""
-    if sys.argv[1:2] == ["--job"] and len(sys.argv) == 3:
-        return run_job(pathlib.Path(sys.argv[2]))
     try:
         return serve(parser_of_words().parse_intermixed_args())
     except (Refused, CannotLaunch) as why:

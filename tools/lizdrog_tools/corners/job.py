@@ -17,7 +17,6 @@ import subprocess
 import sys
 import time
 
-from lizdrog_tools.explain_fault import explain
 from lizdrog_tools.places import TOOLS
 from lizdrog_tools.run_lizdrog import FIRST_BYTES, surroundings
 
@@ -102,13 +101,20 @@ class Job:
             "fingerprint": fingerprint,
         }
         write_whole(self.folder / "job.json", json.dumps(told, indent=1))
-        launched = [sys.executable, os.fspath(TOOLS / "corners.py"), "--job", os.fspath(self.folder)]
-        write_whole(self.launched_file, f"#!/bin/sh\nexec {shlex.join(launched)}\n")
+        launched = shlex.join([sys.executable, "-m", "lizdrog_tools.corners.job", os.fspath(self.folder)])
+        write_whole(self.launched_file, f"#!/bin/sh\ncd {shlex.quote(os.fspath(TOOLS))} && exec {launched}\n")
         self.launched_file.chmod(0o755)
 
     def fingerprint(self) -> str:
         """What the job was made of."""
         return read_json(self.folder / "job.json").get("fingerprint", "")
+
+    def scripts(self) -> int:
+        """How many scripts the job runs."""
+        return sum(
+            it.startswith(os.fspath(self.folder)) and it.endswith(".eco")
+            for it in read_json(self.folder / "job.json").get("words", [])
+        )
 
     def outcome(self) -> Outcome:
         """What became of the job, as far as is known."""
@@ -170,6 +176,7 @@ def run_program(told: dict, output: pathlib.Path, log: pathlib.Path) -> tuple[St
         try:
             child = subprocess.Popen(
                 [told["program"], *told["words"]],
+                cwd=output.parent,
                 stdin=subprocess.DEVNULL,
                 stdout=out,
                 stderr=errors,
@@ -192,6 +199,8 @@ def run_program(told: dict, output: pathlib.Path, log: pathlib.Path) -> tuple[St
 
 def explain_failure(status: int, output: pathlib.Path, log: pathlib.Path, words: list[str]) -> None:
     """Writes into the log why the program refused its documents: where, and what is usually wrong there."""
+    from lizdrog_tools.explain_fault import explain
+
     with open(output, "rb") as file:
         first = file.read(FIRST_BYTES).decode("latin-1")
     lines = explain(status, first, words) or [
@@ -226,3 +235,7 @@ def run_job(folder: pathlib.Path) -> int:
         Outcome(state, status, round(time.monotonic() - begin, 3), round(used.ru_utime + used.ru_stime, 3), host),
     )
     return 0 if state is State.DONE else (status if 0 < status < 256 else 1)
+
+
+if __name__ == "__main__":
+    sys.exit(run_job(pathlib.Path(sys.argv[1])))

@@ -6,13 +6,14 @@ import dataclasses
 from collections.abc import Iterator
 
 from lizdrog_tools.corners.job import Job, Outcome, State
-from lizdrog_tools.files import InputFault, read_text
+from lizdrog_tools.files import InputFault
 from lizdrog_tools.read_answers import (
     Command,
     Output,
     Row,
     answer_text,
     may_answer,
+    read_output,
     read_script,
     row_value,
     thousandths,
@@ -59,23 +60,28 @@ class CornerAnswers:
         return int(self.output.final[0])
 
 
+def answers_of(script: str, rows: list[Row], session: int) -> list[Answer] | None:
+    """The commands of a script with their rows, or none where these rows do not answer it."""
+    commands = read_script(script)
+    if len(commands) != len(rows) or not all(may_answer(it.words, row) for it, row in zip(commands, rows)):
+        return None
+    return [Answer(session, command, row) for command, row in zip(commands, rows)]
+
+
 def read_corner(job: Job, scripts: list[str]) -> CornerAnswers:
     """The answers of a job to its scripts, or none where it has not answered."""
     outcome = job.outcome()
     if outcome.state is not State.DONE:
         return CornerAnswers(job, outcome, [], None)
-    try:
-        output = Output(read_text(job.output))
-    except (ValueError, IndexError) as why:
-        raise InputFault(job.output, None, f"this is no output of a run: {why}") from why
+    output = read_output(job.output)
     if output.final is None or len(output.sessions) != len(scripts):
         raise InputFault(job.output, None, "this is no whole output of a run")
     answers = []
     for session, (text, rows) in enumerate(zip(scripts, output.sessions), 1):
-        commands = read_script(text)
-        if len(commands) != len(rows) or not all(may_answer(it.words, row) for it, row in zip(commands, rows)):
+        found = answers_of(text, rows, session)
+        if found is None:
             raise InputFault(job.output, None, f"the rows of session {session} do not answer its script")
-        answers += [Answer(session, command, row) for command, row in zip(commands, rows)]
+        answers += found
     return CornerAnswers(job, outcome, answers, output)
 
 

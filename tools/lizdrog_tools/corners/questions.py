@@ -3,10 +3,9 @@ from collections.abc import Callable, Iterator
 
 from lizdrog_tools.corners.merge import KINDS, Merged
 from lizdrog_tools.corners.project import Corner, Project
-from lizdrog_tools.files import read_text
-from lizdrog_tools.liberty import Library
+from lizdrog_tools.liberty import read_library
 from lizdrog_tools.read_answers import Edited
-from lizdrog_tools.verilog import Joined, Netlist
+from lizdrog_tools.verilog import Joined, read_netlist
 
 MOST_COMMANDS = 10_000
 SPLIT_OF_DATA = {"setup": "late", "hold": "early"}
@@ -15,7 +14,7 @@ SPLIT_OF_CLOCK = {"setup": "early", "hold": "late"}
 
 def joined_design(corner: Corner, ecos: list[list[str]]) -> Joined:
     """The netlist of a corner with all ECOs, and its late cells."""
-    edited = Edited(Netlist(read_text(corner.netlist)), Library(read_text(corner.late)), ecos)
+    edited = Edited(read_netlist(corner.netlist), read_library(corner.late), ecos)
     return edited.at(len(ecos))
 
 
