@@ -338,10 +338,7 @@ class Project(StandIn):
         self.project(
             {
                 "one": ("", ""),
-                "two": (
-                    "",
-                    'sdc = "s.eco"\nspef = "top.sdc"\nworkers = 4\ntimeout = 1.5\nlate.libraries = ["one.lib"]',
-                ),
+                "two": ("", 'sdc = "s.eco"\nspef = "top.sdc"\nworkers = 4\ntimeout = 1.5\nlate = ["one.lib"]'),
             },
             "workers = 2\ntimeout = 9",
         )
@@ -349,6 +346,15 @@ class Project(StandIn):
         self.assertEqual([it.name for it in one.documents()], ["one.lib", "late.lib", "top.v", "top.sdc"])
         self.assertEqual([it.name for it in two.documents()], ["two.lib", "one.lib", "top.v", "s.eco", "top.sdc"])
         self.assertEqual((one.words()[4:], two.workers, one.timeout, two.timeout), (["none", "2"], 4, 9.0, 1.5))
+
+    def test_the_file_is_that_of_other_commands(self):
+        """`library` is both, no `spef` is none, a list of one is that one, and keys of `import` are passed over."""
+        text = 'top = "t"\naccept = []\nnetlist = ["top.v"]\nsdc = ["top.sdc"]\nlibrary = "late.lib"\n[corners.a]\n'
+        (self.folder / "p.toml").write_text(text + 'early = "s.eco"\n[corners.b]\nlibrary = ["top.v"]\n')
+        a, b = project.read_project(self.folder / "p.toml").corners
+        self.assertEqual([it.name for it in a.documents()], ["s.eco", "late.lib", "top.v", "top.sdc"])
+        self.assertEqual([it.name for it in b.documents()], ["top.v", "top.v", "top.v", "top.sdc"])
+        self.assertEqual(a.words()[4:], ["none", "1"])
 
     def test_without_corners_it_is_one(self):
         (self.folder / "p.toml").write_text(PROJECT.format(shared='early = "late.lib"'))
@@ -358,7 +364,8 @@ class Project(StandIn):
         whole = PROJECT.format(shared='early = "late.lib"')
         for text, said in (
             (whole.replace('sdc = "top.sdc"\n', ""), "sdc: the key is missing"),
-            (whole.replace('spef = "none"\n', ""), "spef: the key is missing (the word"),
+            (whole + 'library = "late.lib"', "library: this is both early and late"),
+            (whole.replace('ecos = "ecos.list"', 'journal = "saved"'), "journal: corners write the journal of each"),
             (whole + "workers = 33", "workers: a number from 1 to 32"),
             (whole + "workers = true", "workers: a number from 1 to 32"),
             (whole + "timeout = -1", "timeout: a number of seconds"),
@@ -369,7 +376,7 @@ class Project(StandIn):
             (whole + "[corners.a]\nsdc = 3", "corners.a.sdc: the name of a file"),
             (
                 whole + '[corners.a]\nlate = ["late.lib", "late.lib"]',
-                "corners.a.late: a run reads one library, and here are 2",
+                "corners.a.late: a run reads one file here, and these are 2",
             ),
             (whole + '[corners.a]\nsdc = "no.sdc"', "corner a: there is no file"),
             (whole + "[corners.all]", "corners.all: this name"),

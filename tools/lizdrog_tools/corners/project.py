@@ -1,17 +1,16 @@
-"""Reads the project of several corners: a TOML file with what all corners share, and a table for each corner.
+"""Reads the project of several corners: the TOML file of a design, with a table for each corner.
 
     netlist = "top.v"
     sdc = "functional.sdc"
     ecos = "ecos.list"
 
     [corners.slow]
-    early.libraries = ["slow.lib"]
-    late.libraries = ["slow.lib"]
+    library = "slow.lib"
     spef = "cmax.spef"
 
     [corners.fast]
-    early.libraries = ["fast.lib"]
-    late.libraries = ["fast.lib"]
+    early = "fast.lib"
+    late = "typical.lib"
 
 A corner's table overrides what stands above it. A project without the table `corners` has one corner, with the name of
 the file. Names of files count from the folder of the project.
@@ -29,9 +28,12 @@ MOST_WORKERS = 32
 ALL = "all"
 CORNER_NAME = re.compile(r"[A-Za-z0-9_][A-Za-z0-9_.-]{0,63}")
 LIBRARIES = ("early", "late")
-DOCUMENTS = (*LIBRARIES, "netlist", "sdc", "spef")
-OF_A_CORNER = (*LIBRARIES, "sdc", "spef", "workers", "timeout")
-OF_A_PROJECT = (*OF_A_CORNER, "netlist", "top", "ecos", "results", "slurm", "corners")
+DOCUMENTS = (*LIBRARIES, "netlist", "sdc")
+NO_SPEF = "none"
+OF_A_CORNER = ("library", *LIBRARIES, "sdc", "spef", "workers", "timeout")
+# Keys of the same file for other commands, which corners do without.
+OF_OTHERS = ("top", "accept", "keep", "prefer", "output", "journal")
+OF_A_PROJECT = (*OF_A_CORNER, "netlist", "ecos", "results", "slurm", "corners")
 
 
 @dataclasses.dataclass(frozen=True)
@@ -98,21 +100,15 @@ class Reader:
                 raise self.fault(f"{place}{key}", f"there is no such key; those here are {', '.join(known)}")
 
     def path(self, key: str, value: object) -> pathlib.Path:
-        """The file that a value names."""
+        """The one file that a value names, by itself or as a list of one."""
+        if isinstance(value, list) and len(value) != 1:
+            raise self.fault(
+                key, f"a run reads one file here, and these are {len(value)}: `lizdrog import` makes one of them"
+            )
+        value = value[0] if isinstance(value, list) else value
         if not isinstance(value, str) or not value:
             raise self.fault(key, "the name of a file is asked for here")
         return self.folder / value
-
-    def library(self, key: str, value: object) -> pathlib.Path:
-        """The one library of a side, by its name or by the table `libraries = [..]`."""
-        if isinstance(value, dict):
-            self.check_keys(f"{key}.", value, ("libraries",))
-            value = value.get("libraries")
-        if isinstance(value, list):
-            if len(value) != 1:
-                raise self.fault(key, f"a run reads one library, and here are {len(value)}: merge them into one first")
-            value = value[0]
-        return self.path(key, value)
 
     def workers(self, key: str, value: object) -> int:
         """The number of threads of a run."""
@@ -130,28 +126,19 @@ class Reader:
 
     def corner(self, name: str, place: str, shared: dict, own: dict) -> Corner:
         """One corner: what is shared, with what the corner's own table overrides."""
+        tables = [with_both(self, "", shared), with_both(self, place, own)]
+        merged = {"spef": NO_SPEF, "workers": 1, "timeout": None, **tables[0], **tables[1]}
 
         def key(word: str) -> str:
-            return f"{place}{word}" if word in own else word
+            return f"{place}{word}" if word in tables[1] else word
 
-        merged = {**shared, **own}
         for word in DOCUMENTS:
             if word not in merged:
-                raise self.fault(
-                    f"{place}{word}",
-                    "the key is missing" + (' (the word "none" is for no parasitics)' if word == "spef" else ""),
-                )
-        early, late = (self.library(key(it), merged[it]) for it in LIBRARIES)
-        return Corner(
-            name,
-            early,
-            late,
-            self.path("netlist", merged["netlist"]),
-            self.path(key("sdc"), merged["sdc"]),
-            None if merged["spef"] == "none" else self.path(key("spef"), merged["spef"]),
-            self.workers(key("workers"), merged.get("workers", 1)),
-            self.seconds(key("timeout"), merged.get("timeout")),
-        )
+                raise self.fault(f"{place}{word}", "the key is missing")
+        early, late, netlist, sdc = (self.path(key(it), merged[it]) for it in DOCUMENTS)
+        spef = None if merged["spef"] == NO_SPEF else self.path(key("spef"), merged["spef"])
+        workers = self.workers(key("workers"), merged["workers"])
+        return Corner(name, early, late, netlist, sdc, spef, workers, self.seconds(key("timeout"), merged["timeout"]))
 
     def corners(self, tables: dict) -> tuple[Corner, ...]:
         """The corners in the order of the file; a project without the table is one corner by itself."""
@@ -185,12 +172,27 @@ class Reader:
         return tuple(options)
 
 
+def with_both(reader: Reader, place: str, table: dict) -> dict:
+    """A table with its `library` in the place of both `early` and `late`."""
+    if "library" not in table:
+        return table
+    if "early" in table or "late" in table:
+        raise reader.fault(f"{place}library", "this is both early and late: write either library, or early and late")
+    return {**table, "early": table["library"], "late": table["library"]}
+
+
 def read_project(name: str | os.PathLike) -> Project:
     """The project of a file, or an `InputFault` that names the key."""
     file = pathlib.Path(name)
     reader = Reader(file)
     tables = reader.tables()
-    reader.check_keys("", tables, OF_A_PROJECT)
+    reader.check_keys("", tables, (*OF_A_PROJECT, *OF_OTHERS))
+    if "journal" in tables and "ecos" not in tables:
+        raise reader.fault(
+            "journal",
+            "corners write the journal of each from one list of ECOs, the key ecos: "
+            "tools/convert_journal.py JOURNAL makes that list",
+        )
     ecos = reader.path("ecos", tables["ecos"]) if "ecos" in tables else None
     results = reader.path("results", tables.get("results", f"{file.stem}.results"))
     project = Project(file, reader.corners(tables), ecos, results, reader.slurm_options(tables.get("slurm", {})))
