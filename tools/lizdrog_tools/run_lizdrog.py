@@ -11,7 +11,7 @@ from lizdrog_tools.programs import Stop
 
 NO_PROGRAM = 70
 # Commands that are tools by themselves, each with a --help of its own.
-BESIDE = ("corners", "report")
+BESIDE = ("corners", "report", "summary")
 FIRST_BYTES = 65536
 # What the C library does with memory, where nobody has said it. Large pages: the kernel gives them to those that ask (docs/SPEED.md).
 # One arena: where each thread has its own, the others do not use what is freed in it. Of 16 sessions with 40 ECOs each on 7,000 cells,

@@ -23,117 +23,25 @@ Status: 0 all corners have answered, 1 some row is refused, no or not_yet, 2 wro
 3 some corner failed, timed out or was lost: its line names the log, and the same call again runs what is missing.
 """
 import argparse
-import contextlib
-import dataclasses
 import datetime
-import fcntl
-import hashlib
 import json
 import os
-import pathlib
 import sys
 from collections.abc import Iterator
 
-from lizdrog_tools import programs
-from lizdrog_tools.corners.ecos import EDITS, EcoList, ecos_of, journal_of, script_for
-from lizdrog_tools.corners.job import Job, State, write_whole
-from lizdrog_tools.corners.launch import CannotLaunch, Progress, Round, launch
-from lizdrog_tools.corners.merge import Merged, data_of, read_corner, text_of
-from lizdrog_tools.corners.project import Corner, Project, read_project
+from lizdrog_tools.corners.ecos import EDITS
+from lizdrog_tools.corners.launch import CannotLaunch
+from lizdrog_tools.corners.merge import Merged, data_of, text_of
 from lizdrog_tools.corners.questions import endpoint_scripts, path_scripts
+from lizdrog_tools.corners.rounds import Corners, Refused, alone
+from lizdrog_tools.corners.words import add_common_words, at_least_one, options_of, project_of
 from lizdrog_tools.explain_fault import sentence
-from lizdrog_tools.files import InputFault, TextFault, read_text, tool
+from lizdrog_tools.files import read_text, tool
 from lizdrog_tools.read_answers import read_script
 
 MOST_SESSIONS = 16
 SHOWN = 20
 DONE, BAD_INPUT, MISSING = 0, 2, 3
-
-
-class Refused(Exception):
-    """Says why nothing is run."""
-
-
-@dataclasses.dataclass(frozen=True)
-class Options:
-    """What the words of the command ask for beside the project and its scripts."""
-
-    launch: str
-    jobs: int
-    timeout: float | None
-    again: bool
-    quiet: bool
-    program: pathlib.Path
-
-
-def kept_mark(file: pathlib.Path) -> list:
-    """What tells a file from another one of its name: its size and its time."""
-    found = file.stat()
-    return [os.fspath(file), found.st_size, found.st_mtime_ns]
-
-
-class Corners:
-    """The corners of a project, their list of ECOs, and the folder of their results."""
-
-    def __init__(self, project: Project, options: Options):
-        self.project, self.options = project, options
-        self.ecos = EcoList.read(project.ecos)
-        self.names = project.names()
-
-    def ecos_of(self, corner: Corner) -> list[list[str]]:
-        """The ECOs of the list for a corner."""
-        return ecos_of(self.ecos.commands(corner.name, self.names))
-
-    def prepare(self, folder: pathlib.Path, corner: Corner, scripts: list[str]) -> Job:
-        """The job of a corner; it is new where anything of it has changed or where it has not answered yet."""
-        job = Job(corner.name, folder / corner.name)
-        job.folder.mkdir(parents=True, exist_ok=True)
-        journal = journal_of(self.ecos_of(corner), read_text(corner.sdc, may_be_empty=True))
-        files = [job.folder / f"script{number}.eco" for number in range(1, len(scripts) + 1)]
-        journal_file = job.folder / "journal"
-        words = ["run", "--journal", os.fspath(journal_file), *corner.words(), *map(os.fspath, files)]
-        marks = [kept_mark(it) for it in (*corner.documents(), self.options.program)]
-        fingerprint = hashlib.sha256(json.dumps([words, marks, journal, scripts]).encode()).hexdigest()
-        if (
-            self.options.again
-            or job.fingerprint() != fingerprint
-            or job.outcome().state not in (State.DONE, State.RUNNING)
-        ):
-            for file, text in zip((journal_file, *files), (journal, *scripts)):
-                write_whole(file, text)
-            timeout = corner.timeout if corner.timeout is not None else self.options.timeout
-            job.prepare(self.options.program, words, timeout, fingerprint)
-        return job
-
-    def run(self, name: str, scripts: dict[str, list[str]]) -> Merged:
-        """Runs the scripts of each corner and merges the answers; corners without scripts are left out."""
-        folder = self.project.results.absolute() / name
-        corners = [it for it in self.project.corners if scripts.get(it.name)]
-        jobs = [self.prepare(folder, it, scripts[it.name]) for it in corners]
-        missing = [it for it in jobs if it.outcome().state is not State.DONE]
-        if missing:
-            limits = [it.timeout if it.timeout is not None else self.options.timeout for it in corners]
-            longest = None if None in limits else max(limits)
-            round_ = Round(folder, missing, self.options.jobs, max(it.workers for it in corners), longest)
-            launch(
-                round_,
-                self.options.launch,
-                self.project.slurm_options,
-                Progress(f"corners, {name}", self.options.quiet),
-            )
-        return Merged([read_corner(job, scripts[job.corner]) for job in jobs])
-
-    def scripts_of(self, texts: list[tuple[str, str]]) -> dict[str, list[str]]:
-        """The scripts of each corner, from the files that were given."""
-        found = {}
-        for corner in self.names:
-            found[corner] = []
-            for file, text in texts:
-                try:
-                    found[corner].append(script_for(text, corner, self.names))
-                except TextFault as why:
-                    raise InputFault(file, why.line, why.message) from why
-        return found
 
 
 # ------------------------------------------------------------------------------------------------ questions and ECOs
@@ -215,46 +123,6 @@ def commit(corners: Corners, file: str, text: str) -> tuple[Merged, int]:
 # ------------------------------------------------------------------------------------------------ the command
 
 
-@contextlib.contextmanager
-def alone(folder: pathlib.Path) -> Iterator[None]:
-    """Keeps other calls off a folder of results."""
-    folder.mkdir(parents=True, exist_ok=True)
-    with open(folder / "lock", "w", encoding="ascii") as lock:
-        try:
-            fcntl.flock(lock, fcntl.LOCK_EX | fcntl.LOCK_NB)
-        except OSError as why:
-            raise Refused(f"another call works in {folder}: wait for it, or give another folder by --results") from why
-        yield
-
-
-def program_of(given: pathlib.Path | None) -> pathlib.Path:
-    """The program that all corners run: the one that is given, or that of this clone."""
-    if given is not None:
-        if not (given.is_file() and os.access(given, os.X_OK)):
-            raise Refused(f"--program {given}: this is no program")
-        return given.absolute()
-    try:
-        return pathlib.Path(programs.choose(False, False, lambda line: print(f"lizdrog: {line}", file=sys.stderr)))
-    except programs.Stop as why:
-        raise Refused(str(why)) from why
-
-
-def at_least_one(text: str) -> int:
-    """A number of the command line, from 1."""
-    value = int(text)
-    if value < 1:
-        raise argparse.ArgumentTypeError("a number from 1 is asked for")
-    return value
-
-
-def above_zero(text: str) -> float:
-    """A number of seconds."""
-    value = float(text)
-    if not value > 0:
-        raise argparse.ArgumentTypeError("a number of seconds above 0 is asked for")
-    return value
-
-
 def parser_of_words() -> argparse.ArgumentParser:
     """The words of the command."""
     parser = argparse.ArgumentParser(
@@ -266,17 +134,10 @@ def parser_of_words() -> argparse.ArgumentParser:
     )
     parser.add_argument("project", metavar="FILE.toml", help=argparse.SUPPRESS)
     parser.add_argument("scripts", metavar="SCRIPT", nargs="*", help=argparse.SUPPRESS)
-    for name, how in (
-        ("--launch", {"default": "local"}),
-        ("--jobs", {"type": at_least_one}),
-        ("--timeout", {"type": above_zero}),
-        ("--paths", {"type": at_least_one, "default": 0}),
-        ("--results", {"type": pathlib.Path}),
-        ("--program", {"type": pathlib.Path}),
-    ):
-        parser.add_argument(name, help=argparse.SUPPRESS, **how)
-    for name in ("--endpoints", "--commit", "--again", "--all", "--json", "--quiet"):
+    parser.add_argument("--paths", type=at_least_one, default=0, help=argparse.SUPPRESS)
+    for name in ("--endpoints", "--commit", "--all"):
         parser.add_argument(name, action="store_true", help=argparse.SUPPRESS)
+    add_common_words(parser)
     return parser
 
 
@@ -293,15 +154,10 @@ def check_words(given: argparse.Namespace) -> None:
 def serve(given: argparse.Namespace) -> int:
     """Does what the words ask for; gives the status."""
     check_words(given)
-    project = read_project(given.project)
-    if given.results:
-        project = dataclasses.replace(project, results=given.results)
+    project = project_of(given)
     texts = [(name, read_text(name, may_be_empty=True)) for name in given.scripts]
-    workers = max(it.workers for it in project.corners)
-    jobs = given.jobs or max(1, (os.cpu_count() or 1) // workers)
     with alone(project.results):
-        options = Options(given.launch, jobs, given.timeout, given.again, given.quiet, program_of(given.program))
-        corners = Corners(project, options)
+        corners = Corners(project, options_of(given, project))
         if given.commit:
             merged, status = commit(corners, *texts[0])
         else:

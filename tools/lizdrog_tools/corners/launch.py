@@ -141,8 +141,8 @@ def by_pool(round_: Round, progress: Progress) -> None:
 
 
 def locally(round_: Round, progress: Progress) -> None:
-    """Runs the jobs on this machine."""
-    (by_parallel if shutil.which("parallel") else by_pool)(round_, progress)
+    """Runs the jobs on this machine; one by itself needs nothing to run it beside others."""
+    (by_parallel if len(round_.jobs) > 1 and shutil.which("parallel") else by_pool)(round_, progress)
 
 
 # ------------------------------------------------------------------------------------------------ by a command

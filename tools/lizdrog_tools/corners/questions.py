@@ -18,9 +18,14 @@ def joined_design(corner: Corner, ecos: list[list[str]]) -> Joined:
     return edited.at(len(ecos))
 
 
+def endpoint_lines(joined: Joined) -> list[str]:
+    """The questions for the slack of every endpoint."""
+    return [f"report_endpoint {pin} {kind}" for pin in joined.endpoints() for kind in KINDS]
+
+
 def endpoint_scripts(corner: Corner, ecos: list[list[str]]) -> list[str]:
     """Scripts that together ask the slack of every endpoint, each as long as a script may be."""
-    lines = [f"report_endpoint {pin} {kind}" for pin in joined_design(corner, ecos).endpoints() for kind in KINDS]
+    lines = endpoint_lines(joined_design(corner, ecos))
     return ["\n".join(lines[at : at + MOST_COMMANDS]) + "\n" for at in range(0, len(lines), MOST_COMMANDS)] or [""]
 
 
