@@ -10,6 +10,8 @@ from lizdrog_tools import command_line, programs
 from lizdrog_tools.programs import Stop
 
 NO_PROGRAM = 70
+# Commands that are tools by themselves, each with a --help of its own.
+BESIDE = {"corners": "corners.py", "import": "import_design.py", "report": "report.py", "summary": "summary.py"}
 FIRST_BYTES = 65536
 # What the C library does with memory, where nobody has said it. Large pages: the kernel gives them to those that ask (docs/SPEED.md).
 # One arena: where each thread has its own, the others do not use what is freed in it. Of 16 sessions with 40 ECOs each on 7,000 cells,
@@ -110,9 +112,6 @@ def serve(given: dict, words: list[str]) -> int:
 def other_command(words: list[str], is_proved: bool) -> int | None:
     """The status of a command that scripts answer; none where the program is to answer."""
     name, rest = (words[0], words[1:]) if words else ("", [])
-    if name == "import":
-        from lizdrog_tools.importing import command
-        return command.called(rest)
     if name == "install":
         from lizdrog_tools import install
         return install.main(rest, is_proved, say)
@@ -130,7 +129,9 @@ def project_words(words: list[str]) -> list[str]:
 
 def answer(words: list[str]) -> int:
     """The status of a call with these words."""
-    asked = None if words[:1] in (["import"], ["corners"], ["report"]) else command_line.asked_help(words)
+    if words and words[0] in BESIDE:
+        os.execv(sys.executable, [sys.executable, f"{programs.TOP}/tools/{BESIDE[words[0]]}", *words[1:]])
+    asked = command_line.asked_help(words)
     if asked is not None:
         from lizdrog_tools import help_text
         return 0 if write_all(help_text.of(asked).encode() + b"\n") else 5
