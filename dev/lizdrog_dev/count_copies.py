@@ -1,7 +1,7 @@
 """Lists functions that stand to the letter in two or more crates: count_copies.py
 
 Contracts, comments and attributes are not compared, nor the layout; crates of tests and functions of one line are left out. A line for each says how many lines
-one copy would save, the function and the crates; the last line sums up. The status is always 0: docs/DECISIONS.md says which copies stand, and why."""
+one copy would save, the function and the crates; the last line sums up. The status is always 0: docs/PROVING.md says why they stay."""
 import argparse
 import collections
 import re

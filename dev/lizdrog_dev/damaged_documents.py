@@ -9,7 +9,7 @@ is one to three changes of
   tokens   one goes, comes twice, changes places, becomes another of the document, a number out of range, a word of another language,
            brackets and quotes; a word of thousands of bytes; brackets of up to 200,000 levels
   texts    it is empty, stands twice, or is that of another role
-Each answer has to have a documented status, and to be of the form that README.md, docs/SCRIPTS.md and docs/FAULTS.md give, with a place
+Each answer has to have a documented status, and to be of the form that docs/COMMANDS.md, docs/SCRIPTS.md and docs/FAULTS.md give, with a place
 inside the text, and to come within T seconds (default: 60). Where bench/reference_timer.py reads the documents, and these are a design, it has
 to give the same output, or the same fault of the script (of a refusal for one of several loops or overflows the code alone). It prints how
 many were tried and what came; at the first answer that deviates it keeps the documents and the output in DIR (default: damaged-S-NUMBER of

@@ -32,22 +32,21 @@ def crates():
     return uses
 
 
-def by_chain(names, uses):
-    """The crates in the order of the lines of sources that wait for each, most first: who ends the longest chain begins first."""
+def chains(names, uses):
+    """The lines of sources of each crate, and of the longest chain of crates that begins with it."""
     lines = {it: sum(f.read_bytes().count(b"\n") for f in (TOP / "crates" / it).rglob("*.*t") if f.is_file()) for it in names}
-    behind = {}
+    chain = {}
     for name in reversed([it for it in uses if it in lines]):
-        above = [behind[it] for it in behind if name in uses[it]]
-        behind[name] = lines[name] + max(above, default=0)
-    return sorted(names, key=lambda it: -behind[it])
+        chain[name] = lines[name] + max((chain[it] for it in chain if name in uses[it]), default=0)
+    return lines, chain
 
 
-def begin(name, folder, is_alone):
-    """Starts the run of a crate in a copy of its own: at one job, which is cheapest, or at as many as rt chooses where processors are idle."""
+def begin(name, folder, is_urgent):
+    """Starts the run of a crate in a copy of its own: at one job, which is cheapest, or at as many as rt chooses where all others wait for it."""
     copy = folder / name
     shutil.copytree(TOP, copy, ignore=shutil.ignore_patterns(".git", "out", "must-fail"))
     with open(folder / f"{name}.log", "w", encoding="utf-8") as log:
-        jobs = {} if is_alone else {"RT_JOBS": "1"}
+        jobs = {} if is_urgent else {"RT_JOBS": "1"}
         return subprocess.Popen(["rt", "ci", name], cwd=copy, env={**os.environ, **jobs}, stdout=log, stderr=subprocess.STDOUT)
 
 
@@ -61,7 +60,8 @@ def keep_log(name, log):
 def prove(names, lanes, folder):
     """Runs all crates in their order; gives those that were not proved, with those that wait for them."""
     uses, running, failed = crates(), {}, []
-    left = by_chain(names, uses)
+    lines, chain = chains(names, uses)
+    left = sorted(names, key=lambda it: -chain[it])
     while left or running:
         for name in [it for it, run in running.items() if run.poll() is not None]:
             status = running.pop(name).returncode
@@ -72,10 +72,10 @@ def prove(names, lanes, folder):
             left.remove(name)
             failed.append(name)
         ready = [it for it in left if not set(uses[it]) & {*left, *running}]
-        is_alone = 2 * (len(ready) + len(running)) <= lanes
+        share = sum(lines[it] for it in [*left, *running]) / lanes
         for name in ready[:lanes - len(running)]:
             left.remove(name)
-            running[name] = begin(name, folder, is_alone)
+            running[name] = begin(name, folder, chain[name] > share)
             print(time.strftime("%H:%M:%S"), name, "begins", flush=True)
         time.sleep(1)
     return failed

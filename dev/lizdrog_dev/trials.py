@@ -1,6 +1,6 @@
 """What the hostile trials share: designs, runs of a program with limits, whether an answer is of the documented form, and a table.
 
-The form is that of README.md (statuses), docs/SCRIPTS.md (the output) and docs/FAULTS.md (codes and places). Nothing here looks at what
+The form is that of docs/COMMANDS.md (statuses), docs/SCRIPTS.md (the output) and docs/FAULTS.md (codes and places). Nothing here looks at what
 the program does to learn what it should do.
 """
 import dataclasses
@@ -90,7 +90,7 @@ def find_program(given):
     for it in [pathlib.Path(given)] if given else PROGRAMS:
         if it.is_file() and os.access(it, os.X_OK):
             return it.resolve()
-    sys.exit("no program stands here: the gate builds it, and dev/quick_build.py builds one without proof")
+    sys.exit("there is no program: the gate builds it, and dev/quick_build.py builds one without proof")
 
 
 def run(program, words, folder, seconds=60, env=None, limits=(), before=None, **how):

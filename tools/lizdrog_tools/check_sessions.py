@@ -90,7 +90,7 @@ class Sessions:
         last, made = None, []
         for command, row in zip(commands, rows):
             if last is not None and row.design < last or not self.output.first <= row.design <= self.newest:
-                self.say(session, row, f"the design {row.design} behind {last}, of {self.newest}")
+                self.say(session, row, f"the design {row.design} after {last}, of {self.newest}")
             self.look_at_row(session, command, row, last)
             if row.sort == "accepted":
                 made.append(row.design)

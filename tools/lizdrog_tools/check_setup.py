@@ -1,8 +1,8 @@
-"""Looks over the documents of a design for what is accepted and yet hardly meant: check_setup.py EARLY LATE NETLIST SDC SPEF [options]
+"""Looks over the documents of a design for what is accepted but probably not meant: check_setup.py EARLY LATE NETLIST SDC SPEF [options]
 
 It lists, each with a count and some names: commands of the SDC that are not read, all in one run; clocks without registers; registers
 without a clock; inputs without a delay; endpoints without a test; undriven nets and open inputs; nets without parasitics, and parasitics
-that do not fit their net; arcs whose early delay exceeds the late one; derates that are crossed; exceptions that match nothing; options that stand twice; timing
+that do not fit their net; arcs whose early delay exceeds the late one; derates that are crossed; exceptions that match nothing; options that come twice; timing
 types that are passed over; sections of the SPEF that are. Exit status 1 where it finds something, 0 where it does not, 2 where a file cannot
 be read; lines that begin with `note` are no findings.
 
@@ -336,7 +336,7 @@ def check_parasitics(findings, joined, name):
     findings.add("nets without parasitics", bare)
     findings.add("nets of the SPEF that the netlist lacks (E2)", sorted(it for it in spef.nets if it not in joined.nets))
     findings.add("nets whose parasitics do not fit (E14, E15)", sorted(filter(None, (misfit(joined, it) for it in spef.nets.values()))))
-    odd = [f"{name}:{line_and_column(spef.text, offset)[0]}: {word} behind {section}" for word, offset, section in spef.odd_words]
+    odd = [f"{name}:{line_and_column(spef.text, offset)[0]}: {word} after {section}" for word, offset, section in spef.odd_words]
     findings.add("words of the SPEF that begin with * and fit no section (P1)", odd)
     findings.add("sections of the SPEF that are passed over", [f"{section}, {count} words" for section, count in spef.passed_over.items()], True)
 
@@ -457,7 +457,7 @@ def check_repeated(findings, commands, text, file):
         words = [it.text for it in command.words]
         found += [f"{file}:{line_and_column(text, command.offset)[0]}: {command.name} {it}"
                   for it in VALUED if command.name in READ and words.count(it) > 1]
-    findings.add("options that stand twice in a command, of which the last counts", found)
+    findings.add("options that come twice in a command, of which the last counts", found)
 
 
 def check_exceptions(findings, joined, constraints, network, text, file):

@@ -107,7 +107,7 @@ def hints(role, code, place, text, line):
         return ["  the file is UTF-16, which is not read: iconv -f UTF-16 -t ASCII FILE"]
     for pattern, kind, roles in KINDS:
         if re.match(pattern, COMMENTS.sub("", text[:100000])) and role.rstrip("0123456789") not in roles:
-            return [f"  the file looks like {kind}, and stands in the place of {role}: the order is run {ORDER}"]
+            return [f"  the file looks like {kind}, and is in the place of {role}: the order is run {ORDER}"]
     if role.startswith("script"):
         return [f"  {it}" for it in script_hints(code, line, text.split("\n")[:place - 1])]
     if role == "sdc":
@@ -119,7 +119,7 @@ def hints(role, code, place, text, line):
     if code == "L1" and place >= len(text):
         return [f"  {it}" for it in bracket_hints(text)]
     if code == "L2" and has_ended(text[:place]):
-        return ["  the library's own group ends before this place: a closing bracket too many stands before it"]
+        return ["  the library's own group ends before this place: there is a closing bracket too many before it"]
     if role == "netlist":
         return [f"  {it}" for it in netlist_hints(code, text, place)]
     if code in ("P1", "P4"):
@@ -136,7 +136,7 @@ def journal_hints(code, line, behind):
     if code == "J1" and line.startswith(("session ", "final ")):
         return ["here the rows of an output begin: a saved journal has the lines before them, sed '/^session 1 rows /,$d' OUTPUT"]
     if code == "J1" and line.startswith("journal "):
-        return ["the number behind the form is that of the entries before the block: a block is missing, stands twice, or is of form 1 behind entries"]
+        return ["the number after the form counts the entries before the block: a block is missing, comes twice, or is of form 1 after entries"]
     return []
 
 
@@ -151,7 +151,7 @@ def netlist_hints(code, text, place):
     if code == "V1" and place >= len(text):
         return ["the module is not ended: an endmodule, or a ; or ) before it, is missing"]
     if code == "V1":
-        return ["what is wrong may stand before it: a ; or a ) that is missing, or the blank that ends an escaped name"]
+        return ["the fault may be before it: a ; or a ) that is missing, or the blank that ends an escaped name"]
     word = (re.match(r"\w+|.", text[place:], re.S) or [""])[0]
     return [UNREAD[word]] if code == "V2" and word in UNREAD else []
 
@@ -160,7 +160,7 @@ def row_hints(text, place):
     """What is wrong with the units, whether an *END is missing, or whether the row of a SPEF before the fault ends with a word that is no number."""
     line = text[text.rfind("\n", 0, place) + 1:].split("\n")[0]
     if line.lstrip().startswith(("*C_UNIT", "*R_UNIT")):
-        return ["*C_UNIT is in PF or FF and *R_UNIT in OHM or KOHM, in capitals, behind a power of ten"]
+        return ["*C_UNIT is in PF or FF and *R_UNIT in OHM or KOHM, in capitals, after a power of ten"]
     if line.lstrip().startswith("*D_NET") or place >= len(text):
         return ["the *END of the net before it may be missing"] if "*D_NET" in text[:place] else []
     lines = text[:place].split("\n")
@@ -217,13 +217,13 @@ def what_is_open(lines):
 def draft_hints(name, is_draft, is_group):
     """Why a command may not stand in a draft, or outside of one."""
     if is_draft and is_group and name in DRAFTS:
-        return [f"{name} stands in a group of edits: the group has to end before, with commit_eco"]
+        return [f"{name} is in a group of edits: end the group before it, with commit_eco"]
     if is_draft and name in (*NOT_IN_DRAFTS, "begin_what_if"):
-        return [f"{name} does not stand in a draft, which has edits, groups of edits, drop_last, and questions other than "
+        return [f"{name} may not be in a draft, which has edits, groups of edits, drop_last, and questions other than "
                 "report_through, report_paths and advise"]
     if name == "begin_what_if":
         return [f"a draft has 1 to {MOST_TRIALS} trials and its end, and so has each group in it: begin_what_if, trials, end_what_if"]
-    return [f"{name} stands in a draft alone: begin_what_if, trials, end_what_if"] if name in DRAFTS else []
+    return [f"{name} may only be in a draft: begin_what_if, trials, end_what_if"] if name in DRAFTS else []
 
 
 def script_hints(code, line, before):
@@ -234,13 +234,13 @@ def script_hints(code, line, before):
     if code == "C2":
         if len(line) > LONGEST_LINE:
             return [f"this line has {len(line)} bytes"]
-        return [f"{MOST_TRIALS} trials of the draft stand before it, and a draft has at most {MOST_TRIALS}"] if is_draft and trials >= MOST_TRIALS else []
+        return [f"{MOST_TRIALS} trials of the draft are before it, and a draft has at most {MOST_TRIALS}"] if is_draft and trials >= MOST_TRIALS else []
     if "\r" in line:
         return ["the line ends with CR LF; lines of a script end with a line feed alone: tr -d '\\r' <SCRIPT"]
     if any(it > "~" for it in line):
         return ["the line has a byte above 127: a script is ASCII, comments too"]
     if any(it.startswith("#") and not (name == "set_parasitics" and it[1:].isdigit()) for it in words[1:]):
-        return ["a comment stands in a line of its own: behind a command # begins none"]
+        return ["write a comment in a line of its own: after a command # begins none"]
     if any(it.endswith(";") for it in words):
         return ["a line has one command: ; ends none"]
     counts = {**{it: 3 for it in PINS}, **KIND_WORDS, **EDITS, **OTHERS}
@@ -270,7 +270,7 @@ def script_hints(code, line, before):
     if name == "insert_buffer":
         return ["insert_buffer takes a net, a new instance, a new net, a cell, and the sinks that move, at least one"]
     if name in counts or name == "report_through":
-        return [f"the words of {name} do not fit, or it stands in a group of edits that allows no report: see docs/SCRIPTS.md"]
+        return [f"the words of {name} do not fit, or it is in a group of edits that allows no report: see docs/SCRIPTS.md"]
     return [f"there is no command {name[:60]}: docs/SCRIPTS.md has all"] if name else []
 
 
@@ -278,10 +278,10 @@ INSTEAD = {"set_clock_groups": "there are no clock groups: write set_false_path 
            "set_driving_cell": "give the port a slew by set_input_transition, and what the cell delays by set_input_delay",
            "set_clock_latency": "clocks are propagated always, so that there is no latency of an ideal network",
            "set_clock_transition": "clocks are propagated always: set_input_transition gives the clock's port its slew",
-           "create_generated_clock": "there are no generated clocks: registers behind a divider are not tested (docs/DIFFERENCES.md)",
+           "create_generated_clock": "there are no generated clocks: registers after a divider are not tested (docs/DIFFERENCES.md)",
            "all_inputs": "name the ports: [get_ports {a b}]", "all_outputs": "name the ports: [get_ports {a b}]",
            "all_clocks": "name the clocks: [get_clocks {a b}]", "all_registers": "name the instances: [get_cells {a b}]",
-           "-through": "a path is told by -from and -to alone", "-add_delay": "a port has one clock for each split and transition"}
+           "-through": "an exception names its paths by -from and -to alone", "-add_delay": "a port has one clock for each split and transition"}
 DELAY = "a delay needs -clock"
 SDC_PAGES = "docs/INPUT.md has what is read of SDC; tools/check_setup.py lists all lines that are not, in one run"
 FORMS = {"set_input_delay": DELAY, "set_output_delay": DELAY,
@@ -561,7 +561,7 @@ def explain_shelf(name, how, journal=None):
     if how == "too_long":
         return [f"{name}: the file is longer than 64 MiB, which is the most that is read"]
     if name.lower() == "none":
-        return [f"{name}: No such file or directory", "  the word none, in small letters, stands for no parasitics"]
+        return [f"{name}: No such file or directory", "  write the word none, in small letters, for no parasitics"]
     if os.path.isdir(name):
         return [f"{name}: is a directory, not a file"]
     try:

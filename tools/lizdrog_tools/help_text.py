@@ -7,15 +7,18 @@ USAGE = """Lizdrog, a static timing server.
       SDC          constraints                                     SPEF     parasitics, or the word none
       WORKERS      1 to 32 threads                                 SCRIPT   questions and edits, one a line; 1 to 16, each a session
       NAME         the journals of earlier runs, one after the other: the run goes on from their edits
+  lizdrog [--proved] run [--journal NAME] FILE.toml [WORKERS] SCRIPT [SCRIPT ..]
+      FILE.toml    names the five documents: early, late, netlist, sdc, spef
+  lizdrog import [-o FOLDER] PROJECT.toml   a design as tools write it (Tcl, hierarchy, libraries, .gz) as a folder with these
   lizdrog generate NUMBER GATES EDITS
       a design of GATES gates and four sessions with EDITS resizes in all, drawn from NUMBER; both are multiples of 4
   lizdrog test       try this clone: examples, tools and the program against a plain timer     install PREFIX  run without a clone
   lizdrog --build    build the program without proof now, in minutes (`rt ci` proves it and builds it, in hours)
   lizdrog --version  the commit, the toolchain, and whether the program that would run is proved    --help  this, and the commands"""
-MORE = """  --proved           refuse to run a program that is not proved    --program FILE   run this one, of which nothing is known here
+MORE = """  --proved           refuse to run a program that is not proved    --program FILE   run this program, whatever it is
 Status: 0 all rows are answers, 1 some row is refused, no or not yet, 2 wrong words, 3 a document or the design has a fault or a saved
 edit is refused, 4 a document cannot be fetched, 5 the output cannot be written, 6 no memory. What the codes mean: docs/FAULTS.md.
-70 is of this script, not of the program: there is no program to run, and it says why."""
+70 comes from the command itself: it found no program to run, and says why."""
 
 # The words of each command of a script, an example, and what it asks or does. docs/SCRIPTS.md says all of it.
 QUESTIONS = [
@@ -63,6 +66,12 @@ INSTALL = """  lizdrog install PREFIX
 
 It copies the program that would run, the tools, the pages and the examples to PREFIX/lib/lizdrog, and puts PREFIX/bin/lizdrog there.
 For example `lizdrog install ~/.local`. The copy needs Python 3.11 and bash, no toolchain and no clone."""
+IMPORT = """  lizdrog import [-o FOLDER] PROJECT.toml
+
+It reads what synthesis and layout tools write, as PROJECT.toml names it, and writes a folder with early.lib, late.lib, netlist.v,
+constraints.sdc, parasitics.spef, a lizdrog.toml for `lizdrog run`, and import.txt and import.json with all that was changed or left out.
+Status: 0 all is expressed, 1 something is left out that the project accepts, 2 an input is wrong, or slacks would change: no folder is
+written. The project file and what is expressed how: docs/IMPORT.md."""
 TEST = """  lizdrog test [--proved] [--quick]
 
 It builds the program without proof where there is none, and tries the examples, the tools, and 200 random scripts against a plain timer,
@@ -88,5 +97,5 @@ def of(command: str) -> str:
     """The help for a command, or for all."""
     if command == "run":
         return f"{USAGE.split('  lizdrog generate')[0].rstrip()}\n\n{script_commands()}"
-    known = {"generate": GENERATE, "install": INSTALL, "test": TEST}
+    known = {"generate": GENERATE, "import": IMPORT, "install": INSTALL, "test": TEST}
     return known.get(command) or f"{USAGE}\n{MORE}\n\n{script_commands()}"

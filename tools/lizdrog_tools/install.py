@@ -9,7 +9,7 @@ from lizdrog_tools.help_text import INSTALL
 from lizdrog_tools.places import TOP
 
 WRONG_WORDS, CANNOT_COPY = 2, 5
-COPIED = ("lizdrog", "README.md", "HANDLES", "docs", "examples", "tools")
+COPIED = ("lizdrog", "README.md", "CHANGELOG.md", "HANDLES", "docs", "examples", "tools")
 LEFT_OUT = shutil.ignore_patterns("__pycache__", "tests", "*.out", "OUTPUT")
 
 

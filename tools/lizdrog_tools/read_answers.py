@@ -13,7 +13,7 @@ It prints a line for each row with its question, as `report_endpoint r2:D setup 
   --session N                           the session whose script it is; an output of several sessions asks for it
 
 Endpoints are those of the script's report_endpoint and report_worst; tools/endpoint_questions.py writes a script that asks all. The paths
-of a report_paths stand one below the other, worst first; below a draft stands each of its trials with its answer.
+of a report_paths are one below the other, worst first; below a draft is each of its trials with its answer.
 """
 import argparse
 import copy
@@ -25,6 +25,7 @@ import sys
 from lizdrog_tools import convert_journal, explain_fault
 from lizdrog_tools.files import InputFault, TextFault, parsed, tool
 from lizdrog_tools.liberty import read_library
+from lizdrog_tools.reporting.histogram import bins_of, histograms, picoseconds
 from lizdrog_tools.verilog import Instance, Joined, read_netlist
 
 QUESTIONS = {"Q1": "there is no such pin", "Q2": "it is no endpoint", "Q3": "the register has no test of this kind that a clock reaches"}
@@ -274,11 +275,6 @@ def thousandths(time):
     return int(time.replace(".", ""))
 
 
-def picoseconds(value):
-    sign, value = "-" if value < 0 else "", abs(value)
-    return f"{sign}{value // 1000}.{value % 1000:03d}"
-
-
 # ------------------------------------------------------------------------------------------------ lines for people
 
 def answer_text(row):
@@ -458,19 +454,6 @@ def print_failing(number, slacks):
             print(f"  {picoseconds(slack):>12} ps  {pin}")
 
 
-def bins_of(values):
-    """Bins of one, two or five times a power of ten, some ten of them, with their counts; 0 is a border."""
-    low, high = min(values), max(values)
-    width = 1
-    while (high - low) // width > 12:
-        width = width * 5 // 2 if str(width)[0] == "2" else width * 2
-    first = low // width
-    counts = [0] * (high // width - first + 1)
-    for value in values:
-        counts[value // width - first] += 1
-    return [((first + i) * width, (first + i + 1) * width, count) for i, count in enumerate(counts)]
-
-
 def print_histogram(number, slacks):
     for kind, ends in slacks.items():
         values = [it for it in ends.values() if it is not None]
@@ -482,27 +465,6 @@ def print_histogram(number, slacks):
         for low, high, count in bins:
             bar = "#" * -(-count * 50 // most)
             print(f"  {picoseconds(low):>12} to {picoseconds(high):>12} {count:6} {bar}".rstrip())
-
-
-def svg(number, slacks):
-    """Bars for each kind below each other; bins below 0 are red."""
-    parts, top = [], 0
-    for kind, ends in slacks.items():
-        values = [it for it in ends.values() if it is not None]
-        if not values:
-            continue
-        bins = bins_of(values)
-        most, step = max(count for _, _, count in bins), 700 / len(bins)
-        parts.append(f'<text x="30" y="{top + 24}">{kind} slack of {len(values)} endpoints in ps, design {number}</text>')
-        for i, (low, high, count) in enumerate(bins):
-            height, colour = 160 * count / most, "#c0392b" if high <= 0 else "#2e6da4"
-            x, y = 30 + i * step, top + 210 - height
-            parts.append(f'<rect x="{x:.1f}" y="{y:.1f}" width="{step - 3:.1f}" height="{height:.1f}" fill="{colour}"/>')
-            parts.append(f'<text x="{x:.1f}" y="{top + 226}" font-size="10">{low / 1000:g}</text>')
-            if count:
-                parts.append(f'<text x="{x:.1f}" y="{y - 3:.1f}" font-size="10">{count}</text>')
-        top += 250
-    return f'<svg xmlns="http://www.w3.org/2000/svg" width="760" height="{top}" font-family="sans-serif">\n' + "\n".join(parts) + "\n</svg>\n"
 
 
 # ------------------------------------------------------------------------------------------------ the command
@@ -564,7 +526,7 @@ def show(given, commands, output, edited):
         print_histogram(number, slacks)
     if given.svg:
         with open(given.svg, "w", encoding="ascii") as file:
-            file.write(svg(number, slacks))
+            file.write(histograms(number, slacks).file())
 
 
 @tool("read_answers")

@@ -10,6 +10,8 @@ from lizdrog_tools import command_line, programs
 from lizdrog_tools.programs import Stop
 
 NO_PROGRAM = 70
+# Commands that are tools by themselves, each with a --help of its own.
+BESIDE = {"corners": "corners.py", "import": "import_design.py", "report": "report.py", "summary": "summary.py"}
 FIRST_BYTES = 65536
 # What the C library does with memory, where nobody has said it. Large pages: the kernel gives them to those that ask (docs/SPEED.md).
 # One arena: where each thread has its own, the others do not use what is freed in it. Of 16 sessions with 40 ECOs each on 7,000 cells,
@@ -107,8 +109,28 @@ def serve(given: dict, words: list[str]) -> int:
     return status
 
 
+def other_command(words: list[str], is_proved: bool) -> int | None:
+    """The status of a command that scripts answer; none where the program is to answer."""
+    name, rest = (words[0], words[1:]) if words else ("", [])
+    if name == "install":
+        from lizdrog_tools import install
+        return install.main(rest, is_proved, say)
+    if name == "test":
+        from lizdrog_tools import try_clone
+        return try_clone.main(rest, is_proved, say)
+    return None
+
+
+def project_words(words: list[str]) -> list[str]:
+    """The seven words of a run by a project file."""
+    from lizdrog_tools import run_project
+    return run_project.expanded(words) if run_project.is_project(words) else words
+
+
 def answer(words: list[str]) -> int:
     """The status of a call with these words."""
+    if words and words[0] in BESIDE:
+        os.execv(sys.executable, [sys.executable, f"{programs.TOP}/tools/{BESIDE[words[0]]}", *words[1:]])
     asked = command_line.asked_help(words)
     if asked is not None:
         from lizdrog_tools import help_text
@@ -116,12 +138,16 @@ def answer(words: list[str]) -> int:
     given, words = command_line.options_of(words)
     if words == [] and given["version"]:
         return 0 if write_all("\n".join([*programs.version(), ""]).encode()) else 5
-    if words and words[0] == "install":
-        from lizdrog_tools import install
-        return install.main(words[1:], given["proved"], say)
-    if words and words[0] == "test":
-        from lizdrog_tools import try_clone
-        return try_clone.main(words[1:], given["proved"], say)
+    status = other_command(words or [], given["proved"])
+    if status is not None:
+        return status
+    if words and words[0] == "run" and any(it.endswith(".toml") for it in words):
+        from lizdrog_tools import files
+        try:
+            words = project_words(words)
+        except (files.InputFault, OSError) as why:
+            say(str(why))
+            return 2 if write_all(b"fault words\n") else 5
     why = "" if words == [] and given["build"] else command_line.misfit(words) if words is not None else "there is no such option"
     if why:
         written = write_all(b"fault words\n")

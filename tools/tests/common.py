@@ -10,7 +10,7 @@ from lizdrog_tools.places import BENCH, DEV, TOOLS, TOP, find_program  # noqa: F
 GIVEN = os.environ.get("LIZDROG_TEST_PROGRAM")
 PROGRAM = pathlib.Path(GIVEN) if GIVEN else find_program()
 needs_program = unittest.skipUnless(PROGRAM,
-                                    "no program stands here: the gate builds it, and dev/quick_build.py builds one "
+                                    "there is no program: the gate builds it, and dev/quick_build.py builds one "
                                     "without proof")
 
 

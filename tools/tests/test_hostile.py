@@ -177,7 +177,7 @@ class Trials(unittest.TestCase):
     def test_real_devices(self):
         status, out, err = self.trial("real_devices", "--program", common.PROGRAM, "--short")
         self.assertEqual((status, err), (0, ""), out)
-        self.assertIn("each as README.md says", out)
+        self.assertIn("each as docs/COMMANDS.md says", out)
 
 
 if __name__ == "__main__":

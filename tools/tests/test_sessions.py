@@ -85,12 +85,12 @@ class Checker(unittest.TestCase):
         output = read_answers.Output(behind(OUTPUT, 5))
         self.assertEqual((output.first, len(output.ecos), output.sessions[0][1].design), (5, 2, 7))
         faults, _ = faults_of(behind(OUTPUT, 5).replace("1 5 wns", "1 4 wns"), behind(ALONE, 5), scripts)
-        self.assertIn("the design 4 behind None, of 7", faults[0])
+        self.assertIn("the design 4 after None, of 7", faults[0])
 
     def test_what_does_not(self):
         for old, new, said in (("3 2 wns 7.000", "3 2 wns 7.001",
                                 "session 1, command 3: wns 7.001, and one session says wns 7.000 at design 2"),
-                               ("3 2 wns", "3 1 wns", "session 1, command 3: the design 1 behind 2"),
+                               ("3 2 wns", "3 1 wns", "session 1, command 3: the design 1 after 2"),
                                ("3 2 reached", "3 2 not_yet 10",
                                 "session 2, command 3: await 2 10 has the answer not_yet 10 (design 2)"),
                                ("session 2 edits 2", "session 1 edits 2",

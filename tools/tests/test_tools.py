@@ -281,7 +281,7 @@ FINDINGS = [("a clock that is missing", {"sdc": ""}, "design without a clock", "
             ("parasitics that are no tree", {"spef": SPEF.replace("1 *1:1 2.5", "1 *1:7 2.5")},
              "n2: no resistor ends at the node #7"),
             ("a mistyped section", {"spef": SPEF.replace("*D_NET", "*PORTS\nclk I\n*d_net")},
-             "words of the SPEF that begin with * and fit no section (P1)", "*d_net behind *PORTS"),
+             "words of the SPEF that begin with * and fit no section (P1)", "*d_net after *PORTS"),
             ("a mistyped type of a test", {"early": LIBRARY.replace("setup_rising", "setup_risng"),
                                            "late": LIBRARY.replace("setup_rising", "setup_risng")},
              "setup_risng in 1 cells, first DFF"),
@@ -333,8 +333,8 @@ class SetUp(unittest.TestCase):
         self.assertEqual((status, out),
                          (1, "4 nets without parasitics\n  clk\n  d\n  n1\n  q\ncheck_setup: 4 findings\n"))
 
-    def test_options_that_stand_twice(self):
-        said = "1 options that stand twice in a command, of which the last counts\n  top.sdc:4: set_false_path -from\n"
+    def test_options_that_come_twice(self):
+        said = "1 options that come twice in a command, of which the last counts\n  top.sdc:4: set_false_path -from\n"
         self.assertIn(said, self.check(sdc=CONSTRAINTS + "set_false_path -from d -from [get_clocks clk] -to q\n")[1])
         self.assertNotIn("twice", self.check(sdc=CONSTRAINTS + "set_false_path -from {d clk} -to q\n")[1])
 
