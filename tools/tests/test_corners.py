@@ -209,7 +209,7 @@ class Jobs(StandIn):
         self.assertEqual(told["endpoints"]["setup"][0]["slack"], "-2.500")
         status, out, _ = self.corners("s.eco", "--quiet", *words)
         lines = out.split("\n")
-        log = self.folder / "p.results" / "answers" / "bad" / "log"
+        log = "p.results/answers/bad/log"
         self.assertEqual(
             (status, lines[2]), (3, f"bad     failed with status 3: late.lib:7: a word is wrong (log: {log})")
         )
