@@ -16,6 +16,7 @@ import common
 from lizdrog_tools.corners import command, ecos, merge, project
 from lizdrog_tools.corners.job import Job, Outcome, State
 from lizdrog_tools.files import InputFault, TextFault
+from lizdrog_tools.importing import project as importing
 
 # A stand-in for the program. The early library of a corner is a small script: it says what the corner's run does.
 STAND_IN = '#!/bin/sh\nexec sh "$4"\n'
@@ -209,7 +210,7 @@ class Jobs(StandIn):
         self.assertEqual(told["endpoints"]["setup"][0]["slack"], "-2.500")
         status, out, _ = self.corners("s.eco", "--quiet", *words)
         lines = out.split("\n")
-        log = self.folder / "p.results" / "answers" / "bad" / "log"
+        log = "p.results/answers/bad/log"
         self.assertEqual(
             (status, lines[2]), (3, f"bad     failed with status 3: late.lib:7: a word is wrong (log: {log})")
         )
@@ -355,6 +356,11 @@ class Project(StandIn):
         self.assertEqual([it.name for it in a.documents()], ["s.eco", "late.lib", "top.v", "top.sdc"])
         self.assertEqual([it.name for it in b.documents()], ["top.v", "top.v", "top.v", "top.sdc"])
         self.assertEqual(a.words()[4:], ["none", "1"])
+
+    def test_an_import_reads_the_same_file(self):
+        self.project({"one": ("", "workers = 2")}, 'early = "late.lib"\nresults = "r"\ntimeout = 3\nslurm.options = []')
+        read = importing.read_project(str(self.folder / "p.toml"))
+        self.assertEqual((read.early, read.late, read.netlist), (["late.lib"], ["late.lib"], ["top.v"]))
 
     def test_without_corners_it_is_one(self):
         (self.folder / "p.toml").write_text(PROJECT.format(shared='early = "late.lib"'))

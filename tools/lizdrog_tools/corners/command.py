@@ -106,7 +106,7 @@ def commit(corners: Corners, file: str, text: str) -> tuple[Merged, int]:
     for line in refused:
         print(f"corners: refused in {line}", file=sys.stderr)
     if refused:
-        print(f"corners: nothing is appended to {corners.project.ecos}", file=sys.stderr)
+        print(f"corners: nothing is appended to {os.path.relpath(corners.project.ecos)}", file=sys.stderr)
         return merged, 1
     before = len(corners.ecos_of(corners.project.corners[0]))
     when = datetime.datetime.now().isoformat(" ", "minutes")
@@ -114,7 +114,7 @@ def commit(corners: Corners, file: str, text: str) -> tuple[Merged, int]:
     are = "ECO is" if len(commands) == 1 else "ECOs are"
     print(
         f"corners: {len(commands)} {are} accepted in {', '.join(corners.names)}; "
-        f"{corners.project.ecos} has {before + len(commands)} now",
+        f"{os.path.relpath(corners.project.ecos)} has {before + len(commands)} now",
         file=sys.stderr,
     )
     return merged, merged.status()

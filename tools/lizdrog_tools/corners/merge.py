@@ -3,6 +3,7 @@
 Each number is one corner's own answer, as it was printed; nothing is computed anew.
 """
 import dataclasses
+import os
 from collections.abc import Iterator
 
 from lizdrog_tools.corners.job import Job, Outcome, State
@@ -12,6 +13,7 @@ from lizdrog_tools.read_answers import (
     Output,
     Row,
     answer_text,
+    draft_rows,
     may_answer,
     read_output,
     read_script,
@@ -179,7 +181,7 @@ class Merged:
 
 def state_text(corner: CornerAnswers) -> str:
     """What became of the run of a corner."""
-    outcome, log = corner.outcome, corner.job.log
+    outcome, log = corner.outcome, os.path.relpath(corner.job.log)
     if outcome.state is State.FAILED:
         return f"failed with status {outcome.status}: {corner.job.last_words() or 'no word'} (log: {log})"
     if outcome.state is State.TIMED_OUT:
@@ -229,16 +231,27 @@ def failing_lines(merged: Merged, most: int) -> Iterator[str]:
 
 
 def question_lines(merged: Merged) -> Iterator[str]:
-    """Each question with the answers of the corners, in one line where they are the same."""
-    width = max((len(it.name) for it in merged.there), default=0)
+    """Each question with the answers of the corners, and the trials of a draft one by one."""
     for command, rows in merged.questions():
-        texts = [answer_text(row) for _, row in rows]
-        if len(set(texts)) == 1 and len(rows) > 1:
-            yield f"{command.text()} -> {texts[0]} (all corners)"
-            continue
-        yield command.text()
-        for (corner, _), text in zip(rows, texts):
-            yield f"  {corner:{width}}  {text}"
+        if all(row.sort == "what_if" for _, row in rows):
+            yield command.text()
+            trials = [[(corner, answer) for _, answer, _ in draft_rows(command, row, None)] for corner, row in rows]
+            for trial, answers in zip(command.trials(), zip(*trials)):
+                yield from (f"  {it}" for it in answer_lines(trial, list(answers)))
+        else:
+            yield from answer_lines(command, rows)
+
+
+def answer_lines(command: Command, rows: list[tuple[str, Row]]) -> Iterator[str]:
+    """A question with the answers of the corners, in one line where they are the same."""
+    texts = [answer_text(row) for _, row in rows]
+    if len(set(texts)) == 1 and len(rows) > 1:
+        yield f"{command.text()} -> {texts[0]} (all corners)"
+        return
+    width = max(len(corner) for corner, _ in rows)
+    yield command.text()
+    for (corner, _), text in zip(rows, texts):
+        yield f"  {corner:{width}}  {text}"
 
 
 def text_of(merged: Merged, most: int) -> str:

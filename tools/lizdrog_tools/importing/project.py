@@ -8,7 +8,9 @@ from typing import Any
 from lizdrog_tools.files import InputFault, read_text
 
 LISTS = ("early", "late", "netlist", "sdc", "accept", "keep")
-KNOWN = {*LISTS, "library", "top", "spef", "prefer", "output", "journal", "workers"}
+# Keys of the same file that `corners` reads and an import does without.
+OF_CORNERS = ("corners", "ecos", "results", "slurm", "timeout")
+KNOWN = {*LISTS, "library", "top", "spef", "prefer", "output", "journal", "workers", *OF_CORNERS}
 
 
 @dataclasses.dataclass(frozen=True, slots=True)
