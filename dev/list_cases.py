@@ -1,15 +1,17 @@
 #!/usr/bin/env python3
 """Lists where each case of the tests of commit 23a0d09 is tried now, and finds those that are lost.
 
-Until that commit four crates (base_tests, engine_tests, reader_tests, shell_tests) held all cases as `#[test]` functions. Most of
-their tables have since become rows of programs, whose output the gate compares. dev/cases/CRATE.tsv has a line for each case of
-before, of three cells: `module::test`, the case's row in the test's table (1 where the test is one case), and its place now. A place
-is `FILE:case NAME`, a line `case NAME` of a program's input, or `FILE::TEST`, a `#[test]` function.
+Until that commit four crates (base_tests, engine_tests, reader_tests, shell_tests) held all cases as `#[test]`
+functions. Most of their tables have since become rows of programs, whose output the gate compares.
+dev/cases/CRATE.tsv has a line for each case of before, of three cells: `module::test`, the case's row in the test's
+table (1 where the test is one case), and its place now. A place is `FILE:case NAME`, a line `case NAME` of a
+program's input, or `FILE::TEST`, a `#[test]` function.
 
-The script prints each case with its place, and a line for each fault: a place that does not exist, a test of that commit without
-a line, and a test with fewer lines than its table has rows. A table is an array that a `for` of the test goes over, or a constant
-whose lines or items one does, there or in a function of the same file that is called with the constant. Where the commit is
-not in the clone's history, the script says so and checks the places alone. The status is 1 after a fault."""
+The script prints each case with its place, and a line for each fault: a place that does not exist, a test of that
+commit without a line, and a test with fewer lines than its table has rows. A table is an array that a `for` of the
+test goes over, or a constant whose lines or items one does, there or in a function of the same file that is called
+with the constant. Where the commit is not in the clone's history, the script says so and checks the places alone.
+The status is 1 after a fault."""
 
 import argparse
 import collections
@@ -73,7 +75,7 @@ def read_cases(file, faults):
 def places_in(file):
     """The cases and the tests that a file has now."""
     path = TOP / file
-    if ".." in pathlib.PurePath(file).parts or not path.is_file():
+    if not file.startswith("crates/") or ".." in path.parts or not path.is_file():
         return frozenset()
     text = read_text(path)
     lines = (line for line in text.splitlines() if line.startswith("case "))
@@ -177,6 +179,8 @@ def main():
     faults, count = [], 0
     for crate in CRATES:
         file = CASES / f"{crate}.tsv"
+        if not file.is_file():
+            faults.append(f"{file.relative_to(TOP)} is missing")
         cases = read_cases(file, faults) if file.is_file() else []
         count += len(cases)
         for case in cases:
