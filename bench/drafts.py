@@ -21,7 +21,7 @@ import re
 import statistics
 import tempfile
 
-import ecos
+from lizdrog_dev import ecos
 
 
 def scripts(name, others, each):

@@ -12,7 +12,7 @@ import subprocess
 import sys
 import tempfile
 
-import pairs
+from lizdrog_dev import pairs
 
 SIZES = ["NAND2_X1", "NAND2_X2"]
 

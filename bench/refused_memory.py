@@ -36,11 +36,10 @@ import sys
 import tempfile
 import time
 
-import trials
+from lizdrog_dev import trials
 
-sys.path.insert(0, str(trials.TOP / "tools"))
-import check_sessions  # noqa: E402
-import read_answers  # noqa: E402
+from lizdrog_tools import check_sessions
+from lizdrog_tools import read_answers
 
 GENERATED = ["generate", "1", "4", "4"]
 RECORD = struct.Struct("<QqQQQ")

@@ -19,7 +19,7 @@ import sys
 import tempfile
 import time
 
-import ecos
+from lizdrog_dev import ecos
 
 STRONGER = {"NAND2_X1": "NAND2_X2", "NAND2_X2": "NAND2_X1", "INV_X1": "INV_X4", "INV_X4": "INV_X1", "BUF_X2": "BUF_X4", "BUF_X4": "BUF_X2"}
 

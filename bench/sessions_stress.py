@@ -22,12 +22,11 @@ import shutil
 import sys
 import tempfile
 
-import sessions as timings
-import trials
+from lizdrog_dev import sessions as timings
+from lizdrog_dev import trials
 
-sys.path.insert(0, str(trials.TOP / "tools"))
-import check_sessions  # noqa: E402
-import read_answers  # noqa: E402
+from lizdrog_tools import check_sessions
+from lizdrog_tools import read_answers
 
 GATES = {"cb": "BUF_X1", "g1": "BUF_X1", "g2": "BUF_X1", "g3": "SLW"}
 SIZES = ["BUF_X1", "BUF_X4", "BUF_T", "SLW"]

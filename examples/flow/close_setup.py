@@ -10,16 +10,18 @@ What a team will want to change: which gates are tried (candidates), what counts
 cell (SIZE: here a cell's name ends with X and a number, as in INVX2).
 """
 import argparse
+import copy
 import pathlib
 import re
 import subprocess
 import sys
 import tempfile
 
-TOP = pathlib.Path(__file__).resolve().parent.parent.parent
-sys.path.insert(0, str(TOP / "tools"))
-import design_documents as documents  # noqa: E402
-import read_answers  # noqa: E402
+from lizdrog_tools import read_answers
+from lizdrog_tools.files import tool
+from lizdrog_tools.liberty import read_library
+from lizdrog_tools.places import TOP
+from lizdrog_tools.verilog import read_netlist
 
 SIZE = re.compile(r"X\d+$")
 PATHS, TRIALS = 3, 24
@@ -89,6 +91,7 @@ def one_round(lizdrog, accepted, design):
     return before, best, after
 
 
+@tool("close_setup")
 def main():
     parser = argparse.ArgumentParser(description=__doc__, formatter_class=argparse.RawDescriptionHelpFormatter)
     for name in ("early", "late", "netlist", "sdc", "spef", "accepted"):
@@ -97,12 +100,11 @@ def main():
     parser.add_argument("--lizdrog", default=str(TOP / "lizdrog"))
     given = parser.parse_args()
     lizdrog = Lizdrog(given.lizdrog, [given.early, given.late, given.netlist, given.sdc, given.spef])
-    library = documents.Library(documents.read_text(given.late))
-    text = documents.read_text(given.netlist)
+    library, netlist = read_library(given.late), read_netlist(given.netlist)
     file = pathlib.Path(given.accepted)
     accepted = [it for it in file.read_text().split("\n") if it.strip() and not it.startswith("#")] if file.exists() else []
     for number in range(1, given.rounds + 1):
-        before, edit, after = one_round(lizdrog, accepted, lambda: (documents.Netlist(text), library))
+        before, edit, after = one_round(lizdrog, accepted, lambda: (copy.deepcopy(netlist), library))
         worst, total, hold = map(read_answers.picoseconds, before)
         print(f"round {number}: setup worst {worst} ps, total {total} ps; hold worst {hold} ps")
         if edit is None:
@@ -115,4 +117,4 @@ def main():
 
 
 if __name__ == "__main__":
-    documents.run_tool("close_setup", main)
+    sys.exit(main())

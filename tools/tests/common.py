@@ -5,11 +5,11 @@ import subprocess
 import sys
 import unittest
 
-TOP = pathlib.Path(__file__).resolve().parent.parent.parent
-TOOLS = TOP / "tools"
-PROGRAMS = [TOP / "crates" / "timing_shell" / "out" / "timing_shell", TOP / "out" / "quick_build" / "timing_shell"]
-PROGRAM = next((it for it in PROGRAMS if it.is_file() and os.access(it, os.X_OK)), None)
-needs_program = unittest.skipUnless(PROGRAM, "no program stands here: the gate builds it, and tools/quick_build.py builds one without proof")
+from lizdrog_tools.places import BENCH, DEV, TOOLS, TOP, find_program  # noqa: F401 (tests take them from here)
+
+GIVEN = os.environ.get("LIZDROG_TEST_PROGRAM")
+PROGRAM = pathlib.Path(GIVEN) if GIVEN else find_program()
+needs_program = unittest.skipUnless(PROGRAM, "no program stands here: the gate builds it, and dev/quick_build.py builds one without proof")
 
 
 def run(*words, cwd=None, **how):
@@ -19,7 +19,9 @@ def run(*words, cwd=None, **how):
 
 
 def tool(name, *words, cwd=None, **how):
-    return run(sys.executable, TOOLS / f"{name}.py", *words, cwd=cwd, **how)
+    """Runs a tool of designers, or else of provers, by its name."""
+    file = next(it for it in (TOOLS / f"{name}.py", DEV / f"{name}.py") if it.is_file())
+    return run(sys.executable, file, *words, cwd=cwd, **how)
 
 
 LIBRARY = """library (small) { time_unit : "1ps"; capacitive_load_unit (1, ff);

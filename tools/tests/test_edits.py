@@ -5,9 +5,9 @@ import shutil
 import tempfile
 import unittest
 
-import check_over_kept
-import check_over_stubs
-import try_edits
+from lizdrog_dev import check_over_kept
+from lizdrog_dev import check_over_stubs
+from lizdrog_dev import try_edits
 
 STORES = """const MOST: usize = 3;
 

@@ -6,8 +6,8 @@ import tempfile
 import unittest
 
 import common
-import check_sessions
-import read_answers
+from lizdrog_tools import check_sessions
+from lizdrog_tools import read_answers
 
 EXAMPLE = common.TOP / "examples" / "two-engineers"
 ONE = "report_wns setup\nrepower_gate g1 BUF\nreport_wns setup\n"

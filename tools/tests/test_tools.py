@@ -8,11 +8,13 @@ import unittest
 
 import common
 from common import CONSTRAINTS, LIBRARY, NETLIST, SPEF
-import check_setup
-import design_documents as documents
-import explain_fault
-import plant_over_kept
-import read_answers
+from lizdrog_tools import check_setup
+from lizdrog_tools.liberty import Library
+from lizdrog_tools.sdc import read_commands
+from lizdrog_tools.verilog import Netlist
+from lizdrog_tools import explain_fault
+from lizdrog_dev import plant_over_kept
+from lizdrog_tools import read_answers
 import test_faults
 
 OUTPUT = """journal 1 2
@@ -137,7 +139,7 @@ class Answers(unittest.TestCase):
 
     def test_other_script(self):
         (self.folder / "s.eco").write_text("take\n")
-        self.assertEqual(common.tool("read_answers", "s.eco", "out", cwd=self.folder)[0], 1)
+        self.assertEqual(common.tool("read_answers", "s.eco", "out", cwd=self.folder)[0], 2)
 
     def test_script_of_other_questions(self):
         """As many commands as rows, and rows that cannot be their answers."""
@@ -145,15 +147,15 @@ class Answers(unittest.TestCase):
                          ("report_path r2:D setup", "report_path r1:D setup"), ("repower_gate g1 BUF", "report_tns setup")):
             (self.folder / "s.eco").write_text(common.SCRIPT.replace(old, new, 1))
             status, out, err = common.tool("read_answers", "s.eco", "out", cwd=self.folder)
-            self.assertEqual((status, out), (1, ""), new)
+            self.assertEqual((status, out), (2, ""), new)
             self.assertIn(f"is no answer to `{new}`", err)
 
     def test_several_sessions_ask_for_one(self):
         (self.folder / "s.eco").write_text("report_wns setup\n")
         (self.folder / "out").write_text("journal 1 0\nsession 1 rows 1\n1 0 wns 5.000\nsession 2 rows 1\n1 0 wns 7.000\nfinal 0 setup 5.000 0.000 hold none 0.000\n")
         status, out, err = common.tool("read_answers", "s.eco", "out", cwd=self.folder)
-        self.assertEqual((status, out), (1, ""))
-        self.assertIn("out has 2 sessions: --session N", err)
+        self.assertEqual((status, out), (2, ""))
+        self.assertIn("out: it has 2 sessions: --session N", err)
         self.assertIn("report_wns setup -> 7.000 ps", self.read("--session", "2"))
 
     def test_journal(self):
@@ -176,7 +178,7 @@ class Answers(unittest.TestCase):
         self.assertIn("this begins with no journal", common.tool("convert_journal", "saved", cwd=self.folder)[2])
 
     def test_edited_design(self):
-        edited = read_answers.Edited(documents.Netlist(NETLIST), documents.Library(LIBRARY), read_answers.Output(OUTPUT).ecos)
+        edited = read_answers.Edited(Netlist(NETLIST), Library(LIBRARY), read_answers.Output(OUTPUT).ecos)
         self.assertEqual(edited.at(1).nets["n2"].sinks, ["r2:D"])
         self.assertEqual((edited.at(2).nets["n2"].sinks, edited.at(2).nets["n3"].sinks), (["b1:A"], ["r2:D"]))
 
@@ -211,7 +213,7 @@ class Answers(unittest.TestCase):
         line = common.tool("net_parasitics", "top.spef", "n2", "--as", "n3", "--inner", "r2:D", cwd=self.folder)[1]
         self.assertEqual(line, "set_parasitics n3 c #1 2500 c #2 1000 r g1:Z #1 100000 r #1 #2 50000\n")
         status, _, err = common.tool("net_parasitics", "top.spef", "n2", "--inner", "r3:D", cwd=self.folder)
-        self.assertEqual(status, 1)
+        self.assertEqual(status, 2)
         self.assertIn("and not r3:D", err)
 
 
@@ -261,10 +263,10 @@ class SetUp(unittest.TestCase):
         for code, lines in test_faults.LINES.items():
             for line in lines:
                 text = CONSTRAINTS + line + "\n"
-                found = list(check_setup.sdc_faults(text, documents.read_commands(text), "top.sdc"))
+                found = list(check_setup.sdc_faults(text, read_commands(text), "top.sdc"))
                 self.assertEqual(bool(found), bool(code), f"{line}: {found}")
         example = (common.TOP / "examples" / "pulse-width" / "pulse_width.sdc").read_text()
-        self.assertEqual(list(check_setup.sdc_faults(example, documents.read_commands(example), "x")), [])
+        self.assertEqual(list(check_setup.sdc_faults(example, read_commands(example), "x")), [])
 
     def test_nothing_but_nets_without_wires(self):
         status, out, _ = self.check()
@@ -323,8 +325,8 @@ class Helps(unittest.TestCase):
                 self.assertRegex(err, f"^{tool}: [a-e]: No such file or directory\n$")
 
     def test_each_tool_has_help(self):
-        for tool in sorted(common.TOOLS.glob("*.py")):
-            if tool.read_text().startswith("#!"):
+        for folder in (common.TOOLS, common.DEV):
+            for tool in sorted(folder.glob("*.py")):
                 with self.subTest(tool.name):
                     status, out, err = common.run(tool, "--help")
                     self.assertEqual(status, 0, err)
