@@ -75,12 +75,20 @@ fn bare(alloc: Global) -> Cone {
     }
 }
 
+/// The number of nodes that so many starts make: one less.
+fn count_by(starts: usize) -> Result<u32, Stop> {
+    match u32::try_from(starts) {
+        Ok(starts) => Ok(starts.saturating_sub(1)),
+        Err(_) => Err(Stop::Row),
+    }
+}
+
 /// Adds the starts, the arcs and the ends of a row to a cone.
 fn add_parts(alloc: Global, cone: &mut Cone, row: &str) -> Result<(), Stop> {
     let (starts, rest) = parted(row, ';')?;
     let (arcs, ends) = parted(rest, ';')?;
     add_places(&mut cone.starts, starts)?;
-    cone.count = (cone.starts.len() as u32).saturating_sub(1);
+    cone.count = count_by(cone.starts.len())?;
     add_arcs(&mut cone.arcs, arcs)?;
     for end in ends.split('/') {
         add_end(alloc, &mut cone.ends, end)?;
