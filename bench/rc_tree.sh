@@ -13,13 +13,15 @@ cp -r "$top/crates/sta_units" "$top/crates/timing_defs" "$top/crates/rc_tree" "$
 grep -E '^(sta_units|timing_defs|rc_tree)[: ]' "$top/crates.txt" > "$work/crates.txt"
 echo 'rc_bench: rc_tree sta_units timing_defs' >> "$work/crates.txt"
 
-# Whether a tree can be asked for is tested as in the tests of trees.
-tests="$top/crates/engine_tests"
+# Whether a tree can be asked for is tested as in the rows of nets.
+rows="$top/crates/kernel_rows"
 mkdir -p "$work/crates/rc_bench"/{src,specs,proofs}
-cp "$tests/src/measures.rt" "$work/crates/rc_bench/src/"
-cp "$tests"/specs/{Lib,Measures}.antt "$work/crates/rc_bench/specs/"
-cp "$tests"/proofs/{Lib,Measuring}.antt "$work/crates/rc_bench/proofs/"
-sed -i 's/engine_tests/rc_bench/' "$work"/crates/rc_bench/{src/measures.rt,specs/Measures.antt,proofs/Measuring.antt}
+cp "$rows/src/measures.rt" "$work/crates/rc_bench/src/"
+cp "$rows/specs/Measures.antt" "$work/crates/rc_bench/specs/"
+cp "$rows/proofs/Measuring.antt" "$work/crates/rc_bench/proofs/"
+echo 'pub mod Measures' > "$work/crates/rc_bench/specs/Lib.antt"
+echo 'pub mod Measuring' > "$work/crates/rc_bench/proofs/Lib.antt"
+sed -i 's/kernel_rows/rc_bench/' "$work"/crates/rc_bench/{src/measures.rt,specs/Measures.antt,proofs/Measuring.antt}
 
 cat > "$work/crates/rc_bench/src/main.rt" <<'PROGRAM'
 //! Times trees of a long chain of resistors.

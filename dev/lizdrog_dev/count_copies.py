@@ -8,7 +8,7 @@ import re
 
 from lizdrog_tools.places import TOP
 
-TESTS = ("base_tests", "engine_tests", "reader_tests", "shell_tests")
+TESTS = ("base_tests", "kernel_rows", "reader_tests", "shell_tests")
 FUNCTION = re.compile(r"^([ ]*)(?:pub(?:\([a-z]+\))? )?(?:const )?fn (\w+).*?^\1\}$", re.M | re.S)
 ASIDE = re.compile(r"^\s*(?://|#\[|requires\b|ensures\b|decreases\b|ghost\b).*$", re.M)
 

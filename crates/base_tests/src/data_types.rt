@@ -1,10 +1,10 @@
-//! Names, lists, codes and copies.
+//! Lists, codes and copies.
 
 use crate::given::{name, one};
 use sta_units::{Again, Fs};
 use std::alloc::Global;
 use std::process::Abort;
-use timing_defs::{Code, Conn, EdgeTime, EdgeTimes, Inst, Items, Name, NodeRow, Tran, same_name};
+use timing_defs::{Code, Conn, EdgeTime, EdgeTimes, Inst, Items, NodeRow, Tran, same_name};
 
 fn inst(rt: &impl Abort, alloc: Global) -> Inst {
     let conn = Conn {
@@ -30,47 +30,6 @@ fn times(rt: &impl Abort, alloc: Global, count: u32) -> EdgeTimes {
             .expect(rt, "memory");
     }
     times
-}
-
-/// Asserts that a text that is a name keeps its bytes, as does the name's copy.
-fn assert_kept(rt: &impl Abort, alloc: Global, text: &str) {
-    let bytes = Vec::from_slice(alloc, text.as_bytes()).expect(rt, "memory");
-    if let Some(name) = Name::from_vec(bytes) {
-        assert_eq!(rt; name.as_bytes(), text.as_bytes());
-        let copy = name.copied(alloc).expect(rt, "memory");
-        assert_eq!(rt; copy.into_vec().as_slice(), text.as_bytes());
-    }
-}
-
-#[test]
-fn names_have_printable_bytes(rt: HostRuntime) {
-    let alloc = rt.alloc();
-    for &(text, wanted) in &[
-        ("u1:Z", true),
-        ("d[0]", true),
-        ("n/1", true),
-        ("!", true),
-        ("~", true),
-        ("", false),
-        ("a b", false),
-        ("a\t", false),
-        ("\u{7f}", false),
-        ("é", false),
-    ] {
-        let found = Name::from_bytes(alloc, text.as_bytes()).expect(&rt, "memory");
-        assert_eq!(rt; found.is_some(), wanted, "{text}");
-        assert_kept(&rt, alloc, text);
-    }
-}
-
-#[test]
-fn names_are_ordered_by_bytes(rt: HostRuntime) {
-    let alloc = rt.alloc();
-    let first = name(&rt, alloc, "u1:A");
-    let second = name(&rt, alloc, "u1:Z");
-    assert!(rt; first < second);
-    assert!(rt; same_name(&first, &first.clone().expect(&rt, "memory")));
-    assert!(rt; !same_name(&first, &second));
 }
 
 #[test]

@@ -14,10 +14,6 @@ mod given;
 #[cfg(test)]
 mod level_maps;
 #[cfg(test)]
-mod leveling;
-#[cfg(test)]
-mod look_ups;
-#[cfg(test)]
 mod memory_shelves;
 #[cfg(test)]
 mod memory_sinks;

@@ -4,65 +4,81 @@ use sta_outside::{Fetch, MemShelf, Shelf};
 use std::alloc::Global;
 use std::process::Abort;
 
-fn text(rt: &impl Abort, alloc: Global, text: &str) -> String {
-    String::from_str(alloc, text).expect(rt, "memory")
+/// The names and the texts of a shelf's documents.
+#[derive(Drop)]
+struct Documents {
+    names: Vec<String>,
+    texts: Vec<Vec<u8>>,
+}
+
+fn no_documents(alloc: Global) -> Documents {
+    Documents {
+        names: Vec::new(alloc),
+        texts: Vec::new(alloc),
+    }
+}
+
+fn add_document(rt: &impl Abort, alloc: Global, docs: &mut Documents, name: &str, text: Vec<u8>) {
+    let name = String::from_str(alloc, name).expect(rt, "memory");
+    docs.names.push(name).expect(rt, "memory");
+    docs.texts.push(text).expect(rt, "memory");
 }
 
 /// A library and an empty document, at a shelf that fails at its first and its fourth call.
 fn failing_shelf(rt: &impl Abort, alloc: Global) -> MemShelf {
-    let names = vec![in alloc; text(rt, alloc, "a.lib"), text(rt, alloc, "s1")].expect(
-        rt, "memory",
-    );
+    let mut docs = no_documents(alloc);
     let library = b"library".to_vec(alloc).expect(rt, "memory");
-    let docs = vec![in alloc; library, Vec::new(alloc)].expect(rt, "memory");
-    MemShelf::new(names, docs, vec![in alloc; 1, 4].expect(rt, "memory"))
+    add_document(rt, alloc, &mut docs, "a.lib", library);
+    add_document(rt, alloc, &mut docs, "s1", Vec::new(alloc));
+    let fails = Vec::from_slice(alloc, &[1, 4]).expect(rt, "memory");
+    MemShelf::new(docs.names, docs.texts, fails)
 }
 
-/// Asserts what a fetch has answered.
-fn assert_fetched(
+/// Asserts the text of a document, and how many calls have failed.
+fn assert_text(
     rt: &impl Abort,
-    fetched: &Result<Vec<u8>, Fetch>,
-    wanted: Result<&str, Fetch>,
+    alloc: Global,
+    shelf: &mut MemShelf,
     name: &str,
+    text: &str,
+    faults: u64,
 ) {
-    match (fetched, wanted) {
-        (Ok(doc), Ok(text)) => assert_eq!(rt; doc.as_slice(), text.as_bytes(), "at {name}"),
-        (Err(fault), Err(cause)) => assert_eq!(rt; *fault, cause, "at {name}"),
-        _ => assert!(rt; false, "at {name}: {fetched:?}"),
-    }
+    let doc = shelf.fetch(alloc, name).expect(rt, "a document");
+    assert_eq!(rt; doc.as_slice(), text.as_bytes());
+    assert_eq!(rt; shelf.fault_count(), faults);
+}
+
+/// Asserts why there is no document, and how many calls have failed.
+fn assert_fault(
+    rt: &impl Abort,
+    alloc: Global,
+    shelf: &mut MemShelf,
+    name: &str,
+    fault: Fetch,
+    faults: u64,
+) {
+    assert_eq!(rt; shelf.fetch(alloc, name).err(), Some(fault));
+    assert_eq!(rt; shelf.fault_count(), faults);
 }
 
 #[test]
 fn a_shelf_in_memory_answers_by_its_plan_and_its_names(rt: HostRuntime) {
-    let mut shelf = failing_shelf(&rt, rt.alloc());
-    for &(name, wanted, faults) in &[
-        ("a.lib", Err(Fetch::Failed), 1),
-        ("a.lib", Ok("library"), 1),
-        ("b.lib", Err(Fetch::Absent), 1),
-        ("b.lib", Err(Fetch::Failed), 2),
-        ("s1", Ok(""), 2),
-    ] {
-        let fetched = shelf.fetch(rt.alloc(), name);
-        assert_fetched(&rt, &fetched, wanted, name);
-        assert_eq!(rt; shelf.fault_count(), faults, "at {name}");
-    }
-}
-
-/// A document of so many spaces, at a shelf that does not fail.
-fn long_shelf(rt: &impl Abort, alloc: Global, len: usize) -> MemShelf {
-    let names = vec![in alloc; text(rt, alloc, "long")].expect(rt, "memory");
-    let doc = vec![in alloc; 32; len].expect(rt, "memory");
-    let docs = vec![in alloc; doc].expect(rt, "memory");
-    MemShelf::new(names, docs, Vec::new(alloc))
+    let alloc = rt.alloc();
+    let mut shelf = failing_shelf(&rt, alloc);
+    assert_fault(&rt, alloc, &mut shelf, "a.lib", Fetch::Failed, 1);
+    assert_text(&rt, alloc, &mut shelf, "a.lib", "library", 1);
+    assert_fault(&rt, alloc, &mut shelf, "b.lib", Fetch::Absent, 1);
+    assert_fault(&rt, alloc, &mut shelf, "b.lib", Fetch::Failed, 2);
+    assert_text(&rt, alloc, &mut shelf, "s1", "", 2);
 }
 
 #[test]
 fn a_document_past_the_limit_is_too_long(rt: HostRuntime) {
-    let mut shelf = long_shelf(&rt, rt.alloc(), 67_108_865);
+    let alloc = rt.alloc();
     let seen = 67_108_865;
-    assert_eq!(rt;
-        shelf.fetch(rt.alloc(), "long").err(),
-        Some(Fetch::TooLong { seen })
-    );
-    assert_eq!(rt; shelf.fault_count(), 0);
+    let mut docs = no_documents(alloc);
+    let text = vec![in alloc; 32; 67_108_865].expect(&rt, "memory");
+    add_document(&rt, alloc, &mut docs, "long", text);
+    let mut shelf = MemShelf::new(docs.names, docs.texts, Vec::new(alloc));
+    assert_fault(&rt, alloc, &mut shelf, "long", Fetch::TooLong { seen }, 0);
 }

@@ -4,6 +4,7 @@ use sta_outside::{PutFault, Sink, StdSink};
 use std::fmt::Display;
 use std::io;
 use std::io::{ErrorKind, Print};
+use std::process::Abort;
 
 /// A standard output that takes at most this many bytes at a time, or fails.
 #[derive(Drop)]
@@ -32,19 +33,27 @@ impl Print for Narrow {
     }
 }
 
+/// Asserts what a sink does with a piece where the output takes so many bytes at a time, and how
+/// many calls have failed.
+fn assert_put(
+    rt: &impl Abort,
+    takes: Option<usize>,
+    piece: &str,
+    wanted: Result<(), PutFault>,
+    faults: u64,
+) {
+    let output = Narrow { takes };
+    let mut sink = StdSink::new(&output);
+    assert_eq!(rt; sink.put(piece.as_bytes()), wanted);
+    assert_eq!(rt; sink.fault_count(), faults);
+}
+
 #[test]
 fn a_piece_is_put_whole_or_a_fault_is_counted(rt: HostRuntime) {
-    for &(takes, piece, wanted, faults) in &[
-        (Some(3), "journal", Ok(()), 0),
-        (Some(0), "journal", Err(PutFault::Failed), 1),
-        (Some(0), "", Ok(()), 0),
-        (None, "journal", Err(PutFault::Failed), 1),
-    ] {
-        let output = Narrow { takes };
-        let mut sink = StdSink::new(&output);
-        assert_eq!(rt; sink.put(piece.as_bytes()), wanted, "{takes:?} at a time");
-        assert_eq!(rt; sink.fault_count(), faults, "{takes:?} at a time");
-    }
+    assert_put(&rt, Some(3), "journal", Ok(()), 0);
+    assert_put(&rt, Some(0), "journal", Err(PutFault::Failed), 1);
+    assert_put(&rt, Some(0), "", Ok(()), 0);
+    assert_put(&rt, None, "journal", Err(PutFault::Failed), 1);
 }
 
 #[test]

@@ -1,6 +1,0 @@
-use Rattle.std.proofs.Common.{ℕ, ◌<◌}
-use Rattle.engine_tests.specs.WrittenNets.{net_of, IsPlace}
-use Rattle.engine_tests.proofs.written_nets.are_places.Given as goal
-
-abbrev pub invariant-loop-node : goal.invariant-loop-node
-invariant-loop-node l = (n : ℕ) → n < l.node → IsPlace (net_of l.fan) n
