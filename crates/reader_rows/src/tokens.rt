@@ -38,7 +38,10 @@ fn show_token(token: &Token<'_>, document: &[u8], out: &mut Text) {
 pub(crate) fn answer_tokens(style: Style, document: &[u8], out: &mut Text) {
     tokens_in_order();
     let mut cursor = Cursor::new(document, style);
-    while let Some(token) = cursor.next() {
-        show_token(&token, document, out);
+    for _ in 0..u64::MAX {
+        match cursor.next() {
+            Some(token) => show_token(&token, document, out),
+            None => return,
+        }
     }
 }
