@@ -1,23 +1,7 @@
-//! Tests of the readers of texts, and of the texts that are written.
+//! Tests of the texts that are written, and of the least fault. What the readers give is in the rows of `reader_rows`.
 #![tactic(auto)]
 
 #[cfg(test)]
-mod cell_libraries;
-#[cfg(test)]
-mod constraints;
-#[cfg(test)]
-mod journals;
-#[cfg(test)]
-mod liberty_trees;
-#[cfg(test)]
-mod netlists;
-#[cfg(test)]
-mod parasitics;
+mod faults;
 #[cfg(test)]
 mod reports;
-#[cfg(test)]
-mod scripts;
-#[cfg(test)]
-mod showing;
-#[cfg(test)]
-mod tokens;

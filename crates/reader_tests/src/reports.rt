@@ -1,13 +1,12 @@
 //! Rows, journals and whole outputs in their exact bytes.
 
-use crate::showing::assert_text;
 use eco_journal::read_entries;
 use report_text::{journal_bytes, output_bytes, output_saved_bytes, report_bytes};
 use sta_units::Fs;
 use std::alloc::Global;
 use std::process::Abort;
 use timing_defs::{
-    Advice, Answer, Clock, Derates, EdgeTime, EndRow, Fault, Items, Kind, Large, Name, Path,
+    Advice, Answer, Clock, Derates, EdgeTime, EndRow, Entry, Fault, Items, Kind, Large, Name, Path,
     PathNode, Place, Query, QueryFault, Report, Row, Split, Totals, Tran, Transcript, TrialAnswer,
     TrialRow,
 };
@@ -156,6 +155,11 @@ const UNSCALED: Derates = Derates {
     late_net: 1_000_000,
 };
 
+/// Asserts the bytes of a text.
+fn assert_text(rt: &impl Abort, found: &[u8], want: &str) {
+    assert_eq!(rt; found, want.as_bytes(), "{want}");
+}
+
 fn named(rt: &impl Abort, alloc: Global, text: &str) -> Name {
     Name::from_bytes(alloc, text.as_bytes())
         .expect(rt, "memory")
@@ -280,7 +284,15 @@ fn rows_bytes(rt: &impl Abort, alloc: Global, rows: &Items<Row>) -> Vec<u8> {
         let bytes = report_bytes(alloc, row, &clocks).expect(rt, "memory");
         out.extend_from_slice(bytes.as_slice()).expect(rt, "memory");
     }
+    drop(clocks);
     out
+}
+
+/// Asserts the bytes of a session's rows.
+fn assert_rows(rt: &impl Abort, alloc: Global, session: Session, want: &str) {
+    let bytes = rows_bytes(rt, alloc, &session.rows);
+    assert_text(rt, bytes.as_slice(), want);
+    drop(session);
 }
 
 /// The refusal of a code from E1 to E15 with one name.
@@ -316,8 +328,7 @@ fn refusals_have_a_code_and_a_name(rt: HostRuntime) {
         );
         session.said(&rt, 1, 0, answer);
     }
-    let bytes = rows_bytes(&rt, alloc, &session.rows);
-    assert_text(&rt, bytes.as_slice(), NAMED);
+    assert_rows(&rt, alloc, session, NAMED);
 }
 
 /// The pins of a cycle.
@@ -411,8 +422,7 @@ fn rows_have_their_words(rt: HostRuntime) {
     push_answers(&rt, alloc, &mut session);
     push_times(&rt, alloc, &mut session);
     push_values(&rt, alloc, &mut session);
-    let bytes = rows_bytes(&rt, alloc, &session.rows);
-    assert_text(&rt, bytes.as_slice(), ROWS);
+    assert_rows(&rt, alloc, session, ROWS);
 }
 
 /// A path from a rise of the first clock to its next.
@@ -460,8 +470,7 @@ fn a_path_has_a_line_for_each_node(rt: HostRuntime) {
     let mut session = Session::new(alloc);
     let query = worst_path(&rt, alloc, "r2:D", Kind::Setup);
     session.told(&rt, 1, 0, query, Report::Shown(Some(credited(&rt, alloc))));
-    let bytes = rows_bytes(&rt, alloc, &session.rows);
-    assert_text(&rt, bytes.as_slice(), PATH);
+    assert_rows(&rt, alloc, session, PATH);
 }
 
 fn ranked(rt: &impl Abort, alloc: Global) -> Query {
@@ -490,8 +499,7 @@ fn ranked_paths_have_a_block_each(rt: HostRuntime) {
     session.told(&rt, 1, 0, ranked(&rt, alloc), Report::Paths(paths));
     let none = Report::Paths(Items::new(alloc));
     session.told(&rt, 2, 0, ranked(&rt, alloc), none);
-    let bytes = rows_bytes(&rt, alloc, &session.rows);
-    assert_text(&rt, bytes.as_slice(), RANKED);
+    assert_rows(&rt, alloc, session, RANKED);
 }
 
 fn add_trial(
@@ -540,8 +548,7 @@ fn trials_and_advice_have_their_words(rt: HostRuntime) {
     };
     session.told(&rt, 2, 0, advise(alloc), Report::Advised(Some(advice)));
     session.told(&rt, 3, 0, advise(alloc), Report::Advised(None));
-    let bytes = rows_bytes(&rt, alloc, &session.rows);
-    assert_text(&rt, bytes.as_slice(), DRAFTED);
+    assert_rows(&rt, alloc, session, DRAFTED);
 }
 
 fn contest(rt: &impl Abort, alloc: Global) -> Session {
@@ -571,6 +578,23 @@ fn alone(rt: &impl Abort, alloc: Global, session: Session) -> Items<Transcript> 
     transcripts
 }
 
+/// Asserts the bytes of a run's output.
+fn assert_output(
+    rt: &impl Abort,
+    alloc: Global,
+    entries: Items<Entry>,
+    transcripts: Items<Transcript>,
+    totals: &Totals,
+    want: &str,
+) {
+    let clocks = clocks(rt, alloc);
+    let bytes = output_bytes(alloc, &entries, &transcripts, &clocks, totals).expect(rt, "memory");
+    assert_text(rt, bytes.as_slice(), want);
+    drop(entries);
+    drop(transcripts);
+    drop(clocks);
+}
+
 #[test]
 fn an_output_has_its_rows_and_totals(rt: HostRuntime) {
     let alloc = rt.alloc();
@@ -582,15 +606,7 @@ fn an_output_has_its_rows_and_totals(rt: HostRuntime) {
         hold_wns: Some(Fs(40_500)),
         hold_tns: Fs(0),
     };
-    let bytes = output_bytes(
-        alloc,
-        &Items::new(alloc),
-        &transcripts,
-        &clocks(&rt, alloc),
-        &totals,
-    )
-    .expect(&rt, "memory");
-    assert_text(&rt, bytes.as_slice(), CONTEST);
+    assert_output(&rt, alloc, Items::new(alloc), transcripts, &totals, CONTEST);
 }
 
 #[test]
@@ -599,6 +615,7 @@ fn a_journal_is_read_and_written(rt: HostRuntime) {
     let entries = read_entries(alloc, RESIZED.as_bytes()).expect(&rt, "entries");
     let bytes = journal_bytes(alloc, &entries).expect(&rt, "memory");
     assert_text(&rt, bytes.as_slice(), RESIZED);
+    drop(entries);
 }
 
 /// Endpoints by their least slack.
@@ -653,10 +670,7 @@ fn sessions_are_numbered(rt: HostRuntime) {
         hold_wns: None,
         hold_tns: Fs(0),
     };
-    let bytes = output_bytes(alloc, &entries, &transcripts, &clocks(&rt, alloc), &totals).expect(
-        &rt, "memory",
-    );
-    assert_text(&rt, bytes.as_slice(), SESSIONS);
+    assert_output(&rt, alloc, entries, transcripts, &totals, SESSIONS);
 }
 
 /// A resize behind a saved one.
@@ -697,4 +711,7 @@ fn an_output_goes_on_from_a_saved_journal(rt: HostRuntime) {
     )
     .expect(&rt, "memory");
     assert_text(&rt, bytes.as_slice(), SAVED);
+    drop(entries);
+    drop(transcripts);
+    drop(clocks);
 }
