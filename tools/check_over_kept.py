@@ -104,7 +104,8 @@ def words_of(kit, uses, name, kept):
     sources = [crate for crate in libs if crate not in kept]
     mine = ported(name)
     more = sorted({"core", *[it for crate in sources for it in ported(crate)]} - set(mine))
-    words = ["check", "--crate-name", name, "src/lib.rt", "-L", f"dependency={kit}/rlibs"]
+    root = "src/main.rt" if (ROOT / "crates" / name / "src" / "main.rt").is_file() else "src/lib.rt"
+    words = ["check", "--crate-name", name, root, "-L", f"dependency={kit}/rlibs"]
     for it in [*mine, *more]:
         words += ["--extern", f"{it}={kit}/rlibs/{it}.rlib"]
     for crate in libs:
