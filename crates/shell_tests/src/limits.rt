@@ -18,15 +18,20 @@ fn taken(rt: &impl Abort, alloc: Global, count: u32) -> String {
     text
 }
 
+/// The registers, and a script of so many takings.
+fn takings(rt: &impl Abort, alloc: Global, count: usize) -> Texts {
+    let script = "take\n".repeat(alloc, count).expect(rt, "memory");
+    let mut texts = Texts::new(alloc);
+    texts.add(rt, alloc, &REGISTERS);
+    texts.add_text(rt, alloc, "s1", script.into_bytes());
+    texts
+}
+
 #[test]
 fn ten_thousand_commands_are_run(rt: HostRuntime) {
     let alloc = rt.alloc();
-    let script = "take\n".repeat(alloc, 10_000).expect(&rt, "memory");
-    let mut texts = Texts::new(alloc);
-    texts.add(&rt, alloc, &REGISTERS);
-    texts.add(&rt, alloc, &[("s1", script.as_str())]);
     let line = "run early.lib late.lib b.v b.sdc none 2 s1";
-    let (status, text) = run(&rt, alloc, line, texts, &NoGate);
-    assert_eq!(rt; status, 0);
-    assert!(rt; text.as_str() == taken(&rt, alloc, 10_000).as_str());
+    let (status, text) = run(&rt, alloc, line, takings(&rt, alloc, 10_000), &NoGate);
+    let wanted = taken(&rt, alloc, 10_000);
+    assert!(rt; status == 0 && text.as_str() == wanted.as_str());
 }

@@ -55,7 +55,7 @@ fn one_session<H: Abort + Threads + Wait + Sync>(rt: &H, alloc: Global) -> (Stat
     running::run(rt, alloc, line, texts_of(rt, alloc), &NoGate)
 }
 
-/// The totals of a text, as it ends with them: what is behind these words, the last time.
+/// The totals of a text, as it ends with them: what follows these words, the last time.
 fn totals<'a>(text: &'a str, words: &str) -> &'a str {
     match text.rsplit_once(words) {
         Some((_, totals)) => totals,

@@ -5,7 +5,7 @@ use super::preparing::{ANSWERS, ASKED, SCRIPTS};
 use super::{TWO, compare};
 use sta_outside::{Gate, Point};
 
-/// Lets the pieces of levels count behind the look of session 1's ECO alone. Session 2 has no ECO, so these pieces are session 1's.
+/// Lets the pieces of levels count after the look of session 1's ECO alone. Session 2 has no ECO, so these pieces are session 1's.
 #[derive(Drop)]
 struct BehindLook {
     meeting: Meeting,
