@@ -1,17 +1,19 @@
 #!/usr/bin/env python3
-"""Times drafts and advice beside ECOs: drafts.py [--cells N] [--pairs P] [--each E] [--candidates C] [--workers W] [--program FILE]
+"""Times drafts and advice beside ECOs: drafts.py [--cells N] [--pairs P] [--each E] [--candidates C] [--workers W]
+[--program FILE]
 
-A design of N cells (default: 50000) is made by bench/design.py with parasitics by bench/spef.py. Each of P rounds (default: 9) draws a gate
-of the data path and makes four runs, one after the other, in another order each time:
+A design of N cells (default: 50000) is made by bench/design.py with parasitics by bench/spef.py. Each of P rounds
+(default: 9) draws a gate of the data path and makes four runs, one after the other, in another order each time:
 
   alone   report_wns setup
   eco     and E times (default: 40) a resize of the gate, to the stronger cell or back, with report_wns setup behind it
   draft   and E times a draft of that resize and report_wns setup: begin_what_if, repower_gate, report_wns, end_what_if
   advice  and a quarter of E times `advise setup` with C (default: 20) other gates, each to its stronger cell
 
-The milliseconds of an ECO, a draft and an advice are the difference to the run alone, by how many there are. It prints for each the median and the
-range of the rounds, the median and the range of a draft by an ECO of the same round, and the same of an advice by C ECOs. FILE is the program to
-run (default: the one that the gate has proved and built). Where other programs run, the numbers say little.
+The milliseconds of an ECO, a draft and an advice are the difference to the run alone, by how many there are. It prints
+for each the median and the range of the rounds, the median and the range of a draft by an ECO of the same round, and
+the same of an advice by C ECOs. FILE is the program to run (default: the one that the gate has proved and built). Where
+other programs run, the numbers say little.
 """
 import argparse
 import os
@@ -21,19 +23,21 @@ import re
 import statistics
 import tempfile
 
-import ecos
+from lizdrog_dev import ecos
 
 
 def scripts(name, others, each):
     """The scripts of a round, by the names of its runs."""
     sizes = [2 - at % 2 for at in range(each)]
     draft = f"begin_what_if\nrepower_gate {name} NAND2_X2\n{ecos.REPORT}end_what_if\n"
-    return {"alone": "", "eco": "".join(f"repower_gate {name} NAND2_X{size}\n{ecos.REPORT}" for size in sizes), "draft": draft * each,
+    return {"alone": "", "eco": "".join(f"repower_gate {name} NAND2_X{size}\n{ecos.REPORT}" for size in sizes),
+            "draft": draft * each,
             "advice": f"advise setup {' '.join(f'{it} NAND2_X2' for it in others)}\n" * max(1, each // 4)}
 
 
 def told(what, values, unit=" ms"):
-    print(f"{what:30} median {statistics.median(values):8.2f}{unit} ({min(values):.2f} to {max(values):.2f})", flush=True)
+    print(f"{what:30} median {statistics.median(values):8.2f}{unit} ({min(values):.2f} to {max(values):.2f})",
+          flush=True)
 
 
 def main():
@@ -60,7 +64,8 @@ def main():
     told("a draft of the same", took["draft"])
     told(f"an advice of {words.candidates}", took["advice"])
     told("a draft by an ECO", [a / b for a, b in zip(took["draft"], took["eco"])], " times")
-    told(f"an advice by {words.candidates} ECOs", [a / b / words.candidates for a, b in zip(took["advice"], took["eco"])], " times")
+    told(f"an advice by {words.candidates} ECOs", [a / b / words.candidates for a,
+                                                   b in zip(took["advice"], took["eco"])], " times")
 
 
 if __name__ == "__main__":

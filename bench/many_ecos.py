@@ -1,8 +1,9 @@
 #!/usr/bin/env python3
 """Tells the memory of many ECOs: bench/many_ecos.py PROGRAM [CELLS [SESSIONS [ECOS [WORKERS]]]]
 
-A design of CELLS cells (50,000 where none are given) is made by design.py, with wires by spef.py. SESSIONS sessions (16) run beside each other with WORKERS
-workers (1), each of ECOS resizes (1,000) of gates that no other session has, every tenth followed by `report_wns setup`. It prints the most memory that the
+A design of CELLS cells (50,000 where none are given) is made by design.py, with wires by spef.py. SESSIONS sessions
+(16) run beside each other with WORKERS workers (1), each of ECOS resizes (1,000) of gates that no other session has,
+every tenth followed by `report_wns setup`. It prints the most memory that the
 run had, the seconds of all processors, and how many entries the journal has. The status is 1 where one is missing."""
 import os
 import pathlib
@@ -12,7 +13,7 @@ import subprocess
 import sys
 import tempfile
 
-import pairs
+from lizdrog_dev import pairs
 
 SIZES = ["NAND2_X1", "NAND2_X2"]
 
@@ -50,8 +51,9 @@ def main():
             _, status, used = os.wait4(child.pid, 0)
             answers.seek(0)
             entries = sum(line.startswith("entry ") for line in answers)
-    print(f"{cells} cells, {sessions} sessions of {count} ECOs, {workers} worker{'' if workers == 1 else 's'}: {entries} entries, "
-          f"{used.ru_maxrss // 1024:,} MB at most, {used.ru_utime + used.ru_stime:.0f} s of processors, wait status {status}")
+    print(f"{cells} cells, {sessions} sessions of {count} ECOs, {workers} worker{'' if workers == 1 else 's'}: "
+          f"{entries} entries, {used.ru_maxrss // 1024:,} MB at most, {used.ru_utime + used.ru_stime:.0f} s of "
+          f"processors, wait status {status}")
     return 0 if status == 0 and entries == sessions * count else 1
 
 

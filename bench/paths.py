@@ -27,9 +27,9 @@ import subprocess
 import sys
 import tempfile
 
-import design
-import ecos
-import trials
+from lizdrog_dev import design
+from lizdrog_dev import ecos
+from lizdrog_dev import trials
 
 MOST = 10000
 

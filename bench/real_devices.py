@@ -1,7 +1,7 @@
 #!/usr/bin/env python3
 """Runs a program on devices that fail: real_devices.py [--program FILE] [--seed S] [--short] [--only WORDS]
 
-What is tried, with the two inverters of README.md and the status and text that README.md gives for each:
+What is tried, with the two inverters of examples/two-inverters and the status and text that docs/COMMANDS.md gives for each:
   output     /dev/full, a pipe that is closed before or after some bytes, one that takes no more, no standard output at all, a slow reader
   documents  each in turn missing, a directory, below a file, behind links that lead to each other, with a name of 5000 bytes, unreadable
              (as root, the program runs as `nobody` for this), one whose reads fail (/proc/self/mem), without an end (/dev/zero), of
@@ -26,13 +26,13 @@ import tempfile
 import threading
 import time
 
-import trials
+from lizdrog_dev import trials
 
 LIMIT = 67108864
 NOBODY = 65534
 FILES = {"EARLY": "early.lib", "LATE": "late.lib", "NETLIST": "chain.v", "SDC": "none.sdc", "SPEF": "chain.spef", "JOURNAL": "saved", "SCRIPT": "report.eco"}
 SPEF = b'*SPEF "IEEE 1481-1998"\n*DELIMITER :\n*C_UNIT 1 FF\n*R_UNIT 1 OHM\n'
-# What README.md says of the example, and docs/SCRIPTS.md of a run with --journal.
+# What examples/two-inverters/README.md says, and docs/SCRIPTS.md of a run with --journal.
 NORMAL = b"journal 1 0\nsession 1 rows 1\n1 0 slew 4.000\nfinal 0 setup none 0.000 hold none 0.000\n"
 BEHIND = NORMAL.replace(b"journal 1 0\n", b"journal 2 0 0\nderates 1000000 1000000 1000000 1000000\n")
 QUESTIONS = 9000
@@ -376,7 +376,7 @@ def main():
                 return 1
             count += 1
             print(f"  {name}: {ended}", flush=True)
-    print(f"{count} cases, each as README.md says")
+    print(f"{count} cases, each as docs/COMMANDS.md says")
     return 0
 
 

@@ -1,27 +1,33 @@
 #!/usr/bin/env python3
-"""Refuses memory to a program, one call after the other: refused_memory.py [--program FILE] [--first A] [--last B] [--step N] [--most M]
+"""Refuses memory to a program, one call after the other: refused_memory.py [--program FILE] [--first A] [--last B]
+[--step N] [--most M]
                                                             [--fresh F] [--seed S] [--only NAME] [--at K]
 
 Runs, each with documents of the gate's worked rows or of the examples (--only NAME takes one, and may come again):
   row-1      two inverters, one question         row-9      two registers, a resize and reports, 2 workers
   row-15     ECOs that are refused               drafts     edits that are tried, dropped and asked about
-  advice     resizes to choose from              beside     two sessions with an ECO each behind a saved journal (--journal)
-  generated  `generate 1 4 4`                    commands   each command once, with buffers, parasitics, groups, a draft and an advice
+  advice     resizes to choose from              beside     two sessions with an ECO each behind a saved journal
+             (--journal)
+  generated  `generate 1 4 4`                    commands   each command once, with buffers, parasitics, groups, a draft
+             and an advice
   contest    parasitics, escaped names           journal    one session behind a saved journal
   sessions   two sessions with an ECO each
-The Kth call for memory is refused, for each K from A (1) to B, or until a run makes fewer (with --step N, each Nth K, the first drawn by
-the seed S; with --most M, M of them at most, evenly); then the Kth and all behind it, for a tenth as many K; then the Kth new thread, and that
-and all behind it. Each run has to give its normal output or status 6 with nothing written, within 60 s. With several sessions a normal
-output is one that tools/check_sessions.py passes. It prints how many were tried and what came, and ends with 1 at the first that deviates;
---only NAME --at 'memory K' (or 'from K', 'threads K', 'no-threads K') repeats it, as far as threads come in the same order.
+The Kth call for memory is refused, for each K from A (1) to B, or until a run makes fewer (with --step N, each Nth K,
+the first drawn by the seed S; with --most M, M of them at most, evenly); then the Kth and all behind it, for a tenth as
+many K; then the Kth new thread, and that and all behind it. Each run has to give its normal output or status 6 with
+nothing written, within 60 s. With several sessions a normal output is one that tools/check_sessions.py passes. It
+prints how many were tried and what came, and ends with 1 at the first that deviates;
+--only NAME --at 'memory K' (or 'from K', 'threads K', 'no-threads K') repeats it, as far as threads come in the same
+order.
 
-How far this reaches: refuse_memory.c beside this script is compiled into a temporary folder and loaded before the C library (LD_PRELOAD). The
-program, proved or not, gets all of its memory by malloc and realloc of the C library, and its threads by pthread_create, so each call is
-reached, also those of the C library itself; `ulimit -v` reaches what the kernel refuses (real_devices.py). One run is copied (fork) at each
-call, the copy is refused it and goes on, which takes far less time than a run from its beginning; behind the first thread, copies begin before
-that thread. F refusals of each run (20), evenly, are made in runs of their own besides. `rt try --fail-alloc` does
-not serve here: it refuses in a program that it builds itself, and ends after 2,000 runs, where the least of these makes some 38,000 calls.
-That objects which outlive a refusal are as before cannot be seen from outside, since each refusal ends the run.
+How far this reaches: refuse_memory.c beside this script is compiled into a temporary folder and loaded before the C
+library (LD_PRELOAD). The program, proved or not, gets all of its memory by malloc and realloc of the C library, and its
+threads by pthread_create, so each call is reached, also those of the C library itself; `ulimit -v` reaches what the
+kernel refuses (real_devices.py). One run is copied (fork) at each call, the copy is refused it and goes on, which takes
+far less time than a run from its beginning; behind the first thread, copies begin before that thread. F refusals of
+each run (20), evenly, are made in runs of their own besides. `rt try --fail-alloc` does not serve here: it refuses in a
+program that it builds itself, and ends after 2,000 runs, where the least of these makes some 38,000 calls. That objects
+which outlive a refusal are as before cannot be seen from outside, since each refusal ends the run.
 """
 import argparse
 import collections
@@ -36,19 +42,18 @@ import sys
 import tempfile
 import time
 
-import trials
+from lizdrog_dev import trials
 
-sys.path.insert(0, str(trials.TOP / "tools"))
-import check_sessions  # noqa: E402
-import read_answers  # noqa: E402
+from lizdrog_tools import check_sessions
+from lizdrog_tools import read_answers
 
 GENERATED = ["generate", "1", "4", "4"]
 RECORD = struct.Struct("<QqQQQ")
 COLUMNS = [(word, ended) for word in ("memory", "from", "threads", "no-threads") for ended in ("status 6", "normal")]
-DRAFTS = trials.one_script("begin_what_if", "repower_gate g2 BUF_X4", "report_endpoint r2:D setup", "drop_last", "report_endpoint r2:D setup",
-                           "repower_gate g2 NOCELL", "drop_last", "end_what_if", "take")
-ADVICE = trials.one_script("advise setup cb BUF_X4 g2 BUF_X4", "advise hold cb BUF_X4 cb NOCELL", "advise setup cb NOCELL",
-                           "advise setup g2 BUF_X1 g2 BUF_X4")
+DRAFTS = trials.one_script("begin_what_if", "repower_gate g2 BUF_X4", "report_endpoint r2:D setup", "drop_last",
+                           "report_endpoint r2:D setup", "repower_gate g2 NOCELL", "drop_last", "end_what_if", "take")
+ADVICE = trials.one_script("advise setup cb BUF_X4 g2 BUF_X4", "advise hold cb BUF_X4 cb NOCELL",
+                           "advise setup cb NOCELL", "advise setup g2 BUF_X1 g2 BUF_X4")
 SAVED = b"journal 1 1\nentry 1 session 1 edits 1\nrepower_gate g1 BUF_X4\n"
 
 
@@ -62,7 +67,8 @@ class Refusing:
             design.write(folder)
         first, self.calls, self.threads, _ = self.run("memory 0")
         if first.status not in (0, 1):
-            sys.exit(f"{design.name}: the run without a refusal ended with {first.ended()}: {first.out[:200]!r} {first.err[:200]!r}")
+            sys.exit(f"{design.name}: the run without a refusal ended with {first.ended()}: {first.out[:200]!r} "
+                     f"{first.err[:200]!r}")
         self.normal = first
 
     def environment(self, refuse):
@@ -77,13 +83,22 @@ class Refusing:
         return ran, *struct.unpack("<3Q", (self.folder / "tally").read_bytes())
 
     def copies(self, kind, numbers):
-        """Copies of one run with a refusal each, of these calls, and of those behind the last call of the first run that a copy reaches: the
+        """Copies of one run with a refusal each, of these calls, and of those behind the last call of the first run
+        that a copy reaches: the
         call, how the copy ended, and how many refusals there were."""
         read, write = os.pipe()
         refuse = f"{kind} {numbers.start} {numbers.step} {self.calls} {write}"
-        with open(self.folder / "out", "w+b") as out, open(self.folder / "err", "w+b") as err, open(read, "rb") as records, subprocess.Popen(
-                [self.program, *self.design.words], cwd=self.folder, stdin=subprocess.DEVNULL, stdout=out, stderr=err, pass_fds=[write],
-                env=self.environment(refuse)) as child:
+        with open(self.folder / "out", "w+b") as out, open(self.folder / "err", "w+b") as err, open(
+            read, "rb"
+        ) as records, subprocess.Popen(
+            [self.program, *self.design.words],
+            cwd=self.folder,
+            stdin=subprocess.DEVNULL,
+            stdout=out,
+            stderr=err,
+            pass_fds=[write],
+            env=self.environment(refuse),
+        ) as child:
             os.close(write)
             try:
                 while record := records.read(RECORD.size):
@@ -91,7 +106,8 @@ class Refusing:
                     texts = [records.read(size) for size in sizes]
                     if numbers.stop <= min(number, self.calls):
                         return
-                    yield number, trials.Ran(None if status < 0 else os.waitstatus_to_exitcode(status), *texts, 60), refused
+                    yield number, trials.Ran(None if status < 0 else os.waitstatus_to_exitcode(status), *texts,
+                                             60), refused
             finally:
                 child.kill()
         if child.returncode not in (0, self.normal.status, -signal.SIGKILL):
@@ -110,7 +126,8 @@ class Refusing:
 
     def is_legal(self, ran):
         """Whether each answer is that of one session alone."""
-        scripts = [read_answers.read_script(self.design.files[it].decode()) for role, it in self.design.roles() if role.startswith("script")]
+        scripts = [read_answers.read_script(self.design.files[it].decode()) for role, it in self.design.roles()
+                   if role.startswith("script")]
         try:
             trials.check_answer(ran, {}, len(scripts), self.is_saved)
             checked = check_sessions.Sessions(scripts, read_answers.Output(ran.out.decode()))
@@ -235,11 +252,13 @@ def main():
                 tried = try_all(it, given, random.Random(f"{given.seed}-{design.name}"))
             except Found as found:
                 word, why = found.args
-                print(f"{design.name}, {word}: {why}\nagain: bench/refused_memory.py --only {design.name} --at '{word}'")
+                print(f"{design.name}, {word}: {why}\nagain: bench/refused_memory.py --only {design.name} --at "
+                      f"'{word}'")
                 return 1
             rows.append([design.name, it.calls, it.threads, tried.fresh, *counted(tried.counts)])
             print(f"  {design.name}: {sum(rows[-1][5:])} refusals in {time.monotonic() - begun:.0f} s", flush=True)
-    trials.table("refusals, and how runs ended", ["run", "calls", "threads", "in runs", "not reached", *(f"{word}: {ended}" for word, ended in COLUMNS)], rows)
+    trials.table("refusals, and how runs ended", ["run", "calls", "threads", "in runs", "not reached",
+                                                  *(f"{word}: {ended}" for word, ended in COLUMNS)], rows)
     print(f"{sum(sum(row[5:]) for row in rows)} refusals, each with its normal output or status 6 and nothing written")
     return 0
 

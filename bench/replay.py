@@ -1,11 +1,13 @@
 #!/usr/bin/env python3
-"""Times the replay of a saved journal: replay.py [--cells N] [--entries E] [--pairs P] [--workers W] [--folder DIR] [--program FILE]
+"""Times the replay of a saved journal: replay.py [--cells N] [--entries E] [--pairs P] [--workers W] [--folder DIR]
+[--program FILE]
 
-A design of N cells (default: 50000) is made by bench/design.py with parasitics by bench/spef.py, and a journal of E entries (default:
-10000), each the resize of a gate of the data path, to the stronger cell or back. P pairs of runs with an empty script are made (default:
-3): one on the saved journal, one on an empty one. The seconds of the replay are the difference, the reading of the journal among them; the
-processor's seconds are given beside. Both last lines have to agree with E. With --folder the design is kept there, and taken from there
-where it is there already. FILE is the program to run (default: the one that the gate has proved and built).
+A design of N cells (default: 50000) is made by bench/design.py with parasitics by bench/spef.py, and a journal of E
+entries (default: 10000), each the resize of a gate of the data path, to the stronger cell or back. P pairs of runs with
+an empty script are made (default: 3): one on the saved journal, one on an empty one. The seconds of the replay are the
+difference, the reading of the journal among them; the processor's seconds are given beside. Both last lines have to
+agree with E. With --folder the design is kept there, and taken from there where it is there already. FILE is the
+program to run (default: the one that the gate has proved and built).
 """
 import argparse
 import os
@@ -19,9 +21,10 @@ import sys
 import tempfile
 import time
 
-import ecos
+from lizdrog_dev import ecos
 
-STRONGER = {"NAND2_X1": "NAND2_X2", "NAND2_X2": "NAND2_X1", "INV_X1": "INV_X4", "INV_X4": "INV_X1", "BUF_X2": "BUF_X4", "BUF_X4": "BUF_X2"}
+STRONGER = {"NAND2_X1": "NAND2_X2", "NAND2_X2": "NAND2_X1", "INV_X1": "INV_X4", "INV_X4": "INV_X1", "BUF_X2": "BUF_X4",
+            "BUF_X4": "BUF_X2"}
 
 
 def journal(text, entries, derates):
@@ -40,8 +43,10 @@ def journal(text, entries, derates):
 
 
 def spent(program, folder, name, workers, count):
-    """The seconds and the processor's seconds of a run on a saved journal with so many entries, and the derates of its block."""
-    words = [program, "run", "--journal", name, "bench.lib", "bench.lib", "bench.v", "bench.sdc", "bench.spef", str(workers), "empty.eco"]
+    """The seconds and the processor's seconds of a run on a saved journal with so many entries, and the derates of its
+    block."""
+    words = [program, "run", "--journal", name, "bench.lib", "bench.lib", "bench.v", "bench.sdc", "bench.spef",
+             str(workers), "empty.eco"]
     before, began = resource.getrusage(resource.RUSAGE_CHILDREN), time.monotonic()
     done = subprocess.run(words, cwd=folder, capture_output=True, text=True, check=False)
     seconds, after = time.monotonic() - began, resource.getrusage(resource.RUSAGE_CHILDREN)
@@ -63,7 +68,8 @@ def timed(folder, words):
     for place, what in ((0, "seconds"), (1, "seconds of processors")):
         took = [x[place] - y[place] for x, y in zip(whole, alone)]
         print(f"{words.cells} cells, {words.entries} entries: {what}: replayed in {statistics.median(took):.2f} "
-              f"(pairs {min(took):.2f} to {max(took):.2f}), beside a run without entries of {statistics.median(it[place] for it in alone):.2f}")
+              f"(pairs {min(took):.2f} to {max(took):.2f}), beside a run without entries of "
+              f"{statistics.median(it[place] for it in alone):.2f}")
     print(f"greatest memory: {resource.getrusage(resource.RUSAGE_CHILDREN).ru_maxrss // 1000} MB")
 
 

@@ -1,18 +1,23 @@
 #!/usr/bin/env python3
-"""Runs sessions beside each other under stress: sessions_stress.py [--program FILE] [--seed S] [--small N] [--cells C] [--sessions K] [--ecos E] [--workers W]
+"""Runs sessions beside each other under stress: sessions_stress.py [--program FILE] [--seed S] [--small N] [--cells C]
+[--sessions K] [--ecos E] [--workers W]
                                                       [--samples M] [--folder DIR]
 
-Many small runs come first: N of them (default: 1000) by the seed S (default: 1), on two registers with gates between them, of 2 to 16 sessions with
-1, 4 or 32 workers. Each script has up to eight resizes of the same four gates, questions, looks and refused ECOs. Of each output it is checked
-that numbers never fall, that each accepted ECO is its session's entry of the journal, and that each answer is that of a fresh run of one
-script, which resizes the gates as the entries up to its row's number leave them, and asks.
+Many small runs come first: N of them (default: 1000) by the seed S (default: 1), on two registers with gates between
+them, of 2 to 16 sessions with 1, 4 or 32 workers. Each script has up to eight resizes of the same four gates,
+questions, looks and refused ECOs. Of each output it is checked that numbers never fall, that each accepted ECO is its
+session's entry of the journal, and that each answer is that of a fresh run of one script, which resizes the gates as
+the entries up to its row's number leave them, and asks.
 
-Then comes one large run: a design of C cells (7000) by design.py with wires, K sessions (16) of E ECOs each (600), W workers (32). ECOs are resizes
-of gates that all sessions choose from, buffers for sinks that other sessions take away, nets of names that only one can have, and parasitics that
-are dropped. tools/check_sessions.py compares all questions and refused ECOs with a run of one session over the journal. M numbers (20) are drawn
-besides: a fresh script with all edits up to there, in ECOs of a thousand, has to answer that number's questions in the same way.
---cells 0 leaves the large run out; with --folder it is kept there. It prints what was tried, and ends with 1 at the first output that is not
-legal, which is kept in stress-S-NUMBER of the caller's folder. Runs beside each other do not repeat: the output that is kept is the witness.
+Then comes one large run: a design of C cells (7000) by design.py with wires, K sessions (16) of E ECOs each (600), W
+workers (32). ECOs are resizes of gates that all sessions choose from, buffers for sinks that other sessions take away,
+nets of names that only one can have, and parasitics that are dropped. tools/check_sessions.py compares all questions
+and refused ECOs with a run of one session over the journal. M numbers (20) are drawn besides: a fresh script with all
+edits up to there, in ECOs of a thousand, has to answer that number's questions in the same way.
+--cells 0 leaves the large run out; with --folder it is kept there. It prints what was tried, and ends with 1 at the
+first output that is not
+legal, which is kept in stress-S-NUMBER of the caller's folder. Runs beside each other do not repeat: the output that is
+kept is the witness.
 """
 import argparse
 import collections
@@ -22,19 +27,21 @@ import shutil
 import sys
 import tempfile
 
-import sessions as timings
-import trials
+from lizdrog_dev import sessions as timings
+from lizdrog_dev import trials
 
-sys.path.insert(0, str(trials.TOP / "tools"))
-import check_sessions  # noqa: E402
-import read_answers  # noqa: E402
+from lizdrog_tools import check_sessions
+from lizdrog_tools import read_answers
 
 GATES = {"cb": "BUF_X1", "g1": "BUF_X1", "g2": "BUF_X1", "g3": "SLW"}
 SIZES = ["BUF_X1", "BUF_X4", "BUF_T", "SLW"]
-QUESTIONS = ["report_endpoint r2:D setup", "report_endpoint o setup", "report_endpoint r2:D hold", "report_wns hold", "report_tns setup", "report_path o setup",
-             "report_path r2:D hold", "report_worst setup 3", "report_slew g1:Z late rise", "report_at r2:D late rise", "report_slack g3:A early fall",
-             "advise setup g1 BUF_X4 g2 BUF_T g3 BUF_X4", "advise hold cb BUF_X4 g1 BUF_T", "report_paths o setup 5", "report_through o setup g1:Z",
-             "begin_what_if\nrepower_gate g2 BUF_X4\nreport_path r2:D setup\nrepower_gate g3 BUF_T\nreport_wns hold\ndrop_last\nreport_wns setup\nend_what_if"]
+QUESTIONS = ["report_endpoint r2:D setup", "report_endpoint o setup", "report_endpoint r2:D hold", "report_wns hold",
+             "report_tns setup", "report_path o setup", "report_path r2:D hold", "report_worst setup 3",
+             "report_slew g1:Z late rise", "report_at r2:D late rise", "report_slack g3:A early fall",
+             "advise setup g1 BUF_X4 g2 BUF_T g3 BUF_X4", "advise hold cb BUF_X4 g1 BUF_T", "report_paths o setup 5",
+             "report_through o setup g1:Z",
+             "begin_what_if\nrepower_gate g2 BUF_X4\nreport_path r2:D setup\nrepower_gate g3 BUF_T\nreport_wns "
+             "hold\ndrop_last\nreport_wns setup\nend_what_if"]
 EACH = 25          # an ECO in so many has a question behind it
 MOST_EDITS = 1000  # of one ECO
 
@@ -51,7 +58,8 @@ def checked(ran, scripts):
         raise NotLegal(str(why)) from why
     if ran.status not in (0, 1):
         raise NotLegal(f"{ran.ended()}: {ran.out[:200]!r}")
-    found = check_sessions.Sessions([read_answers.read_script(it) for it in scripts], read_answers.Output(ran.out.decode()))
+    found = check_sessions.Sessions([read_answers.read_script(it) for it in scripts],
+                                    read_answers.Output(ran.out.decode()))
     found.look()
     if found.faults:
         raise NotLegal(found.faults[0])
@@ -78,7 +86,8 @@ class Small:
             elif kind < 0.85:
                 lines.append(r.choice(QUESTIONS))
             else:
-                lines.append(r.choice(["take", "await 2 1000", "await 5 3", "repower_gate g1 NOCELL", "remove_gate g2", "begin_eco\nrepower_gate g1 BUF_X4\nrepower_gate g2 BUF_T\ncommit_eco"]))
+                lines.append(r.choice(["take", "await 2 1000", "await 5 3", "repower_gate g1 NOCELL", "remove_gate g2",
+                                       "begin_eco\nrepower_gate g1 BUF_X4\nrepower_gate g2 BUF_T\ncommit_eco"]))
         return "".join(f"{it}\n" for it in lines)
 
     def ask(self, cells, words):
@@ -110,7 +119,8 @@ class Small:
                     continue
                 told = self.ask(states[row.design], tuple(check_sessions.asked_again(command)))
                 if check_sessions.answer(row) != told:
-                    raise NotLegal(f"session {session}, row {row.command}: {check_sessions.answer(row)}, and a fresh run says {told} at design {row.design}")
+                    raise NotLegal(f"session {session}, row {row.command}: {check_sessions.answer(row)}, and a fresh "
+                                   f"run says {told} at design {row.design}")
 
     def one(self, seed, number):
         """A run by a seed and its number."""
@@ -166,18 +176,22 @@ def large_script(r, session, ecos, ends, resizes, nets):
             lines.append(f"set_parasitics {r.choice(list(nets))} none")
         else:
             net = r.choice(list(nets))
-            lines.append(f"insert_buffer {net} stress_{session}_{at} stress_net_{session}_{at} BUF_X4 {r.choice(nets[net])}")
+            lines.append(f"insert_buffer {net} stress_{session}_{at} stress_net_{session}_{at} BUF_X4 "
+                         f"{r.choice(nets[net])}")
         if at % EACH == EACH - 1:
-            lines.append(r.choice([f"report_path {r.choice(ends)} setup", f"report_endpoint {r.choice(ends)} hold", "report_tns setup", "report_worst setup 10"]))
+            lines.append(r.choice([f"report_path {r.choice(ends)} setup", f"report_endpoint {r.choice(ends)} hold",
+                                   "report_tns setup", "report_worst setup 10"]))
     return "".join(f"{it}\n" for it in lines)
 
 
 def grouped(edits):
-    return [line for at in range(0, len(edits), MOST_EDITS) for line in check_sessions.lines_of(edits[at:at + MOST_EDITS])]
+    return [line for at in range(0, len(edits), MOST_EDITS)
+            for line in check_sessions.lines_of(edits[at:at + MOST_EDITS])]
 
 
 def sampled(found, run, numbers):
-    """Compares the questions of some numbers with fresh scripts that make all edits up to there in few ECOs; gives how many."""
+    """Compares the questions of some numbers with fresh scripts that make all edits up to there in few ECOs; gives how
+    many."""
     asked, compared = found.asked(), 0
     for number in numbers:
         edits = [edit for eco in found.output.ecos[:number] for edit in eco]
@@ -190,7 +204,8 @@ def sampled(found, run, numbers):
             for session, it in rows:
                 compared += 1
                 if check_sessions.answer(it) != check_sessions.answer(row):
-                    raise NotLegal(f"session {session}, row {it.command}: {check_sessions.answer(it)}, and a fresh run says {check_sessions.answer(row)}")
+                    raise NotLegal(f"session {session}, row {it.command}: {check_sessions.answer(it)}, and a fresh "
+                                   f"run says {check_sessions.answer(row)}")
     return compared
 
 
@@ -223,14 +238,16 @@ def large_run(program, given, folder):
     rows = collections.Counter(row.sort for session in found.output.sessions for row in session)
     again = timings.prepared_again(ran.out.decode())
     trials.table("large run: rows by their answers", ["answer", "rows"], sorted(rows.items()))
-    print(f"{given.cells} cells, {given.sessions} sessions, {given.workers} workers: {len(found.output.ecos)} ECOs in the journal, {again[1]} entries of others "
-          f"between an ECO and the row before it; {commands} commands of one session and {compared} rows by fresh scripts agree")
+    print(f"{given.cells} cells, {given.sessions} sessions, {given.workers} workers: {len(found.output.ecos)} ECOs in "
+          f"the journal, {again[1]} entries of others between an ECO and the row before it; {commands} commands of "
+          f"one session and {compared} rows by fresh scripts agree")
 
 
 def main():
     parser = argparse.ArgumentParser(description=__doc__, formatter_class=argparse.RawDescriptionHelpFormatter)
     parser.add_argument("--program")
-    for name, number in (("seed", 1), ("small", 1000), ("cells", 7000), ("sessions", 16), ("ecos", 600), ("workers", 32), ("samples", 20)):
+    for name, number in (("seed", 1), ("small", 1000), ("cells", 7000), ("sessions", 16), ("ecos", 600),
+                         ("workers", 32), ("samples", 20)):
         parser.add_argument(f"--{name}", type=int, default=number)
     parser.add_argument("--folder", type=pathlib.Path)
     given = parser.parse_args()

@@ -1,25 +1,29 @@
 #!/usr/bin/env python3
-"""A flow to copy: run, read, resize, run. close_setup.py EARLY LATE NETLIST SDC SPEF ACCEPTED [--rounds N] [--lizdrog COMMAND]
+"""A flow to copy: run, read, resize, run. close_setup.py EARLY LATE NETLIST SDC SPEF ACCEPTED [--rounds N] [--lizdrog
+COMMAND]
 
-Each round asks for the worst setup paths, tries other sizes of the gates along them, each by itself, and keeps the one that helps most, if
-it harms no hold slack. ACCEPTED is a script: the edits that are there already (none in the first run), to which the new ones are added. A
-trial is an edit, a question and the edit back, in a run whose journal is thrown away; so ACCEPTED has no trial in it, and the run on it is
-the change order: its journal goes to the layout by tools/convert_journal.py.
+Each round asks for the worst setup paths, tries other sizes of the gates along them, each by itself, and keeps the one
+that helps most, if it harms no hold slack. ACCEPTED is a script: the edits that are there already (none in the first
+run), to which the new ones are added. A trial is an edit, a question and the edit back, in a run whose journal is
+thrown away; so ACCEPTED has no trial in it, and the run on it is the change order: its journal goes to the layout by
+tools/convert_journal.py.
 
-What a team will want to change: which gates are tried (candidates), what counts as better (is_better), and which names are sizes of one
-cell (SIZE: here a cell's name ends with X and a number, as in INVX2).
+What a team will want to change: which gates are tried (candidates), what counts as better (is_better), and which names
+are sizes of one cell (SIZE: here a cell's name ends with X and a number, as in INVX2).
 """
 import argparse
+import copy
 import pathlib
 import re
 import subprocess
 import sys
 import tempfile
 
-TOP = pathlib.Path(__file__).resolve().parent.parent.parent
-sys.path.insert(0, str(TOP / "tools"))
-import design_documents as documents  # noqa: E402
-import read_answers  # noqa: E402
+from lizdrog_tools import read_answers
+from lizdrog_tools.files import tool
+from lizdrog_tools.liberty import read_library
+from lizdrog_tools.places import TOP
+from lizdrog_tools.verilog import read_netlist
 
 SIZE = re.compile(r"X\d+$")
 PATHS, TRIALS = 3, 24
@@ -36,7 +40,8 @@ class Lizdrog:
         with tempfile.NamedTemporaryFile("w", suffix=".eco") as script:
             script.write("\n".join(lines) + "\n")
             script.flush()
-            ran = subprocess.run([self.command, "run", *self.files, "4", script.name], stdout=subprocess.PIPE, text=True, check=False)
+            ran = subprocess.run([self.command, "run", *self.files, "4", script.name], stdout=subprocess.PIPE,
+                                 text=True, check=False)
         if ran.returncode not in (0, 1):
             sys.exit(f"close_setup: the run ended with status {ran.returncode}: {ran.stdout.strip()}")
         output = read_answers.Output(ran.stdout)
@@ -52,7 +57,8 @@ ASKED = ["report_wns setup", "report_tns setup", "report_wns hold"]
 
 
 def is_better(new, old):
-    """Whether three measures are better: less negative slack in total, or a better worst one, and hold no worse than it may be."""
+    """Whether three measures are better: less negative slack in total, or a better worst one, and hold no worse than it
+    may be."""
     return (new[1], new[0]) > (old[1], old[0]) and new[2] >= min(old[2], 0)
 
 
@@ -64,7 +70,9 @@ def candidates(row, edited):
         family = SIZE.sub("", line["cell"])
         if cell and not cell.tests:
             for other in sorted(edited.library.cells):
-                same_pins = {name: way for name, (way, _) in edited.library.cells[other].pins.items()} == {name: way for name, (way, _) in cell.pins.items()}
+                same_pins = {name: way for name, (way, _) in edited.library.cells[other].pins.items()} == {
+                    name: way for name, (way, _) in cell.pins.items()
+                }
                 if other != line["cell"] and SIZE.sub("", other) == family and same_pins:
                     yield line["pin"].rpartition(":")[0], line["cell"], other
 
@@ -79,7 +87,8 @@ def one_round(lizdrog, accepted, design):
     edited = read_answers.Edited(*design(), output.ecos)
     edited.at(len(output.ecos))
     tried = list(dict.fromkeys(it for row in rows[-len(ends):] for it in candidates(row, edited)))[:TRIALS]
-    trials = [line for gate, old, new in tried for line in (f"repower_gate {gate} {new}", *ASKED, f"repower_gate {gate} {old}")]
+    trials = [line for gate, old, new in tried for line in (f"repower_gate {gate} {new}", *ASKED,
+                                                            f"repower_gate {gate} {old}")]
     rows, _ = lizdrog.run([*accepted, *trials])
     best, after = None, before
     for number, (gate, _, new) in enumerate(tried):
@@ -89,6 +98,7 @@ def one_round(lizdrog, accepted, design):
     return before, best, after
 
 
+@tool("close_setup")
 def main():
     parser = argparse.ArgumentParser(description=__doc__, formatter_class=argparse.RawDescriptionHelpFormatter)
     for name in ("early", "late", "netlist", "sdc", "spef", "accepted"):
@@ -97,22 +107,23 @@ def main():
     parser.add_argument("--lizdrog", default=str(TOP / "lizdrog"))
     given = parser.parse_args()
     lizdrog = Lizdrog(given.lizdrog, [given.early, given.late, given.netlist, given.sdc, given.spef])
-    library = documents.Library(documents.read_text(given.late))
-    text = documents.read_text(given.netlist)
+    library, netlist = read_library(given.late), read_netlist(given.netlist)
     file = pathlib.Path(given.accepted)
-    accepted = [it for it in file.read_text().split("\n") if it.strip() and not it.startswith("#")] if file.exists() else []
+    accepted = [it for it in file.read_text().split("\n") if it.strip()
+                and not it.startswith("#")] if file.exists() else []
     for number in range(1, given.rounds + 1):
-        before, edit, after = one_round(lizdrog, accepted, lambda: (documents.Netlist(text), library))
+        before, edit, after = one_round(lizdrog, accepted, lambda: (copy.deepcopy(netlist), library))
         worst, total, hold = map(read_answers.picoseconds, before)
         print(f"round {number}: setup worst {worst} ps, total {total} ps; hold worst {hold} ps")
         if edit is None:
             print("  met" if before[0] >= 0 else "  no size that was tried helps: try a buffer, or another place")
             return 0 if before[0] >= 0 else 1
-        print(f"  {edit}: setup worst {read_answers.picoseconds(after[0])} ps, total {read_answers.picoseconds(after[1])} ps")
+        print(f"  {edit}: setup worst {read_answers.picoseconds(after[0])} ps, total "
+              f"{read_answers.picoseconds(after[1])} ps")
         accepted.append(edit)
         file.write_text("\n".join(accepted) + "\n")
     return 1
 
 
 if __name__ == "__main__":
-    documents.run_tool("close_setup", main)
+    sys.exit(main())

@@ -5,21 +5,26 @@ import subprocess
 import sys
 import unittest
 
-TOP = pathlib.Path(__file__).resolve().parent.parent.parent
-TOOLS = TOP / "tools"
-PROGRAMS = [TOP / "crates" / "timing_shell" / "out" / "timing_shell", TOP / "out" / "quick_build" / "timing_shell"]
-PROGRAM = next((it for it in PROGRAMS if it.is_file() and os.access(it, os.X_OK)), None)
-needs_program = unittest.skipUnless(PROGRAM, "no program stands here: the gate builds it, and tools/quick_build.py builds one without proof")
+from lizdrog_tools.places import BENCH, DEV, TOOLS, TOP, find_program  # noqa: F401 (tests take them from here)
+
+GIVEN = os.environ.get("LIZDROG_TEST_PROGRAM")
+PROGRAM = pathlib.Path(GIVEN) if GIVEN else find_program()
+needs_program = unittest.skipUnless(PROGRAM,
+                                    "there is no program: the gate builds it, and dev/quick_build.py builds one "
+                                    "without proof")
 
 
 def run(*words, cwd=None, **how):
     """Runs a command and gives its status, its output and its errors."""
-    ran = subprocess.run([str(it) for it in words], cwd=cwd, stdin=subprocess.DEVNULL, capture_output=True, text=True, check=False, **how)
+    ran = subprocess.run([str(it) for it in words], cwd=cwd, stdin=subprocess.DEVNULL, capture_output=True, text=True,
+                         check=False, **how)
     return ran.returncode, ran.stdout, ran.stderr
 
 
 def tool(name, *words, cwd=None, **how):
-    return run(sys.executable, TOOLS / f"{name}.py", *words, cwd=cwd, **how)
+    """Runs a tool of designers, or else of provers, by its name."""
+    file = next(it for it in (TOOLS / f"{name}.py", DEV / f"{name}.py") if it.is_file())
+    return run(sys.executable, file, *words, cwd=cwd, **how)
 
 
 LIBRARY = """library (small) { time_unit : "1ps"; capacitive_load_unit (1, ff);
@@ -88,8 +93,10 @@ report_wns hold
 
 def write_documents(folder, **changed):
     """Writes the small documents into a folder; gives the words of a run on them."""
-    texts = {"early": LIBRARY, "late": LIBRARY, "netlist": NETLIST, "sdc": CONSTRAINTS, "spef": SPEF, "script": SCRIPT, **changed}
-    ends = {"early": "early.lib", "late": "late.lib", "netlist": "top.v", "sdc": "top.sdc", "spef": "top.spef", "script": "s.eco"}
+    texts = {"early": LIBRARY, "late": LIBRARY, "netlist": NETLIST, "sdc": CONSTRAINTS, "spef": SPEF, "script": SCRIPT,
+             **changed}
+    ends = {"early": "early.lib", "late": "late.lib", "netlist": "top.v", "sdc": "top.sdc", "spef": "top.spef",
+            "script": "s.eco"}
     for role, text in texts.items():
         pathlib.Path(folder, ends[role]).write_bytes(text.encode("latin-1"))
     return ["run", "early.lib", "late.lib", "top.v", "top.sdc", "top.spef", "1", "s.eco"]

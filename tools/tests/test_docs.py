@@ -1,17 +1,35 @@
 """The documents: what they name is there."""
+import os
 import pathlib
 import re
+import sys
 import unittest
 
 import common
 
 CRATES, DOCS, EDITS = common.TOP / "crates", common.TOP / "docs", common.TOP / "bench" / "must-fail"
+PAGES = [it for it in [common.TOP / "README.md", common.TOP / "CHANGELOG.md", *DOCS.glob("*.md"), *common.TOP.glob("examples/**/README.md")] if it.exists()]
+TRIED = "## Where each crate is tried"
 
 
 def index_rows():
-    text = (DOCS / "DEFINITIONS.md").read_text()
-    rows = re.findall(r"^\| (.*) \|$", text[text.index("## Index"):], re.M)
+    rows = re.findall(r"^\| (.*) \|$", (DOCS / "RULES.md").read_text(), re.M)
     return [row.split(" | ") for row in rows if not row.startswith("Rule | ")]
+
+
+def crate_file(name):
+    """The file of a crate that a page names: CRATE/src/FILE.rt, or CRATE/specs/FILE without its ending."""
+    return CRATES / (name if name.endswith(".rt") else f"{name}.antt")
+
+
+def rows_named(cell):
+    """The rows of programs that a cell names: the program and the words of a case."""
+    return [(program, case) for program, cases in re.findall(r"`(\w+)/stdin`((?:,? `case [^`]+`(?: \([^)]*\))?)+)", cell) for case in re.findall(r"`(case [^`]+)`", cases)]
+
+
+def has_row(program, case):
+    file = CRATES / program / "stdin"
+    return file.is_file() and re.search(rf"(?m)^{re.escape(case)}\b", file.read_text()) is not None
 
 
 def why_not_applied(edit):
@@ -37,13 +55,41 @@ def why_not_applied(edit):
 
 class Documents(unittest.TestCase):
     def test_readme_is_short(self):
-        self.assertLessEqual(len((common.TOP / "README.md").read_text().splitlines()), 120)
+        self.assertLessEqual(len((common.TOP / "README.md").read_text().splitlines()), 100)
+
+    def test_pages_are_of_their_size(self):
+        status, out, _ = common.run(sys.executable, common.TOP / "dev" / "page_sizes.py", "--check")
+        self.assertEqual(status, 0, out)
 
     def test_links_lead_somewhere(self):
-        for page in [common.TOP / "README.md", *DOCS.glob("*.md"), common.TOP / "examples" / "README.md"]:
-            for name in re.findall(r"`((?:docs|tools|bench|examples)/[\w./-]+|[A-Z]{4,}\.md)`", page.read_text()):
+        for page in PAGES:
+            text = page.read_text()
+            for name in re.findall(r"`((?:docs|tools|dev|bench|examples)/[\w./-]+|[A-Z]{4,}\.md)`", text):
                 places = [common.TOP / name, DOCS / name, page.parent / name]
                 self.assertTrue(any(it.exists() for it in places), f"{page.name} names {name}")
+        for page in [*PAGES, *(DOCS / "log").glob("*.md")]:
+            for name in re.findall(r"\]\(([^)#:]+)[^)]*\)", page.read_text()):
+                self.assertTrue((page.parent / name).exists(), f"{page.name} has a link to {name}")
+
+    def test_files_of_crates_are_there(self):
+        for page in PAGES:
+            for name in re.findall(r"`(?:crates/)?(\w+/(?:src/[\w/]+\.rt|specs/\w+))(?:\.antt)?`", page.read_text()):
+                self.assertTrue(crate_file(name).is_file(), f"{page.name} names {name}")
+
+    def test_commands_are_there(self):
+        """Programs that blocks of commands start: those of this repository are files."""
+        for page in PAGES:
+            for block in re.findall(r"^```\n(.*?)^```", page.read_text(), re.S | re.M):
+                for name in re.findall(r"(?m)^(?:\.\./)*(?:\./)?((?:tools|dev|bench)/[\w/]+\.(?:py|sh))", block):
+                    self.assertTrue((common.TOP / name).is_file(), f"{page.name} starts {name}")
+
+    def test_no_links(self):
+        """`rt ci` refuses the repository where a link is in it."""
+        links = []
+        for folder, folders, names in os.walk(common.TOP):
+            folders[:] = [it for it in folders if it not in (".git", "out")]
+            links += [f"{folder}/{it}" for it in [*folders, *names] if os.path.islink(f"{folder}/{it}")]
+        self.assertEqual(links, [])
 
     def test_definitions_of_the_index_are_there(self):
         for row in index_rows():
@@ -63,9 +109,10 @@ class Documents(unittest.TestCase):
         files = [(row[0], name) for row in index_rows() for name in re.findall(r"`([\w/]+\.rt)`", row[3])]
         gone += [f"{rule}: {name}" for rule, name in files
                  if not (CRATES / name if "/" in name else CRATES / "shell_tests" / "src" / "examples" / name).exists()]
+        gone += [f"{row[0]}: {program} {case}" for row in index_rows() for program, case in rows_named(row[3]) if not has_row(program, case)]
         if gone:
             # A test may move at any time, and what the page says of it is no reason to refuse the change.
-            self.skipTest(f"the index of docs/DEFINITIONS.md names tests that are gone: {'; '.join(gone)}")
+            self.skipTest(f"the index of docs/RULES.md names tests that are gone: {'; '.join(gone)}")
 
     def test_code_and_edits_of_the_index_are_there(self):
         gone = []
@@ -81,25 +128,25 @@ class Documents(unittest.TestCase):
             gone += [] if code & {CRATES / crate / name for name in changed} else [f"{row[0]}: {crate}/{edit} changes none of its code"]
         if gone:
             # As above: code may be cut anew at any time.
-            self.skipTest(f"the index of docs/DEFINITIONS.md names code or edits that are gone: {'; '.join(gone)}")
+            self.skipTest(f"the index of docs/RULES.md names code or edits that are gone: {'; '.join(gone)}")
 
     def test_each_crate_is_tried_where_the_map_says(self):
-        text = (DOCS / "ARCHITECTURE.md").read_text()
-        text = text[text.index("## Where each crate is tried"):text.index("## Around the program")]
-        rows = [row.split(" | ") for row in re.findall(r"^\| (`.*) \|$", text, re.M)]
-        crates = [line.partition(":")[0] for line in (common.TOP / "crates.txt").read_text().splitlines() if not line.startswith("#")]
-        crates = [crate for crate in crates if not re.fullmatch(r"(base|engine|reader|shell|gate)_tests", crate)]
+        text = (DOCS / "TESTS.md").read_text()
+        rows = [row.split(" | ") for row in re.findall(r"^\| (`.*) \|$", text[text.index(TRIED):], re.M)]
+        text = (common.TOP / "crates.txt").read_text()
+        crates = re.findall(r"(?m)^(\w+):", text[:text.index("\n# tests\n")])
         gone = [] if [row[0].strip("`") for row in rows] == crates else ["its crates are not those of crates.txt, in their order"]
         for crate, *tests, edit in rows:
             for file, name in re.findall(r"`([\w/]+\.rt)` `(\w+)`", " ".join(tests)):
                 file = CRATES / file if "/" in file else CRATES / "shell_tests" / "src" / "examples" / file
                 gone += [] if file.is_file() and f"fn {name}(" in file.read_text() else [f"{crate}: {name}"]
+            gone += [f"{crate}: {program} {case}" for program, case in rows_named(" ".join(tests)) if not has_row(program, case)]
             for name, gate in re.findall(r"`(\w+)`( \(gate\))?", edit):
                 place = CRATES / crate.strip("`") / "must-fail" if gate else EDITS / crate.strip("`")
                 gone += [] if (place / f"{name}.edit").is_file() else [f"{crate}: {name}"]
         if gone:
             # As above.
-            self.skipTest(f"docs/ARCHITECTURE.md does not say where each crate is tried: {'; '.join(gone)}")
+            self.skipTest(f"docs/TESTS.md does not say where each crate is tried: {'; '.join(gone)}")
 
     def test_edits_that_must_be_refused_apply(self):
         edits = [*CRATES.glob("*/must-fail/*"), *EDITS.glob("*/*")]

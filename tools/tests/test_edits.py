@@ -1,13 +1,14 @@
-"""The tool that tries wrong bodies: which function an edit changes, which edits go together, and what a check's lines mean."""
+"""The tool that tries wrong bodies: which function an edit changes, which edits go together, and what a check's lines
+mean."""
 import json
 import pathlib
 import shutil
 import tempfile
 import unittest
 
-import check_over_kept
-import check_over_stubs
-import try_edits
+from lizdrog_dev import check_over_kept
+from lizdrog_dev import check_over_stubs
+from lizdrog_dev import try_edits
 
 STORES = """const MOST: usize = 3;
 
@@ -49,7 +50,9 @@ fn small::stores::Store::first: no proof: expected answers in ./proofs/stores/St
 fn small::edits::sum: depends on a hole in `Rattle.small.proofs.stores.Store.first.Proof.first_spec`
 only=2 holes=1
 """
-NAMED = SAID.replace("sum: depends on a hole in", "sum: not proved; it stands on `Rattle.small.proofs.edits.sum.Answers.returns`, which antt refuses; over")
+NAMED = SAID.replace("sum: depends on a hole in",
+                     "sum: not proved; it stands on `Rattle.small.proofs.edits.sum.Answers.returns`, which antt "
+                     "refuses; over")
 
 
 class Tries(unittest.TestCase):
@@ -71,17 +74,21 @@ class Tries(unittest.TestCase):
         self.assertIn("        None\n", edit.texts["src/edits.rt"])
 
     def test_a_method_of_a_trait_stands_under_its_own_module(self):
-        self.assertEqual(self.edit("rows: none()", "rows: all()", "src/stores.rt").functions, ["stores::StoreFromMemory::from"])
+        self.assertEqual(self.edit("rows: none()", "rows: all()", "src/stores.rt").functions,
+                         ["stores::StoreFromMemory::from"])
 
     def test_an_edit_of_a_constant_is_one_of_the_functions_that_name_it(self):
-        self.assertEqual(self.edit("const MOST: usize = 3;", "const MOST: usize = 4;", "src/stores.rt").functions, ["edits::sum"])
+        self.assertEqual(self.edit("const MOST: usize = 3;", "const MOST: usize = 4;", "src/stores.rt").functions,
+                         ["edits::sum"])
 
     def test_edits_that_cannot_be_tried(self):
         self.assertEqual(self.edit("nowhere", "").why, "its text stands in src/edits.rt 0 times")
-        self.assertEqual(self.edit("    rows: Items<u32>,", "    rows: u32,", "src/stores.rt").why, "it changes no function")
+        self.assertEqual(self.edit("    rows: Items<u32>,", "    rows: u32,", "src/stores.rt").why,
+                         "it changes no function")
 
     def test_functions_of_a_crate(self):
-        self.assertEqual(try_edits.functions_of(self.folder), ["stores::Store::first", "edits::sum", "stores::StoreFromMemory::from"])
+        self.assertEqual(try_edits.functions_of(self.folder), ["stores::Store::first", "edits::sum",
+                                                               "stores::StoreFromMemory::from"])
         self.assertEqual(try_edits.in_cycles(self.folder), ["edits::sum"])
 
     def test_functions_that_are_taken_by_their_contracts_have_no_body(self):
@@ -96,7 +103,8 @@ class Tries(unittest.TestCase):
         kept, lang = self.folder / "kept", "rlib/small.rlib/lang"
         (self.folder / "specs").mkdir()
         (self.folder / "specs" / "Rows.antt").write_text("first\n")
-        texts = {f"{lang}/src/edits.rt": "fn first ( & self )\n    requires { length self.now.rows ≤ 3 } ;\n", f"{lang}/antt/specs/Rows.antt": "first\n"}
+        texts = {f"{lang}/src/edits.rt": "fn first ( & self )\n    requires { length self.now.rows ≤ 3 } ;\n",
+                 f"{lang}/antt/specs/Rows.antt": "first\n"}
         kept.mkdir()
         (kept / "made.json").write_text(json.dumps({"files": [[path, ""] for path in texts]}))
         for number, text in enumerate(texts.values()):
@@ -138,7 +146,9 @@ class Tries(unittest.TestCase):
         self.assertEqual(try_edits.progress_of(log), "no proof is done")
 
     def test_no_two_edits_of_one_function_are_tried_together(self):
-        first, again, other = self.edit("self.rows.first()", "None"), self.edit("self.rows.first()", "Some(0)"), self.edit("[] => MOST - 3", "[] => 1")
+        first, again, other = self.edit("self.rows.first()", "None"), self.edit("self.rows.first()",
+                                                                                "Some(0)"), self.edit("[] => MOST - 3",
+                                                                                                      "[] => 1")
         self.assertEqual(list(try_edits.rounds([first, again, other], 9)), [[first, other], [again]])
 
     def test_what_a_check_says(self):

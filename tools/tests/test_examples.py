@@ -22,8 +22,9 @@ class Pages(unittest.TestCase):
     def setUp(self):
         self.top = pathlib.Path(tempfile.mkdtemp())
         self.addCleanup(shutil.rmtree, self.top)
-        for name in ("examples", "tools", "docs", "bench"):
-            shutil.copytree(common.TOP / name, self.top / name, ignore=shutil.ignore_patterns("__pycache__", "*.lib.gz", "*.out", "must-fail"))
+        for name in ("examples", "tools", "dev", "docs", "bench"):
+            left_out = shutil.ignore_patterns("__pycache__", "*.lib.gz", "*.out", "must-fail")
+            shutil.copytree(common.TOP / name, self.top / name, ignore=left_out)
         (self.top / "lizdrog").write_text(f'#!/bin/sh\nexec "{common.PROGRAM}" "$@"\n')
         (self.top / "lizdrog").chmod(0o755)
 
@@ -41,10 +42,24 @@ class Pages(unittest.TestCase):
 
     def test_first_page(self):
         given = blocks(common.TOP / "README.md")
-        run = next(it for it in given if it.startswith("cd examples/two-inverters"))
-        out = self.run_blocks([run + " | tee OUTPUT", "../../tools/read_answers.py report.eco OUTPUT"], "")
-        for block in given[given.index(run) + 1:]:
-            self.assertIn(block + "\n", out)
+        commands = [it for it in given if it.startswith(("cd ", "../"))]
+        self.assertEqual(len(commands), 2)
+        out = self.run_blocks(commands, "")
+        for block in given[given.index(commands[0]):]:
+            if block not in commands:
+                self.assertIn(block + "\n", out)
+
+    def test_two_inverters(self):
+        given = blocks(EXAMPLES / "two-inverters" / "README.md")
+        commands = [it for it in given if it.startswith(("cd ", "../"))]
+        out = self.run_blocks(commands, "")
+        for block in given:
+            if block not in commands:
+                self.assertIn(block + "\n", out)
+
+    def test_command_line(self):
+        line = next(it for it in blocks(common.TOP / "docs" / "COMMANDS.md") if it.startswith("generated "))
+        self.assertEqual(common.run(common.PROGRAM, "generate", "7", "400", "40"), (0, line + "\n", ""))
 
     def test_two_engineers(self):
         """What does not hang on the order of the sessions; test_sessions.py looks at the rest."""

@@ -12,7 +12,7 @@ PADDED = NETLIST.replace("\n", " ") + " " * 10000
 # name, what is changed, the program's line, and words of what is said
 DAMAGES = [
     ("CR LF", {"script": "report_wns setup\r\n"}, "fault script1 C1 1", "s.eco:1:1: C1: a line that is no command", "ends with CR LF"),
-    ("comment behind a command", {"script": "take # now\n"}, "fault script1 C1 1", "behind a command # begins none"),
+    ("comment behind a command", {"script": "take # now\n"}, "fault script1 C1 1", "after a command # begins none"),
     ("byte above 127", {"script": "# gr\xfc\xdfe\n"}, "fault script1 C1 1", "a byte above 127"),
     ("mistyped command", {"script": "take\nreport_wsn setup\n"}, "fault script1 C1 2", "s.eco:2:1", "no command report_wsn"),
     ("number above 100", {"script": "report_worst setup 101\n"}, "fault script1 C1 1", "from 1 to 100"),
@@ -24,11 +24,11 @@ DAMAGES = [
     ("report in a group", {"script": "begin_eco\nreport_wns setup\ncommit_eco\n"}, "fault script1 C1 2", "allows no report"),
     ("draft without its end", {"script": "take\nbegin_what_if\nreport_wns setup\n"}, "fault script1 C1 2", "a draft has 1 to 100 trials and its end"),
     ("draft without trials", {"script": "begin_what_if\n# none\nend_what_if\n"}, "fault script1 C1 1", "a draft has 1 to 100 trials and its end"),
-    ("take in a draft", {"script": "begin_what_if\nreport_wns setup\ntake\nend_what_if\n"}, "fault script1 C1 3", "take does not stand in a draft"),
-    ("paths in a draft", {"script": "begin_what_if\nreport_paths q setup 2\nend_what_if\n"}, "fault script1 C1 2", "report_paths does not stand in a draft"),
-    ("end of a draft in a group", {"script": "begin_what_if\nbegin_eco\nrepower_gate g1 BUF\nend_what_if\n"}, "fault script1 C1 4", "end_what_if stands in a group of edits"),
-    ("drop outside a draft", {"script": "drop_last\n"}, "fault script1 C1 1", "drop_last stands in a draft alone"),
-    ("101 trials", {"script": "begin_what_if\n" + "drop_last\n" * 101 + "end_what_if\n"}, "fault script1 C2 102", "100 trials of the draft stand before it"),
+    ("take in a draft", {"script": "begin_what_if\nreport_wns setup\ntake\nend_what_if\n"}, "fault script1 C1 3", "take may not be in a draft"),
+    ("paths in a draft", {"script": "begin_what_if\nreport_paths q setup 2\nend_what_if\n"}, "fault script1 C1 2", "report_paths may not be in a draft"),
+    ("end of a draft in a group", {"script": "begin_what_if\nbegin_eco\nrepower_gate g1 BUF\nend_what_if\n"}, "fault script1 C1 4", "end_what_if is in a group of edits"),
+    ("drop outside a draft", {"script": "drop_last\n"}, "fault script1 C1 1", "drop_last may only be in a draft"),
+    ("101 trials", {"script": "begin_what_if\n" + "drop_last\n" * 101 + "end_what_if\n"}, "fault script1 C2 102", "100 trials of the draft are before it"),
     ("candidate without a cell", {"script": "advise setup g1 BUF r1\n"}, "fault script1 C1 1", "1 to 100 pairs of an instance and a cell"),
     ("compressed", {"spef": gzip.compress(SPEF.encode()).decode("latin-1")}, "fault spef P1 0", "top.spef:1:1", "compressed"),
     ("byte order mark", {"sdc": "\xef\xbb\xbf" + CONSTRAINTS}, "fault sdc S1 0", "byte order mark"),
@@ -38,7 +38,7 @@ DAMAGES = [
     ("no number in a table", {"early": LIBRARY.replace('"10, 30"', '"10, nan"', 1)}, "fault early L6", "the word `nan` is no number"),
     ("bracket lost", {"late": LIBRARY.replace("} } } }\n cell (DFF)", "} } }\n cell (DFF)")}, "fault late L1", "the text ends here", "closing bracket is missing: cell (BUF) of line 3"),
     ("assign", {"netlist": NETLIST.replace("endmodule", " assign n1 = n2;\nendmodule")}, "fault netlist V2", "top.v:6:2: V2: a construct that is not read", "  assign n1 = n2;"),
-    ("semicolon lost", {"netlist": NETLIST.replace(".Z(n2));", ".Z(n2))")}, "fault netlist V1", "top.v:5:2", "may stand before it"),
+    ("semicolon lost", {"netlist": NETLIST.replace(".Z(n2));", ".Z(n2))")}, "fault netlist V1", "top.v:5:2", "the fault may be before it"),
     ("a long line", {"netlist": PADDED.replace("endmodule", "x " * 9000 + "assign")}, "fault netlist V", " .. "),
     ("cell that a library lacks", {"early": LIBRARY.replace("(BUF)", "(BUF1)")}, "fault design E3 BUF", "the early library, has no cell BUF", "1 instance is of this cell, first g1", "top.v:4:2: E3 BUF: the cell is not"),
     ("cells that differ", {"late": LIBRARY.replace("hold_rising", "hold_falling")}, "fault design E3 DFF", "library alone has the tests D fall CK"),
@@ -145,12 +145,12 @@ class Damages(unittest.TestCase):
         good, next_one = block.format(0, 1000000, 1, "BUF"), block.format(1, 1000000, 2, "NOCELL")
         for text, line, *said in [
                 (good + next_one, "fault journal J4 2 E3 NOCELL\n", "saved:7: J4: entry 2 is refused", "  repower_gate g1 NOCELL\n"),
-                (good + good, f"fault journal J1 {len(good)}\n", "saved:5:1: J1:", "stands twice"),
+                (good + good, f"fault journal J1 {len(good)}\n", "saved:5:1: J1:", "comes twice"),
                 (good + "session 1 rows 0\n", f"fault journal J1 {len(good)}\n", "the rows of an output begin"),
                 (block.format(0, 900000, 1, "BUF"), "fault journal J5 0\n", "saved:1:1: J5: a block that was written under other derates",
                  "under `derates 900000 1000000 1000000 1000000`"),
                 ("journal 3 0\n", "fault journal J3 8\n", "saved:1:9: J3:"),
-                ("take\n", "fault journal J1 0\n", "looks like a script, and stands in the place of journal"),
+                ("take\n", "fault journal J1 0\n", "looks like a script, and is in the place of journal"),
                 ("", ""), (good, ""), ("journal 1 1\n" + good.split("\n", 2)[2], "")]:
             with self.subTest(line):
                 (self.folder / "saved").write_text(text)

@@ -7,10 +7,9 @@ import unittest
 
 import common
 
-sys.path.append(str(common.TOP / "bench"))
-import board_stress  # noqa: E402
-import damaged_documents  # noqa: E402
-import trials  # noqa: E402
+from lizdrog_dev import board_stress
+from lizdrog_dev import damaged_documents
+from lizdrog_dev import trials
 
 TEXT = b"0123456789"
 COMPILER = next((it for it in ("cc", "gcc", "clang") if shutil.which(it)), None)
@@ -178,7 +177,7 @@ class Trials(unittest.TestCase):
     def test_real_devices(self):
         status, out, err = self.trial("real_devices", "--program", common.PROGRAM, "--short")
         self.assertEqual((status, err), (0, ""), out)
-        self.assertIn("each as README.md says", out)
+        self.assertIn("each as docs/COMMANDS.md says", out)
 
 
 if __name__ == "__main__":

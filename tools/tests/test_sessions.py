@@ -6,8 +6,8 @@ import tempfile
 import unittest
 
 import common
-import check_sessions
-import read_answers
+from lizdrog_tools import check_sessions
+from lizdrog_tools import read_answers
 
 EXAMPLE = common.TOP / "examples" / "two-engineers"
 ONE = "report_wns setup\nrepower_gate g1 BUF\nreport_wns setup\n"
@@ -52,7 +52,8 @@ final 2 setup 7.000 0.000 hold none 0.000
 def behind(text, first):
     """The same output of a run that goes on from so many saved entries."""
     text = re.sub(r"(?m)^(\d+|entry|final) (\d+)", lambda it: f"{it[1]} {int(it[2]) + first}", text)
-    return text.replace("journal 1 ", f"journal 2 {first} ").replace("\n", "\nderates 1000000 1000000 1000000 1000000\n", 1)
+    return text.replace("journal 1 ", f"journal 2 {first} ").replace("\n",
+                                                                     "\nderates 1000000 1000000 1000000 1000000\n", 1)
 
 
 def faults_of(output=OUTPUT, alone=ALONE, scripts=(ONE, TWO)):
@@ -74,8 +75,8 @@ class Checker(unittest.TestCase):
     def test_what_agrees(self):
         faults, asked = faults_of()
         self.assertEqual(faults, [])
-        self.assertEqual(asked, "report_wns setup\nrepower_gate g1 BUFX\nbegin_eco\nremove_gate b1\nremove_gate b2\ncommit_eco\n"
-                                "repower_gate g1 BUF\nreport_wns setup\nreport_path q setup\n")
+        self.assertEqual(asked, "report_wns setup\nrepower_gate g1 BUFX\nbegin_eco\nremove_gate b1\nremove_gate "
+                         "b2\ncommit_eco\nrepower_gate g1 BUF\nreport_wns setup\nreport_path q setup\n")
 
     def test_saved_entries_before(self):
         scripts = (ONE, TWO.replace("await 2", "await 7"))
@@ -84,16 +85,20 @@ class Checker(unittest.TestCase):
         output = read_answers.Output(behind(OUTPUT, 5))
         self.assertEqual((output.first, len(output.ecos), output.sessions[0][1].design), (5, 2, 7))
         faults, _ = faults_of(behind(OUTPUT, 5).replace("1 5 wns", "1 4 wns"), behind(ALONE, 5), scripts)
-        self.assertIn("the design 4 behind None, of 7", faults[0])
+        self.assertIn("the design 4 after None, of 7", faults[0])
 
     def test_what_does_not(self):
-        for old, new, said in (("3 2 wns 7.000", "3 2 wns 7.001", "session 1, command 3: wns 7.001, and one session says wns 7.000 at design 2"),
-                               ("3 2 wns", "3 1 wns", "session 1, command 3: the design 1 behind 2"),
-                               ("3 2 reached", "3 2 not_yet 10", "session 2, command 3: await 2 10 has the answer not_yet 10 (design 2)"),
-                               ("session 2 edits 2", "session 1 edits 2", "its rows accept [2], and its entries are [1, 2]"),
-                               ("q rise 3.000", "q rise 3.001", "session 2, command 5"),
+        for old, new, said in (("3 2 wns 7.000", "3 2 wns 7.001",
+                                "session 1, command 3: wns 7.001, and one session says wns 7.000 at design 2"),
+                               ("3 2 wns", "3 1 wns", "session 1, command 3: the design 1 after 2"),
+                               ("3 2 reached", "3 2 not_yet 10",
+                                "session 2, command 3: await 2 10 has the answer not_yet 10 (design 2)"),
+                               ("session 2 edits 2", "session 1 edits 2",
+                                "its rows accept [2], and its entries are [1, 2]"), ("q rise 3.000", "q rise 3.001",
+                                                                                     "session 2, command 5"),
                                ("4 2 taken", "4 2 reached", "take has the answer reached"),
-                               ("repower_gate g1 BUF\nsession", "repower_gate g2 BUF\nsession", "repower_gate g1 BUF has the answer accepted"),
+                               ("repower_gate g1 BUF\nsession", "repower_gate g2 BUF\nsession",
+                                "repower_gate g1 BUF has the answer accepted"),
                                ("final 2 setup 7.000", "final 2 setup 7.001", "the last line")):
             faults, _ = faults_of(OUTPUT.replace(old, new))
             self.assertTrue(any(said in it for it in faults), (new, faults))
@@ -120,12 +125,15 @@ class Checker(unittest.TestCase):
         faults, _ = faults_of(output, output.replace("q rise 3.000", "q rise 3.001"), (script,))
         self.assertEqual(faults, ["session 1, command 1: what_if 3, and one session says what_if 3 at design 0"])
         faults, _ = faults_of(output.replace("advice g1", "advice g2"), output, (script,))
-        self.assertEqual(faults, ["session 1, command 2: advice g2 BUF 7.000, and one session says advice g1 BUF 7.000 at design 0"])
+        self.assertEqual(faults,
+                         ["session 1, command 2: advice g2 BUF 7.000, and one session says advice g1 BUF 7.000 at "
+                          "design 0"])
         faults, _ = faults_of(output.replace("2 0 advice g1", "2 0 wns g1"), output, (script,))
         self.assertIn("advise setup g1 BUF has the answer wns", faults[0])
 
     def test_parasitics_are_written_in_order(self):
-        self.assertEqual(check_sessions.in_order("set_parasitics n r a b 5 c a 1 r b d 7 c d 2"), "set_parasitics n c a 1 c d 2 r a b 5 r b d 7")
+        self.assertEqual(check_sessions.in_order("set_parasitics n r a b 5 c a 1 r b d 7 c d 2"),
+                         "set_parasitics n c a 1 c d 2 r a b 5 r b d 7")
         self.assertEqual(check_sessions.in_order("set_parasitics n none"), "set_parasitics n none")
 
     def test_an_entry_that_is_refused_alone(self):

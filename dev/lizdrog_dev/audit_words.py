@@ -1,0 +1,166 @@
+"""What must be read to know what `serve` says: dev/audit_words.py [--files | --words]
+
+Follows the words of specifications (`crates/*/specs`) from the clauses of `pub fn serve` in
+crates/shell_session/src/serving.rt: each word that a clause names, each word that the definition of such a word names,
+and so on. It prints a line for each crate with the number of words and of their lines (without comments and empty
+lines), and last the sum.
+
+Types that are declared in src/, and the toolchain's own words, are not counted. A name counts wherever a definition
+has it, so a variable with the name of a word makes the count larger, never smaller.
+
+  --files   a line for each file
+  --words   a line for each word: crate, file, line, number of lines, name
+"""
+import argparse
+import dataclasses
+import pathlib
+import re
+import signal
+
+from lizdrog_tools.places import TOP
+
+TOP_CALL = ("shell_session", "serving.rt", "serve")
+DERIVED = {"declared", "contracts", "formers"}
+HEAD = re.compile(r"^(?:pub )?(?:abbrev|unfoldable|record|data)(?: pub)? ([^\s:(]+)")
+USE = re.compile(r"use Rattle\.(\w+)\.specs\.([\w.]+?)(?:\.\{([^}]*)\}| as (\w+))")
+Named = tuple[str, str, str]
+NAME = re.compile(r"(?<![\w.'])((?:[a-z]\w*\.)?[A-Za-z_][\w'?!]*)")
+
+
+@dataclasses.dataclass(frozen=True)
+class Word:
+    crate: str
+    file: str
+    name: str
+    line: int
+    lines: int
+    body: str
+
+    @property
+    def key(self) -> Named:
+        return self.crate, self.file, self.name
+
+
+@dataclasses.dataclass
+class File:
+    """A file of specifications: its words, also by their constructors, and what it imports under which name."""
+    words: dict[str, Word]
+    imports: dict[str, Named]
+    modules: dict[str, tuple[str, str]]
+
+
+def imports_of(text: str) -> tuple[dict[str, Named], dict[str, tuple[str, str]]]:
+    """The names that a text imports, each with its crate, file and name there; and the modules that it names."""
+    names: dict[str, Named] = {}
+    modules: dict[str, tuple[str, str]] = {}
+    for crate, place, listed, alias in USE.findall(text):
+        parts = place.split(".")
+        if parts[0] in DERIVED:
+            continue
+        if alias:
+            modules[alias] = (crate, parts[0])
+        for item in (listed or "").split(","):
+            name, _, shown = item.strip().partition(" as ")
+            if name:
+                names[shown or name] = (crate, parts[0], name)
+    return names, modules
+
+
+def declarations(lines: list[str]) -> list[tuple[int, str]]:
+    """The number of the first line of each declaration, and its name."""
+    heads = [(number, HEAD.match(line)) for number, line in enumerate(lines)]
+    return [(number, it.group(1)) for number, it in heads if it]
+
+
+def constructors(body: str) -> list[str]:
+    """The names of the constructors of `data`."""
+    return re.findall(r"^  (\w+) :", body, re.M) if re.match(r"(?:pub )?data ", body) else []
+
+
+def read_file(path: pathlib.Path, crate: str) -> File:
+    text = path.read_text()
+    lines = text.splitlines()
+    names, modules = imports_of(text)
+    heads = declarations(lines)
+    words: dict[str, Word] = {}
+    for at, (number, name) in enumerate(heads):
+        end = heads[at + 1][0] if at + 1 < len(heads) else len(lines)
+        kept = [it for it in lines[number:end] if it.strip() and not it.lstrip().startswith("--")]
+        word = Word(crate, path.stem, name, number + 1, len(kept), "\n".join(kept))
+        words[name] = word
+        words.update({it: word for it in constructors(word.body) if it not in words})
+    return File(words, names, modules)
+
+
+def read_specs() -> dict[tuple[str, str], File]:
+    files = {}
+    for path in sorted(TOP.glob("crates/*/specs/*.antt")):
+        crate = path.parent.parent.name
+        files[crate, path.stem] = read_file(path, crate)
+    return files
+
+
+def named(text: str, file: File, files: dict[tuple[str, str], File]) -> set[Word]:
+    """The words that a text names, by the imports and the words of the file in which it stands."""
+    found = set()
+    for name in set(NAME.findall(text)):
+        module, _, member = name.partition(".")
+        if member and module in file.modules:
+            place = (*file.modules[module], member)
+        else:
+            place = file.imports.get(module)
+        if place is None:
+            word = file.words.get(module)
+        else:
+            there = files.get(place[:2])
+            word = there.words.get(place[2]) if there else None
+        if word:
+            found.add(word)
+    return found
+
+
+def clauses_of(text: str, call: str) -> str:
+    """The clauses of a public function."""
+    start = text.index(f"pub fn {call}<")
+    return "\n".join(re.findall(r"^    (?:requires|ensures) .*$", text[start:text.index("\n{", start)], re.M))
+
+
+def words_under(crate: str, source: str, call: str) -> list[Word]:
+    """All words on which the clauses of this call rest."""
+    text = (TOP / "crates" / crate / "src" / source).read_text()
+    files = read_specs()
+    names, modules = imports_of(text)
+    waiting = list(named(clauses_of(text, call), File({}, names, modules), files))
+    found: dict[Named, Word] = {}
+    while waiting:
+        word = waiting.pop()
+        if word.key not in found:
+            found[word.key] = word
+            waiting += named(word.body, files[word.crate, word.file], files) - set(found.values())
+    return sorted(found.values(), key=lambda it: (it.crate, it.file, it.line))
+
+
+def shown(name: str, words: list[Word]) -> str:
+    return f"{name:32} {len(words):5} words {sum(it.lines for it in words):6} lines"
+
+
+def main() -> int:
+    signal.signal(signal.SIGPIPE, signal.SIG_DFL)
+    asked = argparse.ArgumentParser(description=__doc__, formatter_class=argparse.RawDescriptionHelpFormatter)
+    form = asked.add_mutually_exclusive_group()
+    form.add_argument("--files", action="store_true", help="a line for each file")
+    form.add_argument("--words", action="store_true", help="a line for each word")
+    asked = asked.parse_args()
+    words = words_under(*TOP_CALL)
+    if asked.words:
+        for it in words:
+            print(f"{it.crate} {it.file} {it.line} {it.lines} {it.name}")
+        return 0
+    groups: dict[str, list[Word]] = {}
+    for it in words:
+        groups.setdefault(f"{it.crate}/specs/{it.file}" if asked.files else it.crate, []).append(it)
+    for name, of in groups.items():
+        print(shown(name, of))
+    crates, lines = len({it.crate for it in words}), sum(it.lines for it in words)
+    print(f"{len(words)} words, {lines} lines in {crates} crates")
+    return 0

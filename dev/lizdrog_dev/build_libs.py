@@ -1,0 +1,108 @@
+"""Proves and builds every library for daily work, each as soon as those below it are built, N beside each other.
+
+    dev/build_libs.py [--at-once N] [--seconds FILE] [CRATE ..]
+
+CRATE: only these libraries and those below them. FILE (as dev/gate_seconds.py --out writes it) lets the longest chain
+in seconds go first; without it the lines of the crates count. It calls rt's own build of a library, one job each, and
+keeps what it proves in out/, where rt check, rt test and rt must-fail find it. A run that is stopped goes on from
+there. It takes the place of `rt check` in a top crate as the first command of the day: that one first reads all crates
+below as source, then builds them in turn.
+"""
+import argparse
+import importlib.machinery
+import os
+import pathlib
+import shutil
+import sys
+import time
+import types
+from concurrent.futures import FIRST_COMPLETED, ThreadPoolExecutor, wait
+
+from lizdrog_tools.places import TOP
+
+
+def rt_library():
+    """The module of the toolchain that knows crates."""
+    rt = shutil.which("rt")
+    if rt is None:
+        sys.exit("build_libs: there is no rt on the PATH")
+    file = pathlib.Path(os.path.realpath(rt)).parent / "rtlib.py"
+    module = types.ModuleType("rtlib")
+    module.__file__ = str(file)
+    sys.modules["rtlib"] = module
+    importlib.machinery.SourceFileLoader("rtlib", str(file)).exec_module(module)
+    return module
+
+
+def chosen(crates, names):
+    """The libraries to build: those that are named with all below them, or all that some crate uses."""
+    if names:
+        wanted = {it.name for crate in crates if crate.name in names for it in [crate, *crate.below()]}
+        crates = [it for it in crates if it.name in wanted]
+    used = {below.name for it in crates for below in it.deps}
+    return [it for it in crates if it.name in used or it.name in names]
+
+
+def chains(crates, seconds):
+    """For each library what it and the dearest chain above it cost."""
+    cost = {it.name: it.count(rb"\n") for it in crates}
+    for line in pathlib.Path(seconds).read_text(encoding="utf-8").splitlines() if seconds else ():
+        cells = line.split("\t")
+        if len(cells) > 2 and cells[1] == "proof":
+            cost[cells[0]] = float(cells[2])
+    waits = {}
+    for it in reversed(sorted(crates, key=lambda crate: len(crate.below()))):
+        above = [waits[other.name] for other in crates if it in other.deps and other.name in waits]
+        waits[it.name] = cost[it.name] + max(above, default=0)
+    return waits
+
+
+def build(crate):
+    """Builds one library; gives it with the status and the seconds."""
+    began = time.monotonic()
+    os.makedirs(f"{crate.folder}/out", exist_ok=True)
+    with open(f"{crate.folder}/out/build.log", "w", encoding="utf-8") as crate.out:
+        status = crate.build_rlib(["--jobs", "1"], anew=False)
+    return crate, status, time.monotonic() - began
+
+
+def build_all(crates, waits, at_once):
+    """Builds each library when those below it are built; gives the names of those that failed."""
+    left, done, failed, running = sorted(crates, key=lambda it: -waits[it.name]), set(), set(), set()
+    with ThreadPoolExecutor(at_once) as pool:
+        while left or running:
+            for it in list(left):
+                below = {other.name for other in it.below()}
+                if below & failed:
+                    left.remove(it)
+                    failed.add(it.name)
+                    print(f"{it.name}: not built, since a library below failed", flush=True)
+                elif below <= done and len(running) < at_once:
+                    left.remove(it)
+                    running.add(pool.submit(build, it))
+            if not running:
+                continue
+            ended, running = wait(running, return_when=FIRST_COMPLETED)
+            for it, status, took in (run.result() for run in ended):
+                (failed if status else done).add(it.name)
+                print(f"{it.name}: {'FAILED, see out/build.log' if status else 'built'} ({took:.0f} s)", flush=True)
+    return failed
+
+
+def main():
+    parser = argparse.ArgumentParser(description=__doc__, formatter_class=argparse.RawDescriptionHelpFormatter)
+    parser.add_argument("--at-once", type=int, default=os.cpu_count() or 1, metavar="N")
+    parser.add_argument("--seconds", metavar="FILE")
+    parser.add_argument("names", nargs="*", metavar="CRATE")
+    given = parser.parse_args()
+    rt = rt_library()
+    crates = [it for it in rt.crates_below(str(TOP)) if it.makes_rlib()]
+    unknown = sorted(set(given.names) - {it.name for it in crates})
+    if unknown:
+        parser.error(f"{unknown[0]} is no library")
+    crates = chosen(crates, given.names)
+    rt.guarded()
+    held = rt.lock(crates)  # what locks the crates is kept to the end
+    failed = build_all(crates, chains(crates, given.seconds), given.at_once)
+    del held
+    return 1 if failed else 0

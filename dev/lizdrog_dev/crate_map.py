@@ -1,0 +1,129 @@
+"""The map of the crates, as crates.txt has it: dev/crate_map.py [CRATE ..]
+
+Without a name it prints each level of the map with its crates by groups. A crate's level is one more than the greatest
+level of the crates that it uses. Groups are the comments of crates.txt; crates of tests are left out.
+
+With names it prints for each crate what it uses (what follows from other uses is left out), and which crates a change
+of it proves again, with their share of all lines of sources, definitions and proofs.
+
+Status 1 where a crate uses one of a later group or a later line; 2 where there is no such crate.
+"""
+import argparse
+import dataclasses
+import signal
+import sys
+import textwrap
+
+from lizdrog_tools.places import TOP
+
+TESTS = "tests"
+
+
+@dataclasses.dataclass(frozen=True)
+class Crate:
+    name: str
+    group: str
+    uses: tuple[str, ...]
+
+
+Crates = dict[str, Crate]
+
+
+def read_crates(text: str) -> Crates:
+    """The crates in the order of the file, each with its group and the crates of this repository that it uses."""
+    found, group = [], ""
+    for line in text.splitlines():
+        if line.startswith("#"):
+            group = line.lstrip("# ").strip()
+        elif line.strip():
+            name, _, uses = line.partition(":")
+            found.append((name.split()[0], group, uses.split()))
+    own = {name for name, _, _ in found}
+    return {name: Crate(name, group, tuple(it for it in uses if it in own)) for name, group, uses in found}
+
+
+def groups_of(crates: Crates) -> list[str]:
+    return list(dict.fromkeys(it.group for it in crates.values()))
+
+
+def all_below(crates: Crates, name: str) -> set[str]:
+    found: set[str] = set()
+    for used in crates[name].uses:
+        found |= {used} | all_below(crates, used)
+    return found
+
+
+def needed_uses(crates: Crates, name: str) -> list[str]:
+    """What a crate uses, without what follows from its other uses."""
+    uses = crates[name].uses
+    return [it for it in uses if not any(it in all_below(crates, other) for other in uses if other != it)]
+
+
+def level(crates: Crates, name: str) -> int:
+    return 1 + max((level(crates, it) for it in crates[name].uses), default=-1)
+
+
+def all_above(crates: Crates, name: str) -> list[str]:
+    return [it for it in crates if name in all_below(crates, it)]
+
+
+def edges_up(crates: Crates) -> list[str]:
+    """What contradicts the order of the file: a crate that uses one of a later line or group."""
+    order, groups = list(crates), groups_of(crates)
+    found = []
+    for it in crates.values():
+        for used in it.uses:
+            is_later = groups.index(crates[used].group) > groups.index(it.group)
+            if is_later or order.index(used) > order.index(it.name):
+                found.append(f"{it.name} ({it.group}) uses {used} ({crates[used].group})")
+    return found
+
+
+def map_lines(crates: Crates) -> list[str]:
+    kept = {name: it for name, it in crates.items() if it.group != TESTS}
+    groups, levels = groups_of(kept), {name: level(crates, name) for name in kept}
+    lines = []
+    for number in range(max(levels.values()) + 1):
+        shown = f"{number:2}"
+        for group in groups:
+            names = [name for name, it in kept.items() if levels[name] == number and it.group == group]
+            if names:
+                lines.append(f"{shown}  {group:17} {' '.join(names)}")
+                shown = "  "
+    return lines
+
+
+def lines_in(name: str) -> int:
+    parts = [TOP / "crates" / name / part for part in ("src", "specs", "proofs")]
+    files = [it for part in parts for it in part.rglob("*") if it.suffix in (".rt", ".antt")]
+    return sum(len(it.read_text().splitlines()) for it in files)
+
+
+def change_lines(crates: Crates, name: str) -> list[str]:
+    """What a crate uses, and what a change of it costs."""
+    counts = {it: lines_in(it) for it in crates}
+    again = [name, *all_above(crates, name)]
+    share = 100 * sum(counts[it] for it in again) / sum(counts.values())
+    uses = " ".join(needed_uses(crates, name)) or "no crate of this repository"
+    said = [f"{name}: level {level(crates, name)}, {crates[name].group}; uses {uses}"]
+    change = f"a change proves {len(again)} of {len(crates)} crates again, {share:.0f} % of all lines: "
+    change += " ".join(again)
+    return said + textwrap.wrap(change, 120, initial_indent="  ", subsequent_indent="  ", break_on_hyphens=False)
+
+
+def main() -> int:
+    signal.signal(signal.SIGPIPE, signal.SIG_DFL)
+    words = argparse.ArgumentParser(description=__doc__, formatter_class=argparse.RawDescriptionHelpFormatter)
+    words.add_argument("names", metavar="CRATE", nargs="*")
+    names = words.parse_args().names
+    crates = read_crates((TOP / "crates.txt").read_text())
+    unknown = [it for it in names if it not in crates]
+    if unknown:
+        print(f"crate_map: crates.txt has no {' '.join(unknown)}", file=sys.stderr)
+        return 2
+    for line in [it for name in names for it in change_lines(crates, name)] or map_lines(crates):
+        print(line)
+    up = edges_up(crates)
+    for it in up:
+        print(f"crate_map: {it}", file=sys.stderr)
+    return 1 if up else 0

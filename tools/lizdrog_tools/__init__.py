@@ -1,0 +1,1 @@
+"""What designers run beside Lizdrog: readers of its documents, answers and journals, and the command itself."""

@@ -1,0 +1,1 @@
+"""One design at several corners: one run of the program for each, launched side by side, and their answers merged."""

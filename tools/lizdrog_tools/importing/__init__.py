@@ -1,0 +1,1 @@
+"""Brings a design as synthesis and layout tools write it to the five documents that Lizdrog reads."""

@@ -1,0 +1,541 @@
+"""Joins a script with the output of its run: read_answers.py SCRIPT OUTPUT [options]
+
+It prints a line for each row with its question, as `report_endpoint r2:D setup -> 936.500 ps (design 1)`, and paths and lists below it.
+
+  --netlist NETLIST --library LIBRARY   beside each pin of a path its cell, the net that it drives and its number of sinks, as they are in
+                                        the design of the row (ECOs of the journal included)
+  --journal SAVED                       for these: the saved journal that the run went on from
+  --json, --csv                         the rows for programs, in place of the lines
+  --failing                             the endpoints of negative slack, counted and listed, worst first
+  --histogram                           how many endpoints have which slack, as text
+  --svg FILE                            the same as a picture
+  --design N                            for the three above: the design whose rows count (default: the last one with endpoints)
+  --session N                           the session whose script it is; an output of several sessions asks for it
+
+Endpoints are those of the script's report_endpoint and report_worst; tools/endpoint_questions.py writes a script that asks all. The paths
+of a report_paths are one below the other, worst first; below a draft is each of its trials with its answer.
+"""
+import argparse
+import copy
+import csv
+import json
+import os
+import sys
+
+from lizdrog_tools import convert_journal, explain_fault
+from lizdrog_tools.files import InputFault, TextFault, parsed, tool
+from lizdrog_tools.liberty import read_library
+from lizdrog_tools.reporting.histogram import bins_of, histograms, picoseconds
+from lizdrog_tools.verilog import Instance, Joined, read_netlist
+
+QUESTIONS = {"Q1": "there is no such pin", "Q2": "it is no endpoint", "Q3": "the register has no test of this kind that a clock reaches"}
+
+
+# ------------------------------------------------------------------------------------------------ the script and the output
+
+class Command:
+    """A command of a script: its number, its lines with their numbers, where it begins, and its words."""
+
+    def __init__(self, number, numbered):
+        self.number, self.numbered = number, numbered
+        self.line, self.lines = numbered[0][0], [line for _, line in numbered]
+        self.words = self.lines[0].split()
+
+    def text(self):
+        if len(self.lines) == 1:
+            return " ".join(self.words)
+        return f"begin_eco ({len(self.lines) - 2} edits)" if self.words[0] == "begin_eco" else f"begin_what_if ({len(self.trials())} trials)"
+
+    def trials(self):
+        """The trials of a draft, groups of edits as one."""
+        return commands_of(self.numbered[1:-1], "begin_eco") if self.words[0] == "begin_what_if" else []
+
+    def edits(self):
+        """The edits of an ECO, alone or as a group, by their words."""
+        return self.lines[1:-1] if self.words[0] == "begin_eco" else [" ".join(self.words)]
+
+
+ENDS = {"begin_eco": "commit_eco", "begin_what_if": "end_what_if"}
+
+
+def commands_of(numbered, *begins):
+    """The commands of some lines with their numbers: what these words begin is one, up to its end."""
+    commands, group, end = [], None, None
+    for number, line in numbered:
+        words = line.split()
+        if not words or words[0].startswith("#"):
+            continue
+        if group is not None:
+            group.append((number, " ".join(words)))
+            if words[0] == end:
+                commands.append(Command(len(commands) + 1, group))
+                group = None
+        elif words[0] in begins:
+            group, end = [(number, words[0])], ENDS[words[0]]
+        else:
+            commands.append(Command(len(commands) + 1, [(number, line)]))
+    return commands
+
+
+def read_script(text):
+    """The commands of a script, groups of edits and drafts as one."""
+    return commands_of(enumerate(text.split("\n"), 1), *ENDS)
+
+
+ANSWERS = {"take": ("taken",), "await": ("reached", "not_yet"), "advise": ("advice",), "begin_what_if": ("what_if",), "report_through": ("path", "no")}
+
+
+def may_answer(words, row):
+    """Whether a row may answer a command: its first word fits, and where it is a path it is one of that kind to that pin."""
+    name = words[0]
+    sorts = ANSWERS.get(name) or ((name[len("report_"):], "no") if name.startswith("report_") else ("accepted", "refused"))
+    if row.sort == "path" and row.words[:1] != ["none"]:
+        return row.sort in sorts and row.words[:2] == [words[2], words[1]]
+    return row.sort in sorts
+
+
+class Row:
+    """A row of a session: command, design, what it is, and what belongs to it."""
+
+    def __init__(self, words, below):
+        self.command, self.design, self.sort = int(words[0]), int(words[1]), words[2]
+        self.words, self.below = words[3:], below
+
+    def parts(self):
+        """Each path of a row of several, or each answer of a draft, as a row of its own."""
+        found, at = [], 0
+        while at < len(self.below):
+            head = self.below[at]
+            end = at + 1 + lines_below(head, self.below, at + 1)
+            found.append(Row([str(self.command), str(self.design), *head], self.below[at + 1:end]))
+            at = end
+        return found
+
+
+def lines_below(answer, lines, at):
+    """How many lines of paths, of a list of endpoints or of the answers of a draft belong to an answer; they begin at this line."""
+    if answer[0] == "worst":
+        return int(answer[1])
+    if answer[0] in ("paths", "what_if"):
+        end = at
+        for _ in range(int(answer[1])):
+            end += 1 + lines_below(lines[end], lines, end + 1)
+        return end - at
+    return int(answer[-1]) if answer[0] == "path" and answer[1] != "none" else 0
+
+
+class Output:
+    """The output of a run: how many saved entries stand before, the ECOs of its journal with the sessions that made them, the rows of its
+    sessions, and its last line."""
+
+    def __init__(self, text: str):
+        self.first, self.ecos, self.makers, self.sessions, self.final, self.rows = 0, [], [], [], None, []
+        self.lines, self.at = [it.split(" ") for it in text.split("\n")], 0
+        if not self.lines[0][0].startswith("journal"):
+            raise TextFault(1, f"this is no output of a run: {' '.join(self.lines[0])[:60]}")
+        while self.at < len(self.lines):
+            line = self.at
+            try:
+                self.step(self.lines[line])
+            except (ValueError, IndexError) as why:
+                said = " ".join(self.lines[line])[:60]
+                raise TextFault(line + 1, f"this is no line of an output, or what belongs to it is cut short: {said}") from why
+
+    def step(self, words: list[str]) -> None:
+        """Reads what begins at this line."""
+        self.at += 1
+        if words[:2] == ["journal", "2"] and self.at == 1:
+            self.first = int(words[2])
+        elif words[0] == "entry":
+            self.ecos.append([" ".join(it) for it in self.taken(int(words[5]))])
+            self.makers.append(int(words[3]))
+        elif words[0] == "session":
+            self.sessions.append([])
+        elif words[0] == "final":
+            self.final = words[1:]
+            _, *totals = self.final
+            if len(totals) != 6:
+                raise ValueError("a last line has both kinds")
+        elif self.sessions and words[0].isdecimal():
+            self.sessions[-1].append(Row(words, self.taken(lines_below(words[2:], self.lines, self.at))))
+
+    def taken(self, count: int) -> list[list[str]]:
+        """So many lines from here, which are passed."""
+        lines = self.lines[self.at:self.at + count]
+        if len(lines) < count:
+            raise IndexError("lines are missing")
+        self.at += count
+        return lines
+
+
+def read_output(name: str | os.PathLike) -> Output:
+    """The output of a run in a file."""
+    return parsed(name, Output)
+
+
+def read_script_file(name: str | os.PathLike) -> list[Command]:
+    """The commands of a script in a file."""
+    return parsed(name, read_script, may_be_empty=True)
+
+
+# ------------------------------------------------------------------------------------------------ the design of a row
+
+class Edited:
+    """A netlist with its library, taken through the ECOs of a journal one after the other."""
+
+    def __init__(self, netlist, library, ecos):
+        self.netlist, self.library, self.ecos, self.number, self.joined = netlist, library, ecos, 0, None
+
+    def at(self, number):
+        """The design of this number; numbers may not fall."""
+        while self.number < min(number, len(self.ecos)):
+            for edit in self.ecos[self.number]:
+                self.edit_of(edit)
+            self.number, self.joined = self.number + 1, None
+        if self.joined is None:
+            self.joined = Joined(self.netlist, self.library)
+        return self.joined
+
+    def drafted(self, number, edits):
+        """The design of this number after edits that are tried, as one of its own."""
+        self.at(number)
+        other = Edited(copy.deepcopy(self.netlist), self.library, [])
+        for edit in edits:
+            other.edit_of(edit)
+        return other
+
+    def pin(self, word):
+        instance, _, pin = word.rpartition(":")
+        return self.netlist.instances[instance], pin
+
+    def edit_of(self, edit: str) -> None:
+        """Takes the design through an edit; one that names what is not there is of another design."""
+        try:
+            self.edit(edit.split())
+        except (KeyError, IndexError) as why:
+            raise TextFault(None, f"the edit `{edit[:80]}` of the journal names what neither the netlist nor the library has") from why
+
+    def edit(self, words):
+        name, made = words[0], self.netlist.instances
+        if name == "repower_gate":
+            made[words[1]].cell = words[2]
+        elif name == "insert_gate":
+            made[words[1]] = Instance(words[1], words[2], 0)
+        elif name == "remove_gate":
+            del made[words[1]]
+        elif name in ("connect_pin", "disconnect_pin"):
+            instance, pin = self.pin(words[1])
+            instance.nets[pin] = words[2] if name == "connect_pin" else None
+        elif name == "insert_buffer":
+            net, inst, fresh, cell = words[1:5]
+            buffer = made[inst] = Instance(inst, cell, 0)
+            for pin, (way, _) in self.library.cells[cell].pins.items():
+                buffer.nets[pin] = net if way == "input" else fresh
+            for sink in words[5:]:
+                instance, pin = self.pin(sink)
+                instance.nets[pin] = fresh
+
+
+def beside(design, pin, direction):
+    """What stands beside a pin of a path: its cell, and where it drives a net that net with its number of sinks."""
+    net = design.nets.get(design.net_of.get(pin))
+    cell = design.cell_of(pin) or f"{direction} port"
+    drives = net is not None and pin in net.drivers
+    return {"cell": cell, "net": net.name if drives else None, "fanout": len(net.sinks) if drives else None}
+
+
+def draft_rows(command, row, edited):
+    """Each trial of a draft with its answer, and the design that it speaks of where designs are there."""
+    tried, shown = [], edited
+    for trial, answer in zip(command.trials(), row.parts()):
+        yield trial, answer, shown
+        if answer.sort == "tried":
+            tried.append(trial.edits())
+        elif answer.sort == "dropped":
+            tried.pop()
+        if edited and answer.sort in ("tried", "dropped"):
+            shown = edited.drafted(row.design, [edit for edits in tried for edit in edits]) if tried else edited
+
+
+def path_lines(row, edited):
+    """The pins of a path with the delay of each stage, and what stands beside them."""
+    design, before, found = edited.at(row.design) if edited else None, None, []
+    for pin, edge, time in row.below:
+        value = thousandths(time)
+        line = {"pin": pin, "edge": edge, "time": time, "stage": None if before is None else picoseconds(value - before)}
+        if design:
+            line.update(beside(design, pin, "input" if before is None else "output"))
+        found.append(line)
+        before = value
+    return found
+
+
+def thousandths(time):
+    """A printed time as a whole number of femtoseconds."""
+    return int(time.replace(".", ""))
+
+
+# ------------------------------------------------------------------------------------------------ lines for people
+
+def answer_text(row):
+    """The answer of a row, in a line."""
+    words = row.words
+    if row.sort in ("taken", "reached", "accepted", "tried", "dropped"):
+        return row.sort
+    if row.sort == "no_draft":
+        return "nothing to drop"
+    if row.sort == "what_if":
+        return f"{words[0]} answer{'' if words[0] == '1' else 's'}"
+    if row.sort == "advice":
+        return "no resize" if words[0] == "none" else f"{words[0]} to {words[1]}, worst slack {words[2]} ps"
+    if row.sort == "not_yet":
+        return f"not yet, after {words[0]} looks"
+    if row.sort == "refused":
+        return f"refused {' '.join(words)}: {explain_fault.sentence(words[0])}"
+    if row.sort == "no":
+        return f"no answer, {' '.join(words)}: {QUESTIONS.get(words[0], '')}"
+    if row.sort in ("at", "rat"):
+        edges = [f"{words[i]} {words[i + 1]} {words[i + 2]} ps" for i in range(1, len(words) - 2, 3)]
+        return ", ".join(edges) or ("no arrival" if row.sort == "at" else "no required time")
+    if row.sort == "worst":
+        return f"{words[0]} endpoints"
+    if row.sort == "paths":
+        return f"{words[0]} path{'' if words[0] == '1' else 's'}"
+    if row.sort == "path":
+        return "no tested path" if words[0] == "none" else f"slack {words[3]} ps, credit {words[5]} ps, from {words[7]} {words[8]} to {words[10]} {words[11]}"
+    return words[0] if words[0] == "none" else f"{words[0]} ps"
+
+
+def bound_text(row):
+    """What the test of a path asks of its time."""
+    time, slack = thousandths(row.below[-1][2]), thousandths(row.words[3])
+    if row.words[0] == "setup":
+        return f"  {picoseconds(time + slack):>11} is the latest time that the setup test allows, with credit"
+    return f"  {picoseconds(time - slack):>11} is the earliest time that the hold test allows, with credit"
+
+
+def path_text(row, edited):
+    """The lines of a path in columns."""
+    lines = path_lines(row, edited)
+    width = max(len(it["pin"]) for it in lines)
+    yield f"  {'time':>11} {'stage':>10} edge {'pin':{width}}" + ("  cell, and the net that the pin drives" if edited else "")
+    for line in lines:
+        text = f"  {line['time']:>11} {line['stage'] or '':>10} {line['edge']:4} {line['pin']:{width}}"
+        if edited:
+            net = f"  net {line['net']}, {line['fanout']} sink{'' if line['fanout'] == 1 else 's'}" if line["net"] else ""
+            text += f"  {line['cell']}{net}"
+        yield text.rstrip()
+    yield bound_text(row)
+
+
+def lines_of_row(command, row, edited):
+    """What stands below the line of a row."""
+    if row.sort == "worst":
+        width = max((len(time) for _, time in row.below), default=0)
+        for pin, time in row.below:
+            yield f"  {time:>{width}} ps  {pin}"
+    elif row.sort == "path" and row.below:
+        yield from path_text(row, edited)
+    elif row.sort == "paths":
+        for place, path in enumerate(row.parts(), 1):
+            yield f"  path {place}: {answer_text(path)}"
+            yield from path_text(path, edited)
+    elif row.sort == "what_if":
+        for trial, answer, shown in draft_rows(command, row, edited):
+            yield f"  {trial.text()} -> {answer_text(answer)}"
+            yield from (f"  {line}" for line in lines_of_row(trial, answer, shown))
+
+
+def print_lines(commands, output, edited):
+    for row in output.rows:
+        command = commands[row.command - 1]
+        print(f"{command.text()} -> {answer_text(row)} (design {row.design})")
+        for line in lines_of_row(command, row, edited):
+            print(line)
+    number, *totals = output.final
+    kinds = [f"{kind} worst {worst if worst == 'none' else worst + ' ps'}, total {total} ps" for kind, worst, total in (totals[:3], totals[3:])]
+    print(f"at the end, design {number}: {'; '.join(kinds)}")
+
+
+# ------------------------------------------------------------------------------------------------ rows for programs
+
+def row_value(command, row, edited):
+    """The answer of a row as data; times are texts in picoseconds."""
+    words = row.words
+    if row.sort == "what_if":
+        return {"answers": [{"line": trial.line, "question": trial.lines, "answer": answer.sort, **row_value(trial, answer, shown)}
+                            for trial, answer, shown in draft_rows(command, row, edited)]}
+    if row.sort == "advice":
+        return {"advice": None if words[0] == "none" else {"instance": words[0], "cell": words[1], "wns": words[2]}}
+    if row.sort in ("refused", "no"):
+        return {"code": words[0], "names": words[1:]}
+    if row.sort in ("at", "rat"):
+        return {"edges": [{"clock": words[i], "edge": words[i + 1], "time": words[i + 2]} for i in range(1, len(words) - 2, 3)]}
+    if row.sort == "worst":
+        return {"endpoints": [{"pin": pin, "slack": time} for pin, time in row.below]}
+    if row.sort == "path":
+        if words[0] == "none":
+            return {"path": None}
+        return {"slack": words[3], "credit": words[5], "launch": words[7:9], "capture": words[10:12], "path": path_lines(row, edited)}
+    if row.sort == "paths":
+        return {"paths": [row_value(command, path, edited) for path in row.parts()]}
+    if row.sort == "not_yet":
+        return {"looks": int(words[0])}
+    return {"time": None if words[0] == "none" else words[0]} if words else {}
+
+
+def as_data(commands, output, edited):
+    rows = [{"command": row.command, "line": commands[row.command - 1].line, "question": commands[row.command - 1].lines,
+             "design": row.design, "answer": row.sort, **row_value(commands[row.command - 1], row, edited)} for row in output.rows]
+    number, _, setup, setup_total, _, hold, hold_total = output.final
+    final = {"design": int(number), "setup": {"wns": setup, "tns": setup_total}, "hold": {"wns": hold, "tns": hold_total}}
+    return {"first": output.first, "journal": output.ecos, "rows": rows, "final": final}
+
+
+def print_csv(commands, output):
+    """One line for each row and each trial of a draft, or for each edge or line below it: command, design, question, answer, pin or clock,
+    edge, time. Trials of a draft are marked by a > before them."""
+    out = csv.writer(sys.stdout, lineterminator="\n")
+    out.writerow(["command", "design", "question", "answer", "pin", "edge", "time"])
+    for row in output.rows:
+        command = commands[row.command - 1]
+        if row.sort != "what_if":
+            out.writerows(csv_lines([row.command, row.design, command.text(), row.sort], row))
+        for trial, answer, _ in draft_rows(command, row, None):
+            out.writerows(csv_lines([row.command, row.design, f"> {trial.text()}", answer.sort], answer))
+
+
+def csv_lines(head, row):
+    """The lines of a row, which begin with its head."""
+    if row.sort in ("at", "rat") and len(row.words) > 1:
+        for i in range(1, len(row.words) - 2, 3):
+            yield [*head, row.words[i], row.words[i + 1], row.words[i + 2]]
+    elif row.sort == "paths" and row.below:
+        for place, path in enumerate(row.parts(), 1):
+            for line in path.below:
+                yield [*head[:3], f"path {place}", *line]
+    elif row.sort == "advice" and row.words[0] != "none":
+        yield [*head, " ".join(row.words[:2]), "", row.words[2]]
+    elif row.below:
+        for line in row.below:
+            yield [*head, line[0], line[1] if len(line) == 3 else "", line[-1]]
+    else:
+        is_time = row.sort in ("slew", "slack", "endpoint", "wns", "tns") and row.words[0] != "none"
+        said = "" if is_time else "none" if row.words == ["0"] else " ".join(row.words)
+        yield [*head, said, "", row.words[0] if is_time else ""]
+
+
+# ------------------------------------------------------------------------------------------------ slacks of endpoints
+
+def slacks_of(commands, output, design):
+    """The slacks of endpoints by kind, in fs, from the rows of one design, and the number of that design."""
+    found = {}
+    for row in output.rows:
+        words = commands[row.command - 1].words
+        if row.sort == "endpoint":
+            pairs, kind = [(words[1], row.words[0])], words[2]
+        elif row.sort == "worst":
+            pairs, kind = row.below, words[1]
+        else:
+            continue
+        by_kind = found.setdefault(row.design, {"setup": {}, "hold": {}})[kind]
+        by_kind.update((pin, None if time == "none" else thousandths(time)) for pin, time in pairs)
+    number = design if design is not None else max(found, default=0)
+    return number, found.get(number, {"setup": {}, "hold": {}})
+
+
+def print_failing(number, slacks):
+    for kind, ends in slacks.items():
+        failing = sorted((slack, pin) for pin, slack in ends.items() if slack is not None and slack < 0)
+        untested = sum(slack is None for slack in ends.values())
+        print(f"{kind}, design {number}: {len(failing)} of {len(ends)} endpoints that were asked fail"
+              + (f", {untested} have no tested path" if untested else ""))
+        for slack, pin in failing:
+            print(f"  {picoseconds(slack):>12} ps  {pin}")
+
+
+def print_histogram(number, slacks):
+    for kind, ends in slacks.items():
+        values = [it for it in ends.values() if it is not None]
+        if not values:
+            continue
+        print(f"{kind} slack of {len(values)} endpoints, design {number}, in ps")
+        bins = bins_of(values)
+        most = max(count for _, _, count in bins)
+        for low, high, count in bins:
+            bar = "#" * -(-count * 50 // most)
+            print(f"  {picoseconds(low):>12} to {picoseconds(high):>12} {count:6} {bar}".rstrip())
+
+
+# ------------------------------------------------------------------------------------------------ the command
+
+def arguments():
+    parser = argparse.ArgumentParser(description=__doc__, formatter_class=argparse.RawDescriptionHelpFormatter)
+    parser.add_argument("script")
+    parser.add_argument("output")
+    for name in ("--netlist", "--library", "--journal", "--svg"):
+        parser.add_argument(name)
+    for name in ("--json", "--csv", "--failing", "--histogram"):
+        parser.add_argument(name, action="store_true")
+    parser.add_argument("--design", type=int)
+    parser.add_argument("--session", type=int)
+    return parser.parse_args()
+
+
+def rows_of_session(given, commands, output):
+    """The rows that answer the commands of the script."""
+    count, name = len(output.sessions), given.output
+    if given.session is None and count > 1:
+        raise InputFault(name, None, f"it has {count} sessions: --session N says whose script {given.script} is, from 1")
+    session = given.session or 1
+    rows = output.sessions[session - 1] if 1 <= session <= count else []
+    if output.final is None or [row.command for row in rows] != [command.number for command in commands]:
+        of = f" of session {session} of {count}" if count > 1 else ""
+        raise InputFault(name, None, f"it is no whole output of {given.script}: {len(commands)} commands, {len(rows)} rows{of}")
+    for command, row in zip(commands, rows):
+        if not may_answer(command.lines[0].split(), row):
+            raise InputFault(name, None, f"it is of another script: `{' '.join([row.sort, *row.words])[:80]}` is no answer to "
+                                         f"`{command.lines[0][:80]}`, command {row.command} of {given.script}")
+    return rows
+
+
+def edited_design(given, output):
+    """The design that the ECOs of the journal edit, where the netlist and the library are given; else none."""
+    if not (given.netlist and given.library):
+        return None
+    saved = parsed(given.journal, convert_journal.read_journal, may_be_empty=True) if given.journal else {}
+    if any(number not in saved for number in range(1, output.first + 1)):
+        raise InputFault(given.output, None, f"it goes on from {output.first} saved entries: --journal names the journal that has them")
+    ecos = [saved[number] for number in range(1, output.first + 1)] + output.ecos
+    return Edited(read_netlist(given.netlist), read_library(given.library), ecos)
+
+
+def show(given, commands, output, edited):
+    """Prints what the options ask for."""
+    number, slacks = slacks_of(commands, output, given.design)
+    if given.json:
+        json.dump(as_data(commands, output, edited), sys.stdout, indent=1)
+        print()
+    elif given.csv:
+        print_csv(commands, output)
+    elif not (given.failing or given.histogram or given.svg):
+        print_lines(commands, output, edited)
+    if given.failing:
+        print_failing(number, slacks)
+    if given.histogram:
+        print_histogram(number, slacks)
+    if given.svg:
+        with open(given.svg, "w", encoding="ascii") as file:
+            file.write(histograms(number, slacks).file())
+
+
+@tool("read_answers")
+def main():
+    given = arguments()
+    commands, output = read_script_file(given.script), read_output(given.output)
+    output.rows = rows_of_session(given, commands, output)
+    edited = edited_design(given, output)
+    try:
+        show(given, commands, output, edited)
+    except TextFault as why:
+        raise InputFault(given.output, why.line, why.message) from why

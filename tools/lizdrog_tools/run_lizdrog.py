@@ -1,0 +1,170 @@
+"""The command `lizdrog`: chooses the program, runs it, and explains what it refused.
+
+What each call needs is imported here, and all else where it is needed: a call of a short run is over in some hundredths of a second.
+"""
+import os
+import signal
+import sys
+
+from lizdrog_tools import command_line, programs
+from lizdrog_tools.programs import Stop
+
+NO_PROGRAM = 70
+# Commands that are tools by themselves, each with a --help of its own.
+BESIDE = {"corners": "corners.py", "import": "import_design.py", "report": "report.py", "summary": "summary.py"}
+FIRST_BYTES = 65536
+# What the C library does with memory, where nobody has said it. Large pages: the kernel gives them to those that ask (docs/SPEED.md).
+# One arena: where each thread has its own, the others do not use what is freed in it. Of 16 sessions with 40 ECOs each on 7,000 cells,
+# that more than doubled the memory (183 to 205 MB against 69), and took 37 to 43 s of processors against 29 to 33.
+TUNABLES = {"glibc.malloc.hugetlb": "1", "glibc.malloc.arena_max": "1"}
+
+
+def say(line: str) -> None:
+    print(f"lizdrog: {line}", file=sys.stderr, flush=True)
+
+
+def write_all(data: bytes) -> bool:
+    """Whether all of it was written to standard output."""
+    view = memoryview(data)
+    while view:
+        try:
+            view = view[os.write(1, view):]
+        except OSError:
+            return False
+    return True
+
+
+def surroundings() -> dict[str, str]:
+    """The environment of the program, with those of its tunables that nobody has set."""
+    said = os.environ.get("GLIBC_TUNABLES", "")
+    known = {it.partition("=")[0] for it in said.split(":")}
+    added = [f"{name}={value}" for name, value in TUNABLES.items() if name not in known]
+    return {**os.environ, "GLIBC_TUNABLES": ":".join([*([said] if said else []), *added])}
+
+
+def start(program: str, words: list[str]) -> tuple[int, int]:
+    """Starts the program; gives the number of its process, and what to read its output from."""
+    reading, writing = os.pipe()
+    as_default = [signal.SIGPIPE, signal.SIGXFSZ]
+    try:
+        child = os.posix_spawn(program, [program, *words], surroundings(), setsigdef=as_default,
+                               file_actions=[(os.POSIX_SPAWN_DUP2, writing, 1)])
+    except OSError as why:
+        raise Stop(f"{program} does not start: {why.strerror}") from why
+    os.close(writing)
+    return child, reading
+
+
+def run(program: str, words: list[str]) -> tuple[int, bytes]:
+    """Runs the program with its output passed on; gives its status and the first bytes of what it wrote."""
+    child, reading = start(program, words)
+    for number in (signal.SIGTERM, signal.SIGHUP):
+        signal.signal(number, lambda got, _: os.kill(child, got))
+    signal.signal(signal.SIGINT, lambda got, _: None)
+    first, written = b"", True
+    while written:
+        data = os.read(reading, 1 << 20)
+        if not data:
+            break
+        first += data[:FIRST_BYTES - len(first)]
+        written = write_all(data)
+    os.close(reading)
+    status = os.waitstatus_to_exitcode(os.waitpid(child, 0)[1])
+    if status < 0:
+        return 128 - status, first
+    return (status if written else 5), first
+
+
+def usage(why: str) -> None:
+    """The words of the command and then, where the eye is, what is wrong with those that were given."""
+    from lizdrog_tools import help_text
+    print(help_text.USAGE, file=sys.stderr)
+    say(why)
+
+
+def explain(status: int, first: bytes, words: list[str]) -> None:
+    """Says more of a run that did not end with answers alone."""
+    if status == 1:
+        say("status 1: some row is refused, no or not_yet; tools/read_answers.py SCRIPT OUTPUT shows the command of each, and what "
+            "its code means")
+        return
+    from lizdrog_tools import explain_fault
+    if status == 2:
+        usage(command_line.doubts(words))
+    for line in explain_fault.explain(status, first.decode("latin-1"), words):
+        print(line, file=sys.stderr)
+
+
+def serve(given: dict, words: list[str]) -> int:
+    """Chooses the program, runs it, and explains what it refused."""
+    program = given["program"]
+    if program and given["proved"]:
+        raise Stop("--program and --proved do not go together: nothing is known of the proof of a program that is given")
+    program = program or programs.choose(given["proved"], given["build"], say)
+    if not words:
+        return 0
+    status, first = run(program, words)
+    if status:
+        explain(status, first, words)
+    return status
+
+
+def other_command(words: list[str], is_proved: bool) -> int | None:
+    """The status of a command that scripts answer; none where the program is to answer."""
+    name, rest = (words[0], words[1:]) if words else ("", [])
+    if name == "install":
+        from lizdrog_tools import install
+        return install.main(rest, is_proved, say)
+    if name == "test":
+        from lizdrog_tools import try_clone
+        return try_clone.main(rest, is_proved, say)
+    return None
+
+
+def project_words(words: list[str]) -> list[str]:
+    """The seven words of a run by a project file."""
+    from lizdrog_tools import run_project
+    return run_project.expanded(words) if run_project.is_project(words) else words
+
+
+def answer(words: list[str]) -> int:
+    """The status of a call with these words."""
+    if words and words[0] in BESIDE:
+        os.execv(sys.executable, [sys.executable, f"{programs.TOP}/tools/{BESIDE[words[0]]}", *words[1:]])
+    asked = command_line.asked_help(words)
+    if asked is not None:
+        from lizdrog_tools import help_text
+        return 0 if write_all(help_text.of(asked).encode() + b"\n") else 5
+    given, words = command_line.options_of(words)
+    if words == [] and given["version"]:
+        return 0 if write_all("\n".join([*programs.version(), ""]).encode()) else 5
+    status = other_command(words or [], given["proved"])
+    if status is not None:
+        return status
+    if words and words[0] == "run" and any(it.endswith(".toml") for it in words):
+        from lizdrog_tools import files
+        try:
+            words = project_words(words)
+        except (files.InputFault, OSError) as why:
+            say(str(why))
+            return 2 if write_all(b"fault words\n") else 5
+    why = "" if words == [] and given["build"] else command_line.misfit(words) if words is not None else "there is no such option"
+    if why:
+        written = write_all(b"fault words\n")
+        usage(why)
+        return 2 if written else 5
+    return serve(given, words)
+
+
+def main() -> int:
+    try:
+        os.fstat(1)
+    except OSError:
+        os.dup2(os.open("/dev/full", os.O_WRONLY), 1)
+    try:
+        return answer(sys.argv[1:])
+    except Stop as why:
+        say(str(why))
+        return NO_PROGRAM
+    except KeyboardInterrupt:
+        return 130

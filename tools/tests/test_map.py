@@ -1,0 +1,75 @@
+"""The map of the crates, and what an auditor has to read: the pages have what the scripts of dev/ find."""
+import re
+import sys
+import unittest
+
+import common
+
+DEV, DOCS = common.TOP / "dev", common.TOP / "docs"
+# Groups of crates.txt on whose words the top call may rest. No engine, graph, path or store crate is among them.
+READ_GROUPS = {"base", "without a store", "texts", "generated designs", "program"}
+READ_CRATES = {"shell_core"}
+# Words of other crates that are known to be among them.
+KNOWN_WORDS = {("eco_analysis", "IsFaultless")}
+
+
+def script(name, *words):
+    return common.run(sys.executable, DEV / f"{name}.py", *words)
+
+
+def groups():
+    """The group of each crate, by the comments of crates.txt."""
+    found, group = {}, ""
+    for line in (common.TOP / "crates.txt").read_text().splitlines():
+        if line.startswith("#"):
+            group = line.lstrip("# ")
+        elif line:
+            found[line.partition(":")[0]] = group
+    return found
+
+
+class Map(unittest.TestCase):
+    def test_no_crate_uses_one_above(self):
+        status, _, errors = script("crate_map")
+        self.assertEqual((status, errors), (0, ""))
+
+    def test_page_has_the_map(self):
+        self.assertIn(script("crate_map")[1], (DOCS / "ARCHITECTURE.md").read_text())
+
+    def test_table_and_file_agree(self):
+        """The table of the page has the groups and crates of crates.txt, in their order."""
+        text = (DOCS / "ARCHITECTURE.md").read_text()
+        rows, group = [], None
+        for head, crate in re.findall(r"^\| (?:\*\*([^|*]+)\*\*)? \|[^|]*\| `(\w+)` \|", text, re.M):
+            group = head or group
+            rows.append((crate, group))
+        self.assertEqual(rows, [(crate, group) for crate, group in groups().items() if group != "tests"])
+
+    def test_change_of_a_crate(self):
+        status, out, _ = script("crate_map", "shell_session")
+        self.assertEqual(status, 0)
+        self.assertIn("shell_session timing_shell shell_tests", out)
+        self.assertEqual(script("crate_map", "no_such_crate")[0], 2)
+
+
+class Audit(unittest.TestCase):
+    def test_top_call_rests_on_no_engine(self):
+        status, out, _ = script("audit_words", "--words")
+        self.assertEqual(status, 0)
+        of = groups()
+        words = [(line.split()[0], line.split()[-1]) for line in out.splitlines()]
+        self.assertGreater(len(words), 1000)
+        others = {(crate, name) for crate, name in words if of[crate] not in READ_GROUPS and crate not in READ_CRATES}
+        self.assertLessEqual(others, KNOWN_WORDS)
+
+    def test_page_has_the_counts(self):
+        self.assertIn(script("audit_words")[1], (DOCS / "GUARANTEE.md").read_text())
+
+    def test_clauses_are_listed(self):
+        out = script("clause_names", "shell_session")[1]
+        self.assertIn("serve: ensures ends, kept, rising, shelf_count, completeness", out)
+        self.assertEqual(script("clause_names", "no_such_crate")[0], 2)
+
+
+if __name__ == "__main__":
+    unittest.main()
