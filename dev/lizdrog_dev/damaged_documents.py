@@ -144,7 +144,7 @@ def all_designs(seed):
 
 def pulse():
     """The example of a real netlist, beside a library that does not have its cells: its documents are read, and the design is refused."""
-    return {**trials.folder_of("pulse-width"), "a.lib": trials.raw_texts()["A_LIBRARY"]}
+    return {**trials.folder_of("pulse-width"), "a.lib": trials.shared_texts()["a.lib"]}
 
 
 class Trial:

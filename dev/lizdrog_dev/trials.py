@@ -271,10 +271,12 @@ def check_answer(ran, documents, sessions, saved):
 
 # ------------------------------------------------------------------------------------------------ designs
 
-def raw_texts():
-    """The raw texts of the documents that the gate's runs share, by the names of their constants."""
-    text = (TOP / "crates/shell_tests/src/documents.rt").read_text()
-    return {it[1]: it[2].encode() for it in re.finditer(r'const (\w+): &str =\s*r#"(.*?)"#;', text, re.S)}
+def shared_texts():
+    """The texts of the documents that the rows of crates/shell_rows share, by their names: those before the first case."""
+    head = re.split(r"(?m)^case ", (TOP / "crates/shell_rows/stdin").read_text())[0]
+    parts = re.split(r"(?m)^document (.*)\n", head)
+    lines = {name: re.findall(r"(?m)^\| ?(.*)$", rows) for name, rows in zip(parts[1::2], parts[2::2])}
+    return {name: "".join(f"{it}\n" for it in found).encode() for name, found in lines.items()}
 
 
 def one_script(*lines):
@@ -313,12 +315,12 @@ def folder_of(name):
 
 def gate_designs():
     """The documents of the worked rows that the gate runs, and those of the examples."""
-    texts = raw_texts()
-    base = {"early.lib": texts["EARLY"], "late.lib": texts["LATE"], "b.v": texts["REGISTERS"], "b.sdc": texts["REGISTERS_CLOCK"]}
+    texts = shared_texts()
+    base = {it: texts[it] for it in ("early.lib", "late.lib", "b.v", "b.sdc")}
     words = ["run", "early.lib", "late.lib", "b.v", "b.sdc", "none", "2", "s1"]
-    contest = {"e.lib": texts["GRID_LIBRARY"], "e.v": texts["CONTEST"], "e.sdc": texts["CONTEST_CONSTRAINTS"], "e.spef": texts["CONTEST_PARASITICS"],
+    contest = {**{it: texts[it] for it in ("e.lib", "e.v", "e.sdc", "e.spef")},
                "s1": one_script("report_endpoint r1:D setup", "report_slew r1:D late rise", "report_path y hold", "report_wns hold")}
-    inverters = {"a.lib": texts["A_LIBRARY"], "a.v": texts["INVERTERS"], "empty": b"", "s1": one_script("report_slew u2:Z late rise")}
+    inverters = {**{it: texts[it] for it in ("a.lib", "a.v", "empty")}, "s1": one_script("report_slew u2:Z late rise")}
     ann, ben = ["run", "early.lib", "late.lib", "design.v", "design.sdc", "none", "2"], ["ann.eco", "ben.eco"]
     return [
         Design("inverters", inverters, ["run", "a.lib", "a.lib", "a.v", "empty", "none", "1", "s1"], plain=True),

@@ -1,13 +1,12 @@
-//! Tests of whole runs of the server, by its top call.
+//! Tests of whole runs of the server, by its top call, whose sessions are held at points of the run or left free. Runs that
+//! write one text alone are rows of `shell_rows`.
 #![tactic(auto)]
 
 #[cfg(test)]
 mod documents;
 #[cfg(test)]
-mod examples;
+mod limits;
 #[cfg(test)]
 mod running;
 #[cfg(test)]
 mod sessions;
-#[cfg(test)]
-mod statuses;

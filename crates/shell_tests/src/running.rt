@@ -36,6 +36,11 @@ impl Texts {
         self.names.push(name).expect(rt, "memory");
         self.texts.push(text).expect(rt, "memory");
     }
+
+    /// A shelf that has them.
+    fn shelf(self, alloc: Global) -> MemShelf {
+        MemShelf::new(self.names, self.texts, Vec::new(alloc))
+    }
 }
 
 fn words_of(rt: &impl Abort, alloc: Global, line: &str) -> Vec<String> {
@@ -47,35 +52,35 @@ fn words_of(rt: &impl Abort, alloc: Global, line: &str) -> Vec<String> {
     words
 }
 
-/// The status of a run by the words of a line, and what it writes into a sink of so much room. The shelf fails at fetches as `fetches`
-/// plans it, the sink at puts as `puts` does.
+/// What a sink was given.
+fn text_of(rt: &impl Abort, alloc: Global, sink: &MemSink) -> String {
+    let bytes = sink.bytes().to_vec(alloc).expect(rt, "memory");
+    String::from_utf8(bytes).expect(rt, "a text is written")
+}
+
+/// The status of a run by words.
+fn status_of<H: Threads + Wait + Sync, G: Gate>(
+    rt: &H,
+    alloc: Global,
+    words: &[String],
+    shelf: &mut MemShelf,
+    sink: &mut MemSink,
+    gate: &G,
+) -> Status {
+    serve(rt, alloc, words, shelf, sink, gate)
+}
+
+/// The status of a run by the words of a line over documents, and what it writes.
 pub(crate) fn run<H: Abort + Threads + Wait + Sync, G: Gate>(
     rt: &H,
     alloc: Global,
     line: &str,
     texts: Texts,
-    fetches: &[u64],
-    room: usize,
-    puts: &[u64],
     gate: &G,
-) -> (Status, Vec<u8>) {
+) -> (Status, String) {
     let words = words_of(rt, alloc, line);
-    let fetches = fetches.to_vec(alloc).expect(rt, "memory");
-    let puts = puts.to_vec(alloc).expect(rt, "memory");
-    let mut shelf = MemShelf::new(texts.names, texts.texts, fetches);
-    let mut sink = MemSink::new(alloc, room, puts).expect(rt, "memory");
-    let status = serve(rt, alloc, words.as_slice(), &mut shelf, &mut sink, gate);
-    (status, sink.bytes().to_vec(alloc).expect(rt, "memory"))
-}
-
-/// Asserts how a run has ended, and what it has written.
-pub(crate) fn assert_ended(
-    rt: &impl Abort,
-    ended: Status,
-    written: &[u8],
-    status: Status,
-    text: &str,
-) {
-    assert_eq!(rt; ended, status, "{text}");
-    assert_eq!(rt; written, text.as_bytes(), "{text}");
+    let mut shelf = texts.shelf(alloc);
+    let mut sink = MemSink::new(alloc, 1_000_000, Vec::new(alloc)).expect(rt, "memory");
+    let status = status_of(rt, alloc, words.as_slice(), &mut shelf, &mut sink, gate);
+    (status, text_of(rt, alloc, &sink))
 }

@@ -2,15 +2,14 @@
 
 mod free;
 mod generating;
-mod holding;
 mod looking;
+mod meetings;
 mod moving;
 mod preparing;
 mod reading;
-mod refused;
 mod sixteen;
 
-use crate::documents::DOCUMENTS;
+use crate::documents::REGISTERS;
 use crate::running;
 use crate::running::Texts;
 use shell_session::Status;
@@ -26,22 +25,7 @@ const TWO: &str = "run early.lib late.lib b.v b.sdc none 2 s1 s2";
 /// The names and the texts of scripts.
 type Scripts = &'static [(&'static str, &'static str)];
 
-/// The status of a run by the words of a line over some documents, and what it writes.
-fn run_over<H: Abort + Threads + Wait + Sync, G: Gate>(
-    rt: &H,
-    alloc: Global,
-    line: &str,
-    texts: Texts,
-    gate: &G,
-) -> (Status, String) {
-    let (status, written) = running::run(rt, alloc, line, texts, &[], 1_000_000, &[], gate);
-    (
-        status,
-        String::from_utf8(written).expect(rt, "a text is written"),
-    )
-}
-
-/// The same over the shared documents and some scripts.
+/// The status of a run by the words of a line over the registers and some scripts, and what it writes.
 fn run<H: Abort + Threads + Wait + Sync, G: Gate>(
     rt: &H,
     alloc: Global,
@@ -50,9 +34,9 @@ fn run<H: Abort + Threads + Wait + Sync, G: Gate>(
     gate: &G,
 ) -> (Status, String) {
     let mut texts = Texts::new(alloc);
-    texts.add(rt, alloc, &DOCUMENTS);
+    texts.add(rt, alloc, &REGISTERS);
     texts.add(rt, alloc, scripts);
-    run_over(rt, alloc, line, texts, gate)
+    running::run(rt, alloc, line, texts, gate)
 }
 
 /// Compares a run with the status and the text that it is to have.
@@ -66,9 +50,6 @@ fn compare<H: Abort + Threads + Wait + Sync, G: Gate>(
     text: &str,
 ) {
     let (ended, written) = run(rt, alloc, line, scripts, gate);
-    let same = ended == status && written.as_str() == text;
-    assert!(rt;
-        same,
-        "{line} ended with {ended} and\n{written}\nin the place of\n{text}"
-    );
+    assert_eq!(rt; ended, status, "{written}");
+    assert_eq!(rt; written.as_str(), text);
 }

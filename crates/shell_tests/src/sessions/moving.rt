@@ -1,66 +1,19 @@
 //! A session publishes while another has prepared its version over the same base: that one is prepared
 //! again over the newer version, and accepted or refused there.
 
-use super::holding::{Numbers, Patience, Reached};
+use super::meetings::{Meeting, prepared, published};
 use super::{Scripts, TWO, compare};
-use sta_outside::{Gate, Point};
 use std::alloc::Global;
 use std::process::Abort;
 use std::sync::Wait;
 use std::thread::Threads;
 
-/// Holds session 2 where it has first prepared a version until session 1 has, and session 1 there until
-/// session 2 has published. It records the numbers that session 1 prepares.
-#[derive(Drop)]
-struct SecondFirst {
-    patience: Patience,
-    numbers: Numbers,
-    one: Reached,
-    two: Reached,
-    published: Reached,
+/// The meeting where session 2 publishes while session 1 has prepared a version.
+pub(super) fn second_first() -> Meeting {
+    Meeting::new(prepared(1), prepared(2), published(2))
 }
 
-impl SecondFirst {
-    fn new() -> SecondFirst {
-        SecondFirst {
-            patience: Patience::new(),
-            numbers: Numbers::new(),
-            one: Reached::new(),
-            two: Reached::new(),
-            published: Reached::new(),
-        }
-    }
-}
-
-impl Gate for SecondFirst {
-    fn at(&self, point: Point) {
-        match point {
-            Point::Prepared { session: 1, number } => {
-                self.numbers.record(number);
-                if self.one.is_first() {
-                    self.patience.hold(&self.published);
-                }
-            }
-            Point::Prepared {
-                session: 2,
-                number: _,
-            } => {
-                if self.two.is_first() {
-                    self.patience.hold(&self.one);
-                }
-            }
-            Point::Published {
-                session: 2,
-                number: _,
-            } => {
-                self.published.is_first();
-            }
-            _ => {}
-        }
-    }
-}
-
-/// Compares a run under this gate with its status and its text, and the numbers that session 1 prepared.
+/// Compares a run of that meeting with its status and its text, and the numbers that session 1 prepared.
 fn compare_moved<H: Abort + Threads + Wait + Sync>(
     rt: &H,
     alloc: Global,
@@ -69,10 +22,10 @@ fn compare_moved<H: Abort + Threads + Wait + Sync>(
     text: &str,
     numbers: u64,
 ) {
-    let gate = SecondFirst::new();
+    let gate = second_first();
     compare(rt, alloc, TWO, scripts, &gate, status, text);
-    gate.patience.check(rt);
-    assert_eq!(rt; gate.numbers.recorded(), numbers);
+    gate.check(rt);
+    assert_eq!(rt; gate.numbers_prepared(), numbers);
 }
 
 const SCRIPTS: Scripts = &[
