@@ -43,7 +43,7 @@ class ProjectFile(Project):
         for changed, said in (({"netlist": None}, "p.toml: the key netlist is missing"),
                               ({"library": None}, "p.toml: the key early is missing (or library, for both early and late)"),
                               ({"early": "cells.lib"}, "library gives both early and late; write either library, or early and late"),
-                              ({"libary": "x"}, "there is no such key: libary; the keys are accept, early, "),
+                              ({"libary": "x"}, "there is no such key: libary; the keys are accept, corners, early, "),
                               ({"spef": [{"files": "x"}]}, "spef is a list of names or of { file = "),
                               ({"netlist": "gone.v"}, "gone.v: No such file or directory"),
                               ({"top": "other"}, "top.v: there is no module other: the one module is top")):
