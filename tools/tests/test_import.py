@@ -3,6 +3,7 @@ import gzip
 import lzma
 import os
 import pathlib
+import re
 import shutil
 import subprocess
 import tempfile
@@ -42,7 +43,7 @@ class ProjectFile(Project):
         for changed, said in (({"netlist": None}, "p.toml: the key netlist is missing"),
                               ({"library": None}, "p.toml: the key early is missing (or library, for both early and late)"),
                               ({"early": "cells.lib"}, "library gives both early and late; write either library, or early and late"),
-                              ({"libary": "x"}, "there is no such key: libary; the keys are accept, early, "),
+                              ({"libary": "x"}, "there is no such key: libary; the keys are accept, corners, early, "),
                               ({"spef": [{"files": "x"}]}, "spef is a list of names or of { file = "),
                               ({"netlist": "gone.v"}, "gone.v: No such file or directory"),
                               ({"top": "other"}, "top.v: there is no module other: the one module is top")):
@@ -118,6 +119,28 @@ class ProjectFile(Project):
         self.write_project(netlist=["a.v", "b.v"])
         _, _, errors = common.run(common.TOP / "lizdrog", *words, "p.toml", "s.eco", cwd=self.folder)
         self.assertIn("netlist is no single file: `lizdrog import p.toml`", errors)
+
+
+@needs_yosys
+@common.needs_program
+class Example(unittest.TestCase):
+    def test_the_page_of_the_example(self):
+        """Its commands, one after the other, print what the page says."""
+        page = common.TOP / "examples" / "as-tools-write-it" / "README.md"
+        top = pathlib.Path(tempfile.mkdtemp())
+        self.addCleanup(shutil.rmtree, top)
+        shutil.copytree(page.parent, top / "examples" / page.parent.name)
+        (top / "tools").symlink_to(common.TOP / "tools")
+        (top / "lizdrog").write_text(f'#!/bin/sh\n[ "$1" = import ] || set -- --program "{common.PROGRAM}" "$@"\nexec "{common.TOP}/lizdrog" "$@"\n')
+        (top / "lizdrog").chmod(0o755)
+        given = [it.strip("\n") for it in re.findall(r"^```\n(.*?)^```", page.read_text(), re.S | re.M)]
+        commands = [it for it in given if it.startswith(("cd ", "sed ", "../"))]
+        ran = subprocess.run(["bash", "-c", "\n".join(commands)], cwd=top, capture_output=True, text=True, check=False)
+        texts = ran.stdout + ran.stderr + (page.parent / "chip.toml").read_text()
+        for block in given:
+            if block not in commands:
+                self.assertIn(block + "\n", texts)
+        self.assertEqual(len(commands), 3)
 
 
 class Verilog(Project):

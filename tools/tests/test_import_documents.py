@@ -58,7 +58,7 @@ class Libraries(Project):
         self.write({"more.lib": common.LIBRARY.replace('values ("15")', 'values ("16")')})
         status, errors = self.run_import(library=["cells.lib", "more.lib"])
         self.assertEqual(status, 2)
-        self.assertRegex(errors, r"more.lib:(3: the cell BUF|7: the cell DFF) stands in cells.lib and in more.lib: prefer = ")
+        self.assertRegex(errors, r"more.lib:(3: the cell BUF|7: the cell DFF) is in cells.lib and in more.lib: prefer = ")
         for file, value in (("cells.lib", "15"), ("more.lib", "16"), ("first", "15")):
             self.assertEqual(self.run_import(library=["cells.lib", "more.lib"], prefer={"*": file}), (0, ""))
             self.assertIn(f'rise_constraint (scalar) {{ values ("{value}"); }}', self.made("late.lib"))

@@ -29,7 +29,8 @@ from lizdrog_tools.importing.run_sdc import run_constraints
 from lizdrog_tools.importing.sanity import check_all
 from lizdrog_tools.importing.sdc_writer import SdcWriter
 from lizdrog_tools.importing.shared_ports import part_ports, share_loads
-from lizdrog_tools.importing.spef_merge import Merger, merge_spef, write_spef
+from lizdrog_tools.importing.spef_merge import Merger, merge_spef
+from lizdrog_tools.importing.spef_writer import write_spef
 from lizdrog_tools.importing.variants import Variants
 from lizdrog_tools.importing.verilog_flat import NotFlat, read_flat, write_flat
 from lizdrog_tools.importing.verilog_hierarchy import read_hierarchy

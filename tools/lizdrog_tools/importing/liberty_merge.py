@@ -61,7 +61,7 @@ class LibrarySet:
             raise InputFault(
                 frame.file,
                 frame.library.line(part),
-                f"the cell {name} stands in {' and in '.join(files)}: "
+                f"the cell {name} is in {' and in '.join(files)}: "
                 f'prefer = {{ "{name}" = "{files[0]}" }} in the project says which counts',
             )
         frame, part = chosen[0]

@@ -310,7 +310,7 @@ class CellReader:
                 made.limits[word] = as_decimal(said(word), self.frame.file, line, word) * scale
         made.is_clock = said("clock") == "true"
         if name in self.cell.pins:
-            raise InputFault(self.frame.file, line, f"the pin {name} stands twice in the cell {self.cell.name}")
+            raise InputFault(self.frame.file, line, f"the pin {name} is there twice in the cell {self.cell.name}")
         self.cell.pins[name] = made
         if group is not None:
             self.pin_groups.append((name, group, bits))
@@ -364,7 +364,7 @@ class CellReader:
             self.lose("timing-type", group.line, f"the timing_type {kind} of {name} is not known")
             return
         if not wanted:
-            self.lose("timing-type", group.line, f"{kind} stands at the {'output' if output else 'input'} {name}")
+            self.lose("timing-type", group.line, f"{kind} is at the {'output' if output else 'input'} {name}")
             return
         self.add_timing(name, bits, group, kind)
 

@@ -165,7 +165,7 @@ class TimingCommands:
         if any(it.kind != "port" for it in targets) or len(targets) > 1:
             self.session.lose(
                 "clock-target",
-                f"a clock at {', '.join(it.name for it in targets[:4])}: a clock stands at one port, or at none",
+                f"a clock at {', '.join(it.name for it in targets[:4])}: a clock has one port, or none",
             )
             return
         if said.plain and not targets:
@@ -490,7 +490,7 @@ class TimingCommands:
     def set_false_path(self, words: list[str]) -> None:
         said = self.session.parse(words, PATH_OPTIONS)
         if said.plain:
-            raise CommandFault(f"set_false_path: {said.plain[0]} stands behind no option")
+            raise CommandFault(f"set_false_path: {said.plain[0]} comes after no option")
         self.exception(words, None, said)
 
     def set_multicycle_path(self, words: list[str]) -> None:

@@ -115,7 +115,7 @@ class Session:
                 found[item] = None
             else:
                 raise CommandFault(
-                    f"{self.command}: a {item.kind.replace('_', ' ')} ({item.name}) stands where {' or '.join(kinds)} is asked"
+                    f"{self.command}: a {item.kind.replace('_', ' ')} ({item.name}) is given where {' or '.join(kinds)} is asked"
                 )
         return list(found)
 

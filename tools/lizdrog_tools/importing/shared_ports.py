@@ -36,7 +36,7 @@ def part_ports(netlist: Netlist, sides: tuple[LibrarySet, LibrarySet], report: R
         report.change(
             "shared-port",
             netlist.place,
-            f"the ports {net} and {port} are one net: the cell {name} without delay and load stands between them",
+            f"the ports {net} and {port} are one net: the cell {name} without delay and load is between them",
         )
 
 
