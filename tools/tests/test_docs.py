@@ -24,7 +24,7 @@ def crate_file(name):
 
 def rows_named(cell):
     """The rows of programs that a cell names: the program and the words of a case."""
-    return [(program, case) for program, cases in re.findall(r"`(\w+)/stdin`((?:,? `case [^`]+`(?: \([^)]*\))?)+)", cell) for case in re.findall(r"`(case [^`]+)`", cases)]
+    return [(program, f"case {case}") for program, case in re.findall(r"`(\w+_rows)/([^`]+)`", cell)]
 
 
 def has_row(program, case):
