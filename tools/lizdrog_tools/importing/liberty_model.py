@@ -2,7 +2,7 @@
 import dataclasses
 import fractions
 import re
-from collections.abc import Iterator
+from collections.abc import Callable, Iterator
 from decimal import Decimal, InvalidOperation
 
 from lizdrog_tools.files import InputFault
@@ -288,34 +288,27 @@ class CellReader:
             return
         if way not in ("input", "output", "inout"):
             raise InputFault(self.frame.file, line, f"the pin {name} of {self.cell.name} has the direction {way}")
-        if way == "inout" or ":" in name:
-            self.cell.misfit = (
-                f"its pin {name} is an inout" if way == "inout" else f"its pin {name} has a colon in its name"
-            )
-        load = said("capacitance")
-        load = self.frame.defaults[way] if load is None else load
-        made = Pin(
-            name,
-            way,
-            as_decimal(load or "0", self.frame.file, line, f"the capacitance of {name}") * self.frame.load,
-            said("function"),
-        )
-        self.capacitances(name, made.capacitance, said, line)
-        for word, scale in (
-            ("max_capacitance", self.frame.load),
-            ("max_transition", self.frame.time),
-            ("max_fanout", Decimal(1)),
-        ):
-            if said(word) is not None:
-                made.limits[word] = as_decimal(said(word), self.frame.file, line, word) * scale
-        made.is_clock = said("clock") == "true"
         if name in self.cell.pins:
             raise InputFault(self.frame.file, line, f"the pin {name} is there twice in the cell {self.cell.name}")
-        self.cell.pins[name] = made
+        if way == "inout" or ":" in name:
+            self.cell.misfit = f"its pin {name} {'is an inout' if way == 'inout' else 'has a colon in its name'}"
+        self.cell.pins[name] = self.made_pin(name, way, said, line)
         if group is not None:
             self.pin_groups.append((name, group, bits))
 
-    def capacitances(self, name: str, load: Decimal, said, line: int) -> None:
+    def made_pin(self, name: str, way: str, said: Callable[[str], str | None], line: int) -> Pin:
+        """A pin by what its group says of it: its capacitance, its function, its limits."""
+        load = said("capacitance") or self.frame.defaults[way] or "0"
+        load = as_decimal(load, self.frame.file, line, f"the capacitance of {name}") * self.frame.load
+        made = Pin(name, way, load, said("function"), is_clock=said("clock") == "true")
+        self.capacitances(name, load, said, line)
+        units = {"max_capacitance": self.frame.load, "max_transition": self.frame.time, "max_fanout": Decimal(1)}
+        for word, unit in units.items():
+            if said(word) is not None:
+                made.limits[word] = as_decimal(said(word), self.frame.file, line, word) * unit
+        return made
+
+    def capacitances(self, name: str, load: Decimal, said: Callable[[str], str | None], line: int) -> None:
         for edge in ("rise", "fall"):
             text = said(f"{edge}_capacitance")
             if (
