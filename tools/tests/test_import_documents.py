@@ -131,7 +131,7 @@ class Libraries(Project):
             (
                 "capacitance : 1; }\n  pin (Z)",
                 "capacitance : 1; rise_capacitance : 1.1; }\n  pin (Z)",
-                "cells.lib:3: pin-capacitance: cell BUF: pin A has a rise_capacitance",
+                "cells.lib:3: pin-capacitance: cell BUF: rise_capacitance or fall_capacitance of A differ",
             ),
             (
                 "timing_sense : positive_unate;",

@@ -23,7 +23,7 @@ from lizdrog_tools.importing.liberty_merge import (
 )
 from lizdrog_tools.importing.netlist import Netlist
 from lizdrog_tools.importing.project import Project, read_project
-from lizdrog_tools.importing.report import Place, Report, write_report
+from lizdrog_tools.importing.report import SHOWN, Place, Remark, Report, write_report
 from lizdrog_tools.importing.resolve import resolve
 from lizdrog_tools.importing.run_sdc import run_constraints
 from lizdrog_tools.importing.sanity import check_all
@@ -179,16 +179,22 @@ def write_folder(folder: pathlib.Path, texts: dict[str, str], report: Report, fa
 
 
 def refuse(report: Report) -> int:
-    """Says what cannot be expressed, and how it may be accepted."""
+    """Says what cannot be expressed, the first of each kind, and how it may be accepted."""
+    kinds: dict[str, list[Remark]] = {}
     for remark in report.refused:
-        print(f"import: {remark}", file=sys.stderr)
-    kinds = ", ".join(f'"{it}"' for it in dict.fromkeys(it.kind for it in report.refused))
+        kinds.setdefault(remark.kind, []).append(remark)
+    for kind, alike in kinds.items():
+        for remark in alike[:SHOWN]:
+            print(f"import: {remark}", file=sys.stderr)
+        if len(alike) > SHOWN:
+            print(f"import: .. and {len(alike) - SHOWN} more of {kind}", file=sys.stderr)
+    words = ", ".join(f'"{it}"' for it in kinds)
     print(
         f"import: {len(report.refused)} things would change slacks and cannot be expressed; nothing is written. "
-        f"Where you can do without them, write accept = [{kinds}] into the project",
+        f"Where you can do without them, write accept = [{words}] into the project",
         file=sys.stderr,
     )
-    return 2
+    return report.status()
 
 
 def import_project(words: list[str]) -> int:

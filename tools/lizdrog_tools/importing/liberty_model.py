@@ -213,6 +213,7 @@ class CellReader:
         self.buses: dict[str, list[str]] = {}
         self.pin_groups: list[tuple[str, Group, list[str]]] = []
         self.internal: set[str] = set()
+        self.uneven: dict[str, int] = {}
 
     def place(self, line: int) -> Place:
         return Place(self.frame.file, line)
@@ -237,6 +238,7 @@ class CellReader:
         for name, group, bits in self.pin_groups:
             for timing in group.named("timing"):
                 self.timing(name, bits, timing)
+        self.lose_uneven()
         return self.cell
 
     def bus(self, group: Group) -> None:
@@ -309,17 +311,19 @@ class CellReader:
         return made
 
     def capacitances(self, name: str, load: Decimal, said: Callable[[str], str | None], line: int) -> None:
+        """Notes a pin whose loads of its edges are other than its capacitance."""
         for edge in ("rise", "fall"):
-            text = said(f"{edge}_capacitance")
-            if (
-                text is not None
-                and as_decimal(text, self.frame.file, line, f"{edge}_capacitance") * self.frame.load != load
-            ):
-                self.lose(
-                    "pin-capacitance",
-                    line,
-                    f"pin {name} has a {edge}_capacitance other than its capacitance, which alone is read",
-                )
+            word = f"{edge}_capacitance"
+            text = said(word)
+            if text is not None and as_decimal(text, self.frame.file, line, word) * self.frame.load != load:
+                self.uneven.setdefault(name, line)
+
+    def lose_uneven(self) -> None:
+        """Tells of the pins whose edges have loads of their own."""
+        if self.uneven:
+            names = ", ".join(self.uneven)
+            text = f"rise_capacitance or fall_capacitance of {names} differ from the capacitance, which alone is read"
+            self.lose("pin-capacitance", next(iter(self.uneven.values())), text)
 
     def related(self, group: Group, bits: list[str]) -> list[tuple[list[str], list[str]]]:
         """Pairs of related pins and pins: bit by bit where both are buses of one width, else each to each."""
