@@ -1,10 +1,13 @@
-"""Imports designs as tools write them, and compares all endpoints with OpenSTA on the originals: import_check.py [--program FILE] [--keep FOLDER] [NAME ..]
+"""Imports designs as tools write them, and compares all endpoints with OpenSTA on the originals.
 
-The designs are blocks (a hierarchy with two blocks and their parasitics), macro (two libraries and a memory with buses) and modes (constraints
-in Tcl); each is also taken once more by the constraints that OpenSTA itself writes of it (write_sdc). OpenSTA (Debian's package opensta) reads the
-libraries, netlists and constraints as they are; for blocks it gets the same wires as one file, which import_designs.py makes apart from the importer,
-since it does not join the wires of blocks. Wires are simple_rc's, with thresholds by which its delay is Elmore's. A line for each design; status 1
-where an endpoint differs by more than 0.05 ps, or one of the two has no slack for it.
+Usage: import_check.py [--program FILE] [--keep FOLDER] [NAME ..]
+
+The designs are blocks (a hierarchy with two blocks and their parasitics), macro (two libraries and a memory with
+buses) and modes (constraints in Tcl). Each is also taken once more by the constraints that OpenSTA itself writes of it
+(write_sdc). OpenSTA (Debian's package opensta) reads the libraries, netlists and constraints as they are. For blocks it
+gets the same wires as one file, since it does not join the wires of blocks; import_designs.py makes that file apart
+from the importer. Wires are simple_rc's, with thresholds by which its delay is Elmore's. It prints a line for each
+design; its status is 1 where an endpoint differs by more than 0.05 ps, or one of the two has no slack for it.
 """
 import argparse
 import dataclasses
@@ -159,10 +162,8 @@ def main() -> int:
     if unknown:
         parser.error(f"there is no design {', '.join(unknown)}")
     if given.program is None or shutil.which("sta") is None:
-        print(
-            f"import_check: {'there is no sta here: apt-get install opensta' if given.program else 'no program is built: ./lizdrog --build'}",
-            file=sys.stderr,
-        )
+        why = "there is no sta here: apt-get install opensta" if given.program else "no program: ./lizdrog --build"
+        print(f"import_check: {why}", file=sys.stderr)
         return 2
     agree = True
     with tempfile.TemporaryDirectory() as name:

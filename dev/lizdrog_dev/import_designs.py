@@ -29,7 +29,8 @@ class Case:
 
 @dataclasses.dataclass(frozen=True, slots=True)
 class Kind:
-    """How a library is written: its name, what delays are multiplied by, whether they depend on slews, and its units."""
+    """How a library is written: its name, what delays are multiplied by, whether they depend on slews, and its units.
+    """
 
     name: str
     factor: float
@@ -43,7 +44,8 @@ class Kind:
         lines = [
             f"library ({self.name}) {{ delay_model : table_lookup;",
             f'  time_unit : "{unit[0]}"; capacitive_load_unit {unit[1]};',
-            '  voltage_unit : "1V"; current_unit : "1mA"; pulling_resistance_unit : "1kohm"; leakage_power_unit : "1nW";',
+            '  voltage_unit : "1V"; current_unit : "1mA"; pulling_resistance_unit : "1kohm"; leakage_power_unit : '
+            '"1nW";',
             "  nom_process : 1; nom_voltage : 1.8; nom_temperature : 25;",
         ]
         for edge in ("rise", "fall"):
@@ -51,7 +53,8 @@ class Kind:
             lines.append(f"  slew_lower_threshold_pct_{edge} : {lower}; slew_upper_threshold_pct_{edge} : {upper};")
         slews, loads = self.axis(SLEWS, self.time), self.axis(LOADS, self.load)
         lines.append(
-            "  lu_table_template (delay) { variable_1 : input_net_transition; variable_2 : total_output_net_capacitance;"
+            "  lu_table_template (delay) { variable_1 : input_net_transition; variable_2 : "
+            "total_output_net_capacitance;"
         )
         lines.append(f'    index_1 ("{slews}"); index_2 ("{loads}"); }}')
         lines.append(
@@ -82,13 +85,15 @@ class Kind:
         said = f"timing_sense : {sense};" if sense else ""
         return (
             f'timing () {{ related_pin : "{related}"; {said} {more} cell_rise (delay) {{ {self.delay(base, slope)} }} '
-            f"cell_fall (delay) {{ {self.delay(base * 1.1, slope)} }} rise_transition (delay) {{ {self.delay(base / 2, slope)} }} "
+            f"cell_fall (delay) {{ {self.delay(base * 1.1, slope)} }} rise_transition (delay) "
+            f"{{ {self.delay(base / 2, slope)} }} "
             f"fall_transition (delay) {{ {self.delay(base * 0.45, slope)} }} }}"
         )
 
     def test(self, clock: str, kind: str, base: float) -> str:
         return (
-            f'timing () {{ related_pin : "{clock}"; timing_type : {kind}; rise_constraint (need) {{ {self.need(base)} }} '
+            "timing () "
+            f'{{ related_pin : "{clock}"; timing_type : {kind}; rise_constraint (need) {{ {self.need(base)} }} '
             f"fall_constraint (need) {{ {self.need(base * 1.2)} }} }}"
         )
 
@@ -122,77 +127,63 @@ class Kind:
 POSITIVE, NEGATIVE, NEITHER = "positive_unate", "negative_unate", "non_unate"
 
 
+def exclusive_or(kind: Kind) -> str:
+    """A gate whose arcs have conditions."""
+    inputs = []
+    for pin, load, other in (("A", 1.6, "B"), ("B", 1.7, "A")):
+        follows = kind.arc(pin, POSITIVE, 30, 1.3, f'when : "!{other}";')
+        inputs.append((pin, load, [follows, kind.arc(pin, NEGATIVE, 35, 1.3, f'when : "{other}";')]))
+    return kind.gate("XOR2", "A^B", inputs)
+
+
 def standard_cells(kind: Kind) -> str:
     """A library of some gates and a register."""
-    arc = kind.arc
-    cells = [
-        kind.gate("BUF", "A", [("A", 1.1, [arc("A", POSITIVE, 20, 1.5)])]),
-        kind.gate("CKBUF", "A", [("A", 1.5, [arc("A", POSITIVE, 25, 0.7)])]),
-        kind.gate("INV", "!A", [("A", 1.0, [arc("A", "", 10, 1.8)])]),
-        kind.gate(
-            "NAND2", "!(A B)", [("A", 1.2, [arc("A", NEGATIVE, 14, 1.9)]), ("B", 1.3, [arc("B", NEGATIVE, 16, 1.9)])]
-        ),
-        kind.gate(
-            "AND2", "A*B", [("A", 1.2, [arc("A", POSITIVE, 24, 1.2)]), ("B", 1.3, [arc("B", POSITIVE, 26, 1.2)])]
-        ),
-        kind.gate(
-            "XOR2",
-            "A^B",
-            [
-                (
-                    pin,
-                    load,
-                    [
-                        arc(pin, POSITIVE, 30, 1.3, f'when : "!{other}";'),
-                        arc(pin, NEGATIVE, 35, 1.3, f'when : "{other}";'),
-                    ],
-                )
-                for pin, load, other in (("A", 1.6, "B"), ("B", 1.7, "A"))
-            ],
-        ),
-        kind.gate(
+    gates = [
+        ("BUF", "A", [("A", 1.1, POSITIVE, 20, 1.5)]),
+        ("CKBUF", "A", [("A", 1.5, POSITIVE, 25, 0.7)]),
+        ("INV", "!A", [("A", 1.0, "", 10, 1.8)]),
+        ("NAND2", "!(A B)", [("A", 1.2, NEGATIVE, 14, 1.9), ("B", 1.3, NEGATIVE, 16, 1.9)]),
+        ("AND2", "A*B", [("A", 1.2, POSITIVE, 24, 1.2), ("B", 1.3, POSITIVE, 26, 1.2)]),
+        (
             "MUX2",
             "(A !S)+(B S)",
-            [
-                ("A", 1.4, [arc("A", POSITIVE, 33, 1.1)]),
-                ("B", 1.45, [arc("B", POSITIVE, 36, 1.1)]),
-                ("S", 1.8, [arc("S", NEITHER, 40, 1.1)]),
-            ],
+            [("A", 1.4, POSITIVE, 33, 1.1), ("B", 1.45, POSITIVE, 36, 1.1), ("S", 1.8, NEITHER, 40, 1.1)],
         ),
-        '  cell (TIELO) { area : 1; pin (Y) { direction : output; function : "0"; } }',
-        kind.register("DFF"),
     ]
-    return "\n".join([kind.header(), *cells, "}"]) + "\n"
+    cells = [
+        kind.gate(
+            name,
+            function,
+            [(pin, load, [kind.arc(pin, sense, base, slope)]) for pin, load, sense, base, slope in inputs],
+        )
+        for name, function, inputs in gates
+    ]
+    tie = '  cell (TIELO) { area : 1; pin (Y) { direction : output; function : "0"; } }'
+    return "\n".join([kind.header(), *cells, exclusive_or(kind), tie, kind.register("DFF"), "}"]) + "\n"
+
+
+def bus(kind: Kind, name: str, width: int, load: float, tests: str) -> str:
+    """An input bus, whose bits have the same tests."""
+    return (
+        f"    bus ({name}) {{ bus_type : bus{width}; direction : input; capacitance : {load / kind.load:g};\n"
+        f"      pin ({name}[{width - 1}:0]) {{ {tests} }} }}"
+    )
 
 
 def memory(kind: Kind) -> str:
     """A library with one macro, whose pins are buses."""
     tests = kind.test("CK", "setup_rising", 55 / kind.factor) + kind.test("CK", "hold_rising", 12)
-    types = "".join(
-        f"  type (bus{it}) {{ base_type : array; data_type : bit; bit_width : {it}; bit_from : {it - 1}; bit_to : 0; downto : true; }}\n"
+    types = [
+        f"  type (bus{it}) {{ base_type : array; data_type : bit; bit_width : {it};\n"
+        f"    bit_from : {it - 1}; bit_to : 0; downto : true; }}"
         for it in (3, 4)
-    )
-    return (
-        "\n".join(
-            [
-                kind.header(),
-                types,
-                "  cell (RAM8X4) { area : 400; interface_timing : true;",
-                kind.input("CK", 3.5, "clock : true;"),
-                kind.input("WE", 2.2, tests),
-            ]
-            + [
-                f"    bus ({bus}) {{ bus_type : bus{width}; direction : input; capacitance : {load / kind.load:g}; pin ({bus}[{width - 1}:0]) {{ {tests} }} }}"
-                for bus, width, load in (("A", 3, 2.5), ("D", 4, 1.9))
-            ]
-            + [
-                f"    bus (Q) {{ bus_type : bus4; direction : output; pin (Q[3:0]) {{ {kind.arc('CK', '', 150, 2.1, 'timing_type : rising_edge;')} }} }}",
-                "  }",
-                "}",
-            ]
-        )
-        + "\n"
-    )
+    ]
+    edge = kind.arc("CK", "", 150, 2.1, "timing_type : rising_edge;")
+    lines = [kind.header(), *types, "  cell (RAM8X4) { area : 400; interface_timing : true;"]
+    lines += [kind.input("CK", 3.5, "clock : true;"), kind.input("WE", 2.2, tests)]
+    lines += [bus(kind, "A", 3, 2.5, tests), bus(kind, "D", 4, 1.9, tests)]
+    lines += [f"    bus (Q) {{ bus_type : bus4; direction : output; pin (Q[3:0]) {{ {edge} }} }}", "  }", "}"]
+    return "\n".join(lines) + "\n"
 
 
 def write(folder: pathlib.Path, texts: dict[str, str]) -> None:
@@ -203,7 +194,7 @@ def write(folder: pathlib.Path, texts: dict[str, str]) -> None:
         (folder / name).write_bytes(gzip.compress(data, mtime=0) if name.endswith(".gz") else data)
 
 
-# ------------------------------------------------------------------------------------------------ a hierarchy with blocks
+# ---------------------------------------------------------------------------------------------- a hierarchy with blocks
 
 STAGE = """module stage (ck, d, q, p);
   input ck; input [1:0] d; output q, p;
@@ -241,7 +232,8 @@ set_output_delay 60 -clock clk [all_outputs]
 set_multicycle_path 2 -from [get_pins u1/r0/CK] -to [get_cells u2/r*]
 set_false_path -from [get_cells u2/r1] -to [get_ports par]
 """
-# The wires of each net: its name, the driver's node, and rows from a node to a node. A node with a slash is a pin, a number an inner node.
+# The wires of each net: its name, the driver's node, and rows from a node to a node. A node with a slash is a pin, a
+# number an inner node.
 STAGE_WIRES = {
     "ck": ["ck 1", "1 r0/CK", "1 r1/CK"],
     "d[0]": ["d[0] 1", "1 r0/D"],
@@ -328,7 +320,8 @@ def spef(name: str, nets: dict[str, Rows], units: tuple[str, str]) -> str:
     for net, rows in nets.items():
         nodes = list(dict.fromkeys(it for one, other, _ in rows.ress for it in (one, other) if not it.isdigit()))
         body.append(
-            f"*D_NET *{indexes.setdefault(net, len(indexes) + 1)} {sum(it for _, it in rows.caps) / cap_unit:.9f}\n*CONN"
+            f"*D_NET *{indexes.setdefault(net, len(indexes) + 1)} "
+            f"{sum(it for _, it in rows.caps) / cap_unit:.9f}\n*CONN"
         )
         body += [f"*{'I' if '/' in it else 'P'} {word(it, net)} {'B'}" for it in nodes]
         body += [
@@ -421,7 +414,7 @@ spef = ["chip.spef.gz", { file = "u1.spef", instance = "u1" }, { file = "u2.spef
     )
 
 
-# ------------------------------------------------------------------------------------------------ two libraries and a macro
+# -------------------------------------------------------------------------------------------- two libraries and a macro
 
 MACRO_V = """module store (clk, adr, dat, we, out, ok);
   input clk, we; input [2:0] adr; input [3:0] dat; output [3:0] out; output ok;

@@ -22,7 +22,12 @@ def document(name: str, table: dict, key: str) -> str:
     if key == "spef" and value in (None, "none"):
         return "none"
     if isinstance(value, (list, dict)):
-        raise InputFault(name, None, f"{key} is no single file: `lizdrog import {name}` makes a folder with one of each, and a project file to run")
+        raise InputFault(
+            name,
+            None,
+            f"{key} is no single file: `lizdrog import {name}` makes a folder with one of each, and a project file "
+            "to run",
+        )
     if not isinstance(value, str):
         raise InputFault(name, None, f"the key {key} is missing")
     return os.path.join(os.path.dirname(name), value)
@@ -39,7 +44,8 @@ def read_documents(name: str) -> tuple[list[str], str]:
 
 
 def expanded(words: list[str]) -> list[str]:
-    """The words of a run with its documents in the place of the project file; a word of one or two digits after it is WORKERS."""
+    """The words of a run with its documents in the place of the project file; a word of one or two digits after it is
+    WORKERS."""
     plain, journal = without_journal(words)
     documents, workers = read_documents(plain[1])
     rest = plain[2:]

@@ -55,7 +55,13 @@ class Project(unittest.TestCase):
         status, errors = self.run_import(**changed)
         self.assertEqual((status, errors), (0, ""))
         lines = self.made("constraints.sdc").replace("\\\n   ", "").splitlines()
-        return [it for it in lines if not it.startswith(("set sdc_version", "current_design", "set_units", "create_clock -name clk ", "set_propagated"))]
+        return [
+            it
+            for it in lines
+            if not it.startswith(
+                ("set sdc_version", "current_design", "set_units", "create_clock -name clk ", "set_propagated")
+            )
+        ]
 
     def refusal(self, text, **changed):
         """What is said of constraints, from the third line on, that change slacks: then nothing is written."""

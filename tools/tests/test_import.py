@@ -33,20 +33,39 @@ endmodule
 
 class ProjectFile(Project):
     def test_a_plain_project_is_imported(self):
-        self.write({"top.spef": common.SPEF, "top.sdc": CLOCK + "set_input_delay 10 -clock clk d\nset_output_delay 5 -clock clk [get_ports q]\n"})
+        self.write(
+            {
+                "top.spef": common.SPEF,
+                "top.sdc": CLOCK + "set_input_delay 10 -clock clk d\nset_output_delay 5 -clock clk [get_ports q]\n",
+            }
+        )
         self.assertEqual(self.run_import(spef="top.spef"), (0, ""))
         names = {it.name for it in (self.folder / "p.import").iterdir()}
-        self.assertEqual(names, {"early.lib", "late.lib", "netlist.v", "constraints.sdc", "parasitics.spef", "lizdrog.toml", "import.txt", "import.json"})
+        self.assertEqual(
+            names,
+            {
+                "early.lib",
+                "late.lib",
+                "netlist.v",
+                "constraints.sdc",
+                "parasitics.spef",
+                "lizdrog.toml",
+                "import.txt",
+                "import.json",
+            },
+        )
         self.assertEqual(self.report()["status"], 0)
 
     def test_what_is_wrong_with_a_project(self):
-        for changed, said in (({"netlist": None}, "p.toml: the key netlist is missing"),
-                              ({"library": None}, "p.toml: the key early is missing (or library, for both early and late)"),
-                              ({"early": "cells.lib"}, "library gives both early and late; write either library, or early and late"),
-                              ({"libary": "x"}, "there is no such key: libary; the keys are accept, corners, early, "),
-                              ({"spef": [{"files": "x"}]}, "spef is a list of names or of { file = "),
-                              ({"netlist": "gone.v"}, "gone.v: No such file or directory"),
-                              ({"top": "other"}, "top.v: there is no module other: the one module is top")):
+        for changed, said in (
+            ({"netlist": None}, "p.toml: the key netlist is missing"),
+            ({"library": None}, "p.toml: the key early is missing (or library, for both early and late)"),
+            ({"early": "cells.lib"}, "library gives both early and late; write either library, or early and late"),
+            ({"libary": "x"}, "there is no such key: libary; the keys are accept, corners, early, "),
+            ({"spef": [{"files": "x"}]}, "spef is a list of names or of { file = "),
+            ({"netlist": "gone.v"}, "gone.v: No such file or directory"),
+            ({"top": "other"}, "top.v: there is no module other: the one module is top"),
+        ):
             with self.subTest(changed):
                 status, errors = self.run_import(**changed)
                 self.assertEqual(status, 2)
@@ -68,10 +87,16 @@ class ProjectFile(Project):
         plain = self.made("netlist.v"), self.made("late.lib"), self.made("constraints.sdc")
         packers = {"gz": gzip.compress, "xz": lzma.compress}
         if shutil.which("zstd"):
-            packers["zst"] = lambda data: subprocess.run(["zstd", "-cq"], input=data, capture_output=True, check=True).stdout
+            packers["zst"] = lambda data: subprocess.run(
+                ["zstd", "-cq"], input=data, capture_output=True, check=True
+            ).stdout
         for end, pack in packers.items():
-            self.write({f"{it}.{end}": pack((self.folder / it).read_bytes()) for it in ("cells.lib", "top.v", "top.sdc")})
-            self.assertEqual(self.run_import(library=f"cells.lib.{end}", netlist=f"top.v.{end}", sdc=f"top.sdc.{end}"), (0, ""))
+            self.write(
+                {f"{it}.{end}": pack((self.folder / it).read_bytes()) for it in ("cells.lib", "top.v", "top.sdc")}
+            )
+            self.assertEqual(
+                self.run_import(library=f"cells.lib.{end}", netlist=f"top.v.{end}", sdc=f"top.sdc.{end}"), (0, "")
+            )
             self.assertEqual((self.made("netlist.v"), self.made("late.lib"), self.made("constraints.sdc")), plain)
 
     def test_rubbish_is_told_with_its_file(self):
@@ -94,7 +119,9 @@ class ProjectFile(Project):
         self.assertFalse((self.folder / "p.import").exists())
         for word in ("set_max_delay", f"set_max_delay {self.folder}/top.sdc:3"):
             self.assertEqual(self.run_import(accept=[word, "other"]), (1, ""))
-            self.assertEqual([(it["line"], it["kind"]) for it in self.report()["left_out_and_accepted"]], [(3, "set_max_delay")])
+            self.assertEqual(
+                [(it["line"], it["kind"]) for it in self.report()["left_out_and_accepted"]], [(3, "set_max_delay")]
+            )
             self.assertEqual(self.report()["accept_unused"], ["other"])
         self.assertEqual(self.run_import(accept=["set_max_delay other.sdc:3"])[0], 2)
 
@@ -110,7 +137,11 @@ class ProjectFile(Project):
         self.assertEqual(self.run_import(), (0, ""))
         self.write({"saved.journal": ""})
         words = ["--program", common.PROGRAM, "run"]
-        for more in (["p.import/lizdrog.toml"], ["p.import/lizdrog.toml", "2"], ["--journal", "saved.journal", "p.import/lizdrog.toml", "1"]):
+        for more in (
+            ["p.import/lizdrog.toml"],
+            ["p.import/lizdrog.toml", "2"],
+            ["--journal", "saved.journal", "p.import/lizdrog.toml", "1"],
+        ):
             status, out, errors = common.run(common.TOP / "lizdrog", *words, *more, "s.eco", cwd=self.folder)
             self.assertEqual((status, errors), (0, ""))
             self.assertIn("1 0 endpoint 75.000", out)
@@ -131,7 +162,10 @@ class Example(unittest.TestCase):
         self.addCleanup(shutil.rmtree, top)
         shutil.copytree(page.parent, top / "examples" / page.parent.name)
         (top / "tools").symlink_to(common.TOP / "tools")
-        (top / "lizdrog").write_text(f'#!/bin/sh\n[ "$1" = import ] || set -- --program "{common.PROGRAM}" "$@"\nexec "{common.TOP}/lizdrog" "$@"\n')
+        (top / "lizdrog").write_text(
+            f'#!/bin/sh\n[ "$1" = import ] || set -- --program "{common.PROGRAM}" "$@"\nexec "{common.TOP}/lizdrog" '
+            '"$@"\n'
+        )
         (top / "lizdrog").chmod(0o755)
         given = [it.strip("\n") for it in re.findall(r"^```\n(.*?)^```", page.read_text(), re.S | re.M)]
         commands = [it for it in given if it.startswith(("cd ", "sed ", "../"))]
@@ -145,7 +179,9 @@ class Example(unittest.TestCase):
 
 class Verilog(Project):
     def test_a_flat_netlist_needs_no_yosys(self):
-        self.write({"top.v": common.NETLIST.replace("wire n1, n2;", "wire n1;\n wire \\n/2 ;").replace("n2)", "\\n/2 )")})
+        self.write(
+            {"top.v": common.NETLIST.replace("wire n1, n2;", "wire n1;\n wire \\n/2 ;").replace("n2)", "\\n/2 )")}
+        )
         with mock.patch.dict(os.environ, {"PATH": self.path_without("yosys")}):
             self.assertEqual(self.run_import(), (0, ""))
         self.assertIn("  BUF g1 (.A(n1), .Z(\\n/2 ));", self.made("netlist.v"))
@@ -164,21 +200,34 @@ class Verilog(Project):
         with mock.patch.dict(os.environ, {"PATH": self.path_without("yosys")}):
             status, errors = self.run_import()
         self.assertEqual(status, 2)
-        self.assertIn("top.v: this netlist has to be flattened by yosys, and there is no yosys here: apt-get install yosys", errors)
+        self.assertIn(
+            "top.v: this netlist has to be flattened by yosys, and there is no yosys here: apt-get install yosys",
+            errors,
+        )
 
     @needs_yosys
     def test_a_hierarchy_is_flattened(self):
         self.write({"top.v": HIERARCHY})
         self.assertEqual(self.run_import(top="top"), (0, ""))
         text = self.made("netlist.v")
-        for line in ("  input [1:0] d;", "  BUF \\u1/b0  (.A(d[1]), .Z(\\u1/m ));", "  BUF \\u1/b1  (.A(\\u1/m ), .Z(n1));", "  DFF r1 (.CK(clk), .D(n1), .Q(q));"):
+        for line in (
+            "  input [1:0] d;",
+            "  BUF \\u1/b0  (.A(d[1]), .Z(\\u1/m ));",
+            "  BUF \\u1/b1  (.A(\\u1/m ), .Z(n1));",
+            "  DFF r1 (.CK(clk), .D(n1), .Q(q));",
+        ):
             self.assertIn(line, text.splitlines())
         self.assertEqual(text.count("module"), 2)
 
     @needs_yosys
     def test_ports_that_are_one_net(self):
-        self.write({"top.v": "module top (input clk, d, output q, p, z);\n DFF r1 (.D(d), .CK(clk), .Q(q));\n assign p = q;\n assign z = 1'b0;\nendmodule\n",
-                    "top.sdc": CLOCK + "set_load 3 q\nset_load 4 p\n"})
+        self.write(
+            {
+                "top.v": "module top (input clk, d, output q, p, z);\n DFF r1 (.D(d), .CK(clk), .Q(q));\n assign p = "
+                "q;\n assign z = 1'b0;\nendmodule\n",
+                "top.sdc": CLOCK + "set_load 3 q\nset_load 4 p\n",
+            }
+        )
         self.assertEqual(self.run_import(), (0, ""))
         self.assertIn("  LIZDROG_WIRE p__wire (.A(q), .Y(p));", self.made("netlist.v"))
         self.assertIn("set_load 7 [get_ports {q}]", self.made("constraints.sdc"))
@@ -186,8 +235,10 @@ class Verilog(Project):
 
     @needs_yosys
     def test_what_yosys_refuses_has_its_line(self):
-        for text, line, said in (("module top (input a, output y);\n BUF g (.A(a), .Z(y))\nendmodule\n", 3, "syntax error"),
-                                 ("module top (input a, output y);\n NONE g (.A(a), .Z(y));\n assign y = a;\nendmodule\n", None, "NONE")):
+        for text, line, said in (
+            ("module top (input a, output y);\n BUF g (.A(a), .Z(y))\nendmodule\n", 3, "syntax error"),
+            ("module top (input a, output y);\n NONE g (.A(a), .Z(y));\n assign y = a;\nendmodule\n", None, "NONE"),
+        ):
             self.write({"top.v": text})
             status, errors = self.run_import()
             self.assertEqual(status, 2)
@@ -203,8 +254,10 @@ class Verilog(Project):
         self.assertIn("top.v:2", errors)
 
     def test_cells_and_pins_that_are_not_there(self):
-        for old, new, said in ((" BUF g1", " BUFF g1", "top.v:4: the cell BUFF is in no early library"),
-                               (".A(n1)", ".AA(n1)", "top.v:4: the instance g1 has a pin AA, and its cell BUF has none (E4)")):
+        for old, new, said in (
+            (" BUF g1", " BUFF g1", "top.v:4: the cell BUFF is in no early library"),
+            (".A(n1)", ".AA(n1)", "top.v:4: the instance g1 has a pin AA, and its cell BUF has none (E4)"),
+        ):
             self.write({"top.v": common.NETLIST.replace(old, new)})
             status, errors = self.run_import()
             self.assertEqual(status, 2)
@@ -213,9 +266,16 @@ class Verilog(Project):
 
 class Functions(unittest.TestCase):
     def test_functions_of_libraries(self):
-        cases = {"!(A B)+C'": ({"A": True, "B": True, "C": True}, False), "A*B|C": ({"A": False, "B": True, "C": False}, False),
-                 "A^B": ({"A": True, "B": False}, True), "(A !S)+(B S)": ({"A": True, "S": False}, True), "(A !S)+(B S) ": ({"A": True, "B": True}, True),
-                 "A B": ({"B": None}, None), "A&!A": ({}, False), "1": ({}, True)}
+        cases = {
+            "!(A B)+C'": ({"A": True, "B": True, "C": True}, False),
+            "A*B|C": ({"A": False, "B": True, "C": False}, False),
+            "A^B": ({"A": True, "B": False}, True),
+            "(A !S)+(B S)": ({"A": True, "S": False}, True),
+            "(A !S)+(B S) ": ({"A": True, "B": True}, True),
+            "A B": ({"B": None}, None),
+            "A&!A": ({}, False),
+            "1": ({}, True),
+        }
         for text, (known, value) in cases.items():
             self.assertEqual(Function(text).value(known), value, text)
         for text in ("", "A+", "(A", "A)", "A $ B"):
@@ -223,11 +283,25 @@ class Functions(unittest.TestCase):
                 Function(text)
 
     def test_senses(self):
-        for text, name, known, sense in (("!(A B)", "A", {}, "negative_unate"), ("A^B", "A", {}, "non_unate"), ("A^B", "A", {"B": True}, "negative_unate"),
-                                         ("(A !S)+(B S)", "B", {"S": False}, None), ("(A !S)+(B S)", "S", {"A": False, "B": True}, "positive_unate")):
+        for text, name, known, sense in (
+            ("!(A B)", "A", {}, "negative_unate"),
+            ("A^B", "A", {}, "non_unate"),
+            ("A^B", "A", {"B": True}, "negative_unate"),
+            ("(A !S)+(B S)", "B", {"S": False}, None),
+            ("(A !S)+(B S)", "S", {"A": False, "B": True}, "positive_unate"),
+        ):
             self.assertEqual(sense_word(Function(text).senses(name, known)), sense, text)
 
     def test_words_that_look_mistyped(self):
-        for word, wanted in (("capacitence", "capacitance"), ("relatd_pin", "related_pin"), ("timing_typ", "timing_type"), ("cell_rize", "cell_rise"),
-                             ("rise_capacitance", None), ("max_capacitance", None), ("capacitance", None), ("index_3", None), ("pin", None)):
+        for word, wanted in (
+            ("capacitence", "capacitance"),
+            ("relatd_pin", "related_pin"),
+            ("timing_typ", "timing_type"),
+            ("cell_rize", "cell_rise"),
+            ("rise_capacitance", None),
+            ("max_capacitance", None),
+            ("capacitance", None),
+            ("index_3", None),
+            ("pin", None),
+        ):
             self.assertEqual(meant(word), wanted, word)

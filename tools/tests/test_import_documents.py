@@ -11,7 +11,8 @@ needs_yosys = unittest.skipUnless(shutil.which("yosys"), "no yosys is here: apt-
 NANO = """library (nano) { time_unit : "1ns"; capacitive_load_unit (0.5, pf);
  lu_table_template (mine) { variable_1 : total_output_net_capacitance; index_1 ("0, 0.02"); }
  cell (REG) { pin (D) { direction : input; capacitance : 0.004;
-   timing () { related_pin : "CK"; timing_type : setup_rising; rise_constraint (scalar) { values ("0.015"); } fall_constraint (scalar) { values ("0.0155"); } } }
+   timing () { related_pin : "CK"; timing_type : setup_rising;
+   rise_constraint (scalar) { values ("0.015"); } fall_constraint (scalar) { values ("0.0155"); } } }
   pin (CK) { direction : input; capacitance : 0.002; }
   pin (Q) { direction : output; max_capacitance : 0.2; timing () { related_pin : "CK"; timing_type : rising_edge;
    cell_rise (mine) { values ("0.02, 0.04"); } cell_fall (mine) { index_1 ("0, 0.03"); values ("0.02, 0.05"); }
@@ -21,10 +22,12 @@ MACRO = """library (macro) { time_unit : "1ps"; capacitive_load_unit (1, ff);
  type (two) { base_type : array; data_type : bit; bit_width : 2; bit_from : 1; bit_to : 0; }
  cell (MEM) { pin (CK) { direction : input; capacitance : 3; }
   bus (A) { bus_type : two; direction : input; capacitance : 2;
-   timing () { related_pin : "CK"; timing_type : setup_rising; rise_constraint (scalar) { values ("9"); } fall_constraint (scalar) { values ("9"); } }
+   timing () { related_pin : "CK"; timing_type : setup_rising;
+   rise_constraint (scalar) { values ("9"); } fall_constraint (scalar) { values ("9"); } }
    pin (A[1]) { capacitance : 5; } }
   bus (Q) { bus_type : two; direction : output;
-   timing () { related_pin : "A"; timing_sense : positive_unate; cell_rise (scalar) { values ("7"); } rise_transition (scalar) { values ("4"); } } }
+   timing () { related_pin : "A"; timing_sense : positive_unate;
+   cell_rise (scalar) { values ("7"); } rise_transition (scalar) { values ("4"); } } }
   bundle (E) { members (E0, E1); direction : input; capacitance : 1; } } }
 """
 
@@ -41,8 +44,15 @@ class Libraries(Project):
         text = self.made("late.lib")
         cell = cell_of(text, "REG")
         self.assertIn('time_unit : "1ps";\n  capacitive_load_unit (1, ff);', text)
-        for said in ('pin ("D") { direction : input; capacitance : 2;', 'rise_constraint (scalar) { values ("15"); }', 'fall_constraint (scalar) { values ("15.5"); }',
-                     'values ("20, 40")', 'values ("20, 50")', "max_capacitance : 100;", 'pin ("CK") { direction : input; capacitance : 1; }'):
+        for said in (
+            'pin ("D") { direction : input; capacitance : 2;',
+            'rise_constraint (scalar) { values ("15"); }',
+            'fall_constraint (scalar) { values ("15.5"); }',
+            'values ("20, 40")',
+            'values ("20, 50")',
+            "max_capacitance : 100;",
+            'pin ("CK") { direction : input; capacitance : 1; }',
+        ):
             self.assertIn(said, cell)
         self.assertEqual(sorted(set(re.findall(r'index_1 \("(.*?)"\)', text))), ["0, 10", "0, 15"])
         self.assertIn('cell ("DFF")', text)
@@ -58,7 +68,9 @@ class Libraries(Project):
         self.write({"more.lib": common.LIBRARY.replace('values ("15")', 'values ("16")')})
         status, errors = self.run_import(library=["cells.lib", "more.lib"])
         self.assertEqual(status, 2)
-        self.assertRegex(errors, r"more.lib:(3: the cell BUF|7: the cell DFF) is in cells.lib and in more.lib: prefer = ")
+        self.assertRegex(
+            errors, r"more.lib:(3: the cell BUF|7: the cell DFF) is in cells.lib and in more.lib: prefer = "
+        )
         for file, value in (("cells.lib", "15"), ("more.lib", "16"), ("first", "15")):
             self.assertEqual(self.run_import(library=["cells.lib", "more.lib"], prefer={"*": file}), (0, ""))
             self.assertIn(f'rise_constraint (scalar) {{ values ("{value}"); }}', self.made("late.lib"))
@@ -66,21 +78,43 @@ class Libraries(Project):
 
     @needs_yosys
     def test_buses_become_pins(self):
-        self.write({"macro.lib": MACRO, "top.v": "module top (input clk, input [1:0] d, e, output [1:0] q);\n MEM m (.CK(clk), .A({d[0], d[1]}), .Q(q), .E0(e[0]), .E1(1'b0));\nendmodule\n"})
+        self.write(
+            {
+                "macro.lib": MACRO,
+                "top.v": "module top (input clk, input [1:0] d, e, output [1:0] q);\n MEM m (.CK(clk), .A({d[0], "
+                "d[1]}), .Q(q), .E0(e[0]), .E1(1'b0));\nendmodule\n",
+            }
+        )
         self.assertEqual(self.run_import(library=["cells.lib", "macro.lib"]), (0, ""))
-        self.assertIn("  MEM m (.\\A[0] (d[1]), .\\A[1] (d[0]), .CK(clk), .E0(e[0]), .E1(1'b0), .\\Q[0] (q[0]), .\\Q[1] (q[1]));", self.made("netlist.v"))
+        self.assertIn(
+            "  MEM m (.\\A[0] (d[1]), .\\A[1] (d[0]), .CK(clk), .E0(e[0]), .E1(1'b0), .\\Q[0] (q[0]), .\\Q[1] (q[1]));",
+            self.made("netlist.v"),
+        )
         cell = cell_of(self.made("late.lib"), "MEM")
-        for said in ('pin ("A[1]") { direction : input; capacitance : 5; timing () { related_pin : "CK"; timing_type : setup_rising;', 'pin ("A[0]") { direction : input; capacitance : 2; timing ()',
-                     'pin ("Q[1]") { direction : output; capacitance : 0; timing () { related_pin : "A[1]";', 'pin ("Q[0]") { direction : output; capacitance : 0; timing () { related_pin : "A[0]";',
-                     'pin ("E0") { direction : input; capacitance : 1; }'):
+        for said in (
+            'pin ("A[1]") { direction : input; capacitance : 5; timing () { related_pin : "CK"; timing_type : '
+            "setup_rising;",
+            'pin ("A[0]") { direction : input; capacitance : 2; timing ()',
+            'pin ("Q[1]") { direction : output; capacitance : 0; timing () { related_pin : "A[1]";',
+            'pin ("Q[0]") { direction : output; capacitance : 0; timing () { related_pin : "A[0]";',
+            'pin ("E0") { direction : input; capacitance : 1; }',
+        ):
             self.assertIn(said, cell)
 
     def test_senses_and_edges(self):
-        text = common.LIBRARY.replace("timing_sense : positive_unate;", "").replace("pin (Z) { direction : output;", 'pin (Z) { direction : output; function : "!A";')
+        text = common.LIBRARY.replace("timing_sense : positive_unate;", "").replace(
+            "pin (Z) { direction : output;", 'pin (Z) { direction : output; function : "!A";'
+        )
         self.write({"cells.lib": text})
         self.assertEqual(self.run_import(), (0, ""))
         self.assertIn("timing_sense : negative_unate;", cell_of(self.made("late.lib"), "BUF"))
-        self.write({"cells.lib": common.LIBRARY.replace("timing_sense : positive_unate;", "timing_sense : positive_unate; timing_type : combinational_rise;")})
+        self.write(
+            {
+                "cells.lib": common.LIBRARY.replace(
+                    "timing_sense : positive_unate;", "timing_sense : positive_unate; timing_type : combinational_rise;"
+                )
+            }
+        )
         self.assertEqual(self.run_import(), (0, ""))
         cell = cell_of(self.made("late.lib"), "BUF")
         self.assertIn("timing_type : combinational;", cell)
@@ -88,13 +122,39 @@ class Libraries(Project):
         self.assertNotIn("cell_fall", cell)
 
     def test_what_changes_slacks_is_refused(self):
-        for old, new, said in (("capacitance : 1; }\n  pin (Z)", "capacitence : 1; }\n  pin (Z)", "cells.lib:3: mistyped: capacitence is passed over: is capacitance meant?"),
-                               ("capacitance : 1; }\n  pin (Z)", "capacitance : 1; rise_capacitance : 1.1; }\n  pin (Z)", "cells.lib:3: pin-capacitance: cell BUF: pin A has a rise_capacitance"),
-                               ("timing_sense : positive_unate;", "timing_sense : positive_unate; timing_type : three_state_enable;", "cells.lib:4: three-state: cell BUF: three_state_enable of Z"),
-                               ("timing_sense : positive_unate;", "timing_sense : positive_unate; timing_type : combinatorial;", "cells.lib:4: timing-type: cell BUF: the timing_type combinatorial"),
-                               ('related_pin : "A"', 'related_pin : "B"', "cells.lib:4: related-pin: cell BUF: the related_pin B of Z is no pin"),
-                               ("variable_1 : total_output_net_capacitance", "variable_1 : related_out_total_output_net_capacitance", "cells.lib:5: table: cell BUF: a table of Z over related_out_total"),
-                               ('time_unit : "1ps";', 'time_unit : "1ps"; slew_derate_from_library : 0.5;', "cells.lib:1: slew-derate: ")):
+        for old, new, said in (
+            (
+                "capacitance : 1; }\n  pin (Z)",
+                "capacitence : 1; }\n  pin (Z)",
+                "cells.lib:3: mistyped: capacitence is passed over: is capacitance meant?",
+            ),
+            (
+                "capacitance : 1; }\n  pin (Z)",
+                "capacitance : 1; rise_capacitance : 1.1; }\n  pin (Z)",
+                "cells.lib:3: pin-capacitance: cell BUF: rise_capacitance or fall_capacitance of A differ",
+            ),
+            (
+                "timing_sense : positive_unate;",
+                "timing_sense : positive_unate; timing_type : three_state_enable;",
+                "cells.lib:4: three-state: cell BUF: three_state_enable of Z",
+            ),
+            (
+                "timing_sense : positive_unate;",
+                "timing_sense : positive_unate; timing_type : combinatorial;",
+                "cells.lib:4: timing-type: cell BUF: the timing_type combinatorial",
+            ),
+            (
+                'related_pin : "A"',
+                'related_pin : "B"',
+                "cells.lib:4: related-pin: cell BUF: the related_pin B of Z is no pin",
+            ),
+            (
+                "variable_1 : total_output_net_capacitance",
+                "variable_1 : related_out_total_output_net_capacitance",
+                "cells.lib:5: table: cell BUF: a table of Z over related_out_total",
+            ),
+            ('time_unit : "1ps";', 'time_unit : "1ps"; slew_derate_from_library : 0.5;', "cells.lib:1: slew-derate: "),
+        ):
             with self.subTest(new):
                 self.write({"cells.lib": common.LIBRARY.replace(old, new)})
                 status, errors = self.run_import()
@@ -102,13 +162,43 @@ class Libraries(Project):
                 self.assertIn(said, errors)
 
     def test_libraries_that_cannot_be_read(self):
-        for old, new, said in (("(1, ff)", "(1, xx)", "cells.lib:1: the library has no capacitive_load_unit"), ('"1ps"', '"1 hour"', "cells.lib:1: the time unit 1 hour is not read"),
-                               ('values ("10, 30"); } cell_fall', 'values ("10"); } cell_fall', "cells.lib:5: cell_rise of Z has 1 values, and its template asks for 2"),
-                               ('values ("10, 30"); } cell_fall', 'values ("10, x"); } cell_fall', "cells.lib:5: an entry of cell_rise of Z is no number: x"),
-                               ("cell_rise (ld)", "cell_rise (lx)", "cells.lib:5: the table template lx is not there"), ("direction : output; timing", "direction : inout; timing", "cells.lib:7: the cell DFF cannot be read: its pin Q is an inout"),
-                               ("library (small)", "libraries (small)", "cells.lib:1: this is no library (Liberty)"), (" cell (BUF) {", " cell (BUF) { {", "cells.lib:7: cell (DFF) begins inside the group cell (BUF) of line 3: a closing bracket is missing"),
-                               ("} } } }\n cell (DFF)", "} } }\n cell (DFF)", "cells.lib:7: cell (DFF) begins inside the group cell (BUF) of line 3"), ("values (\"10\"); } } } } }", "values (\"10\"); } } } } } }", "cells.lib:13: the library ends before"),
-                               ("library (small) {", "library (small) { delay_model : polynomial;", "the delay model polynomial is not read")):
+        for old, new, said in (
+            ("(1, ff)", "(1, xx)", "cells.lib:1: the library has no capacitive_load_unit"),
+            ('"1ps"', '"1 hour"', "cells.lib:1: the time unit 1 hour is not read"),
+            (
+                'values ("10, 30"); } cell_fall',
+                'values ("10"); } cell_fall',
+                "cells.lib:5: cell_rise of Z has 1 values, and its template asks for 2",
+            ),
+            (
+                'values ("10, 30"); } cell_fall',
+                'values ("10, x"); } cell_fall',
+                "cells.lib:5: an entry of cell_rise of Z is no number: x",
+            ),
+            ("cell_rise (ld)", "cell_rise (lx)", "cells.lib:5: the table template lx is not there"),
+            (
+                "direction : output; timing",
+                "direction : inout; timing",
+                "cells.lib:7: the cell DFF cannot be read: its pin Q is an inout",
+            ),
+            ("library (small)", "libraries (small)", "cells.lib:1: this is no library (Liberty)"),
+            (
+                " cell (BUF) {",
+                " cell (BUF) { {",
+                "cells.lib:7: cell (DFF) begins inside the group cell (BUF) of line 3: a closing bracket is missing",
+            ),
+            (
+                "} } } }\n cell (DFF)",
+                "} } }\n cell (DFF)",
+                "cells.lib:7: cell (DFF) begins inside the group cell (BUF) of line 3",
+            ),
+            ('values ("10"); } } } } }', 'values ("10"); } } } } } }', "cells.lib:13: the library ends before"),
+            (
+                "library (small) {",
+                "library (small) { delay_model : polynomial;",
+                "the delay model polynomial is not read",
+            ),
+        ):
             with self.subTest(new):
                 self.write({"cells.lib": common.LIBRARY.replace(old, new)})
                 status, errors = self.run_import()
@@ -116,7 +206,10 @@ class Libraries(Project):
                 self.assertIn(said, errors)
 
     def test_both_sides_have_the_same_cells(self):
-        for old, new, said in (("cell (BUF)", "cell (BAF)", "top.v:4: the cell BUF is in no early library"), ("hold_rising", "hold_falling", "the cell DFF has other arcs or tests than in")):
+        for old, new, said in (
+            ("cell (BUF)", "cell (BAF)", "top.v:4: the cell BUF is in no early library"),
+            ("hold_rising", "hold_falling", "the cell DFF has other arcs or tests than in"),
+        ):
             self.write({"early.lib": common.LIBRARY.replace(old, new)})
             status, errors = self.run_import(library=None, early="early.lib", late="cells.lib")
             self.assertEqual(status, 2)
@@ -127,12 +220,30 @@ class Doubts(Project):
     def test_what_is_hardly_meant(self):
         slow = common.LIBRARY.replace('"10, 30"', '"12, 36"').replace('values ("20")', 'values ("24")')
         self.write({"slow.lib": slow, "far.spef": common.SPEF.replace("*C_UNIT 1 FF", "*C_UNIT 1 PF")})
-        for sdc, changed, said in ((CLOCK, {"library": None, "early": "slow.lib", "late": "cells.lib"}, "slow.lib: early-late: 4 arcs are slower here than in the late library cells.lib, and 0 faster"),
-                                   (CLOCK.replace("100", "0.1"), {}, "top.sdc:1: period: the clock clk has a period of 0.1 ps, where a gate takes 30 ps"),
-                                   (CLOCK + "set_load 4000 q\n", {}, "top.sdc: load: 1 ports such as q have a load of 4000 fF, and the tables end at 10"),
-                                   ("set_load 4 q\n", {}, "top.sdc: no-clock: the constraints create no clock"),
-                                   (CLOCK, {"spef": "far.spef"}, "far.spef:14: wire-load: 1 nets such as n2 have 3.5e+03 fF, and the tables end at 10 fF"),
-                                   (CLOCK + "current_design chip\n", {}, "top.sdc:3: current-design: current_design chip: the design is top")):
+        for sdc, changed, said in (
+            (
+                CLOCK,
+                {"library": None, "early": "slow.lib", "late": "cells.lib"},
+                "slow.lib: early-late: 4 arcs are slower here than in the late library cells.lib, and 0 faster",
+            ),
+            (
+                CLOCK.replace("100", "0.1"),
+                {},
+                "top.sdc:1: period: the clock clk has a period of 0.1 ps, where a gate takes 30 ps",
+            ),
+            (
+                CLOCK + "set_load 4000 q\n",
+                {},
+                "top.sdc: load: 1 ports such as q have a load of 4000 fF, and the tables end at 10",
+            ),
+            ("set_load 4 q\n", {}, "top.sdc: no-clock: the constraints create no clock"),
+            (
+                CLOCK,
+                {"spef": "far.spef"},
+                "far.spef:14: wire-load: 1 nets such as n2 have 3.5e+03 fF, and the tables end at 10 fF",
+            ),
+            (CLOCK + "current_design chip\n", {}, "top.sdc:3: current-design: current_design chip: the design is top"),
+        ):
             with self.subTest(said):
                 self.write({"top.sdc": sdc})
                 status, errors = self.run_import(**changed)
@@ -168,7 +279,9 @@ STAGE_SPEF = """*SPEF "IEEE 1481-1998"
 *D_NET *3 0.0045
 *END
 """
-TOP_SPEF = STAGE_SPEF.partition("*NAME_MAP")[0].replace("PF", "FF").replace("KOHM", "OHM") + """*D_NET d 2
+TOP_SPEF = (
+    STAGE_SPEF.partition("*NAME_MAP")[0].replace("PF", "FF").replace("KOHM", "OHM")
+    + """*D_NET d 2
 *CONN
 *P d I
 *I u1:a I
@@ -181,6 +294,7 @@ TOP_SPEF = STAGE_SPEF.partition("*NAME_MAP")[0].replace("PF", "FF").replace("KOH
 2 d:7 u1:a 15
 *END
 """
+)
 LEAVES = """module leaf (input a, output y);
  wire m;
  BUF b0 (.A(a), .Z(m));
@@ -197,7 +311,10 @@ endmodule
 def rows_of(text, net):
     """The rows of a net in a file of parasitics, with the names that its map has."""
     names = dict(re.findall(r"^\*(\d+) (\S+)$", text.partition("*D_NET")[0], re.M))
-    nets = [it.partition("*END")[0] for it in re.sub(r"\*(\d+)\b", lambda it: names.get(it[1], it[0]), text).split("*D_NET ")[1:]]
+    nets = [
+        it.partition("*END")[0]
+        for it in re.sub(r"\*(\d+)\b", lambda it: names.get(it[1], it[0]), text).split("*D_NET ")[1:]
+    ]
     found = next(it for it in nets if it.split()[0] == net)
     return [line.split() for line in found.splitlines()[1:] if not line.startswith("*")], found.split()[1]
 
@@ -207,13 +324,17 @@ class Parasitics(Project):
         self.write({"top.spef": common.SPEF})
         self.assertEqual(self.run_import(spef="top.spef"), (0, ""))
         rows, total = rows_of(self.made("parasitics.spef"), "n2")
-        self.assertEqual(rows, [["1", "n2:1", "2.5"], ["2", "r2:D", "1"], ["1", "g1:Z", "n2:1", "100"], ["2", "n2:1", "r2:D", "50"]])
+        self.assertEqual(
+            rows, [["1", "n2:1", "2.5"], ["2", "r2:D", "1"], ["1", "g1:Z", "n2:1", "100"], ["2", "n2:1", "r2:D", "50"]]
+        )
         self.assertEqual(total, "3.5")
 
     @needs_yosys
     def test_blocks_are_joined_to_the_nets_above(self):
         self.write({"top.v": LEAVES, "top.spef": TOP_SPEF, "leaf.spef": STAGE_SPEF})
-        self.assertEqual(self.run_import(top="top", spef=["top.spef", {"file": "leaf.spef", "instance": "u1"}]), (0, ""))
+        self.assertEqual(
+            self.run_import(top="top", spef=["top.spef", {"file": "leaf.spef", "instance": "u1"}]), (0, "")
+        )
         rows, total = rows_of(self.made("parasitics.spef"), "d")
         end = next(row[2] for row in rows if row[-1] == "15")
         self.assertRegex(end, r"d:\d+")
@@ -235,9 +356,17 @@ class Parasitics(Project):
         self.assertIn("spef-join", self.kinds("changed"))
 
     def test_what_is_wrong_with_parasitics(self):
-        for old, new, said in (("*1 n2", "*1 n9", "top.spef:14: spef-net: 1 of 1 nets are not in the netlist: n9; is this the SPEF of this design?"),
-                               ("*3 r2", "*3 r1", "top.spef:14: spef-pin: the parasitics of n2 name r1/D, which is not on the net"), ("2 *1:1 *3:D 50", "2 *1:1 *3:D 50\n3 *2:Z *3:D 9", "spef-loop: the resistors of n2 form a loop"),
-                               ("2 *1:1 *3:D 50\n", "", "spef-tree: the resistors of n2 do not reach r2/D"), ("*END", "*INDUC\n1 *1:1 3\n*END", "inductance: the inductances of n2 are not read")):
+        for old, new, said in (
+            (
+                "*1 n2",
+                "*1 n9",
+                "top.spef:14: spef-net: 1 of 1 nets are not in the netlist: n9; is this the SPEF of this design?",
+            ),
+            ("*3 r2", "*3 r1", "top.spef:14: spef-pin: the parasitics of n2 name r1/D, which is not on the net"),
+            ("2 *1:1 *3:D 50", "2 *1:1 *3:D 50\n3 *2:Z *3:D 9", "spef-loop: the resistors of n2 form a loop"),
+            ("2 *1:1 *3:D 50\n", "", "spef-tree: the resistors of n2 do not reach r2/D"),
+            ("*END", "*INDUC\n1 *1:1 3\n*END", "inductance: the inductances of n2 are not read"),
+        ):
             with self.subTest(new):
                 self.write({"top.spef": common.SPEF.replace(old, new)})
                 status, errors = self.run_import(spef="top.spef")
@@ -245,8 +374,16 @@ class Parasitics(Project):
                 self.assertIn(said, errors)
 
     def test_files_that_cannot_be_read(self):
-        for old, new, said in (("1 FF", "1 XF", "a unit that is not read"), ("*1:1 2.5", "*1:1 x", "is of this net, or a value that is no number"), ("*1:1 2.5", "*1:1 -2.5", "-2.5 is no value of parasitics"), ("*D_NET *1", "*D_NET *9", "*9 is not in the *NAME_MAP"),
-                               ("*END", "", "the net n2 has no *END"), ("*D_NET", "*R_NET", "*R_NET is not read"), ("*DELIMITER :\n", "", "the header lacks *DELIMITER, *C_UNIT or *R_UNIT"), ('*SPEF "', '*SPFE "', "does not begin with *SPEF")):
+        for old, new, said in (
+            ("1 FF", "1 XF", "a unit that is not read"),
+            ("*1:1 2.5", "*1:1 x", "is of this net, or a value that is no number"),
+            ("*1:1 2.5", "*1:1 -2.5", "-2.5 is no value of parasitics"),
+            ("*D_NET *1", "*D_NET *9", "*9 is not in the *NAME_MAP"),
+            ("*END", "", "the net n2 has no *END"),
+            ("*D_NET", "*R_NET", "*R_NET is not read"),
+            ("*DELIMITER :\n", "", "the header lacks *DELIMITER, *C_UNIT or *R_UNIT"),
+            ('*SPEF "', '*SPFE "', "does not begin with *SPEF"),
+        ):
             with self.subTest(new):
                 self.write({"top.spef": common.SPEF.replace(old, new)})
                 status, errors = self.run_import(spef="top.spef")

@@ -1,4 +1,5 @@
-"""The importer against OpenSTA, construct by construct: OpenSTA reads the constraints as they are, the program what is imported of them."""
+"""The importer against OpenSTA, construct by construct: OpenSTA reads the constraints as they are, the program what is
+imported of them."""
 import pathlib
 import shutil
 import tempfile
@@ -23,22 +24,35 @@ VIRTUAL = "create_clock -name io -period 600\n"
 CASES = {
     "nothing more": "",
     "uncertainties": "set_clock_uncertainty 20 [all_clocks]\nset_clock_uncertainty -hold 7 [get_clocks clk]\n",
-    "an uncertainty between clocks": "set_clock_uncertainty -setup 31 -from clk -to clk2\nset_clock_uncertainty -setup 31 -from clk2 -to clk2\n",
-    "a latency of a virtual clock": VIRTUAL + "set_clock_latency 33 [get_clocks io]\nset_input_delay 20 -clock io [get_ports c]\nset_output_delay 40 -clock io [get_ports z]\n",
-    "a latency of all clocks": VIRTUAL + "set_clock_latency -source 25 [all_clocks]\nset_clock_latency -source 11 [get_clocks io]\nset_input_delay 20 -clock io [get_ports c]\n"
-                               "set_output_delay -max 40 -clock io [get_ports z]\nset_output_delay -min 10 -clock io [get_ports z]\n",
-    "a latency that is included": "set_clock_latency -source 25 [all_clocks]\nset_input_delay 20 -clock clk -source_latency_included [get_ports c]\n"
-                                  "set_output_delay 40 -clock clk -source_latency_included [get_ports z]\n",
-    "delays beside others": "set_input_delay 90 -clock clk -add_delay [get_ports c]\nset_input_delay 10 -clock clk -add_delay [get_ports d]\n"
-                            "set_output_delay 20 -max -add_delay -clock clk [get_ports z]\n",
-    "a delay in the place of others": "set_input_delay -max 20 -clock clk2 [get_ports c]\nset_input_delay -min 10 -clock clk2 [get_ports c]\n",
+    "an uncertainty between clocks": "set_clock_uncertainty -setup 31 -from clk -to clk2\nset_clock_uncertainty "
+    "-setup 31 -from clk2 -to clk2\n",
+    "a latency of a virtual clock": VIRTUAL
+    + "set_clock_latency 33 [get_clocks io]\nset_input_delay 20 -clock io [get_ports c]\n"
+    "set_output_delay 40 -clock io [get_ports z]\n",
+    "a latency of all clocks": VIRTUAL
+    + "set_clock_latency -source 25 [all_clocks]\nset_clock_latency -source 11 [get_clocks io]\n"
+    "set_input_delay 20 -clock io [get_ports c]\n"
+    "set_output_delay -max 40 -clock io [get_ports z]\nset_output_delay -min 10 -clock io [get_ports z]\n",
+    "a latency that is included": "set_clock_latency -source 25 [all_clocks]\nset_input_delay 20 -clock clk "
+    "-source_latency_included [get_ports c]\n"
+    "set_output_delay 40 -clock clk -source_latency_included [get_ports z]\n",
+    "delays beside others": "set_input_delay 90 -clock clk -add_delay [get_ports c]\nset_input_delay 10 -clock clk "
+    "-add_delay [get_ports d]\n"
+    "set_output_delay 20 -max -add_delay -clock clk [get_ports z]\n",
+    "a delay in the place of others": "set_input_delay -max 20 -clock clk2 [get_ports c]\nset_input_delay -min 10 "
+    "-clock clk2 [get_ports c]\n",
     "clock groups": "set_clock_groups -asynchronous -group clk -group clk2\n",
     "a clock group alone": "set_clock_groups -logically_exclusive -group [get_clocks clk2]\n",
-    "false paths": "set_false_path -from [list [get_clocks clk2] [get_ports a]] -to [get_cells r4]\nset_false_path -hold -to [get_pins r2/D]\n",
-    "false paths of registers": "set_false_path -from [all_registers -clock_pins] -to [all_registers -data_pins -clock clk2]\n",
-    "multicycles": "set_multicycle_path 2 -from [get_clocks clk] -to [get_cells r2]\nset_multicycle_path 3 -setup -from [get_clocks clk]\nset_multicycle_path -hold 1 -from [get_cells r2]\n",
-    "multicycles, special ones first": "set_multicycle_path 4 -from [get_cells r1]\nset_multicycle_path 2 -to [get_cells r2]\nset_multicycle_path 3 -to [get_clocks clk]\n",
-    "multicycles of equal rank": "set_multicycle_path 2 -from [get_cells r1]\nset_multicycle_path 3 -from [get_cells {r1 r2}]\n",
+    "false paths": "set_false_path -from [list [get_clocks clk2] [get_ports a]] -to [get_cells r4]\nset_false_path "
+    "-hold -to [get_pins r2/D]\n",
+    "false paths of registers": "set_false_path -from [all_registers -clock_pins] -to [all_registers -data_pins "
+    "-clock clk2]\n",
+    "multicycles": "set_multicycle_path 2 -from [get_clocks clk] -to [get_cells r2]\nset_multicycle_path 3 -setup "
+    "-from [get_clocks clk]\nset_multicycle_path -hold 1 -from [get_cells r2]\n",
+    "multicycles, special ones first": "set_multicycle_path 4 -from [get_cells r1]\nset_multicycle_path 2 -to "
+    "[get_cells r2]\nset_multicycle_path 3 -to [get_clocks clk]\n",
+    "multicycles of equal rank": "set_multicycle_path 2 -from [get_cells r1]\nset_multicycle_path 3 -from [get_cells "
+    "{r1 r2}]\n",
     "multicycle of the start": "set_multicycle_path 2 -setup -start -from [get_clocks clk2] -to [get_clocks clk]\n",
     "derates": "set_timing_derate -early 0.9\nset_timing_derate -late 1.1 -cell_delay\n",
     "a constant that selects": "set_case_analysis 0 [get_ports sel]\n",
@@ -55,17 +69,21 @@ CASES = {
     "an output pin": "set_disable_timing [get_pins g5/Y]\n",
     "a library cell": "set_disable_timing -from B -to Y [get_lib_cells */XOR2]\n",
     "an input port": "set_disable_timing [get_ports c]\n",
-    "a driving cell": "set_driving_cell -lib_cell BUF [get_ports {a c}]\nset_driving_cell -lib_cell INV -input_transition_rise 33 -input_transition_fall 44 [get_ports d]\n",
+    "a driving cell": "set_driving_cell -lib_cell BUF [get_ports {a c}]\nset_driving_cell -lib_cell INV "
+    "-input_transition_rise 33 -input_transition_fall 44 [get_ports d]\n",
     "a driving cell by its pins": "set_driving_cell -lib_cell NAND2 -from_pin A -pin Y [get_ports {a d}]\n",
-    "a driving cell with derates": "set_driving_cell -lib_cell BUF [get_ports {a c}]\nset_timing_derate -early 0.9\nset_timing_derate -late 1.2\n",
+    "a driving cell with derates": "set_driving_cell -lib_cell BUF [get_ports {a c}]\nset_timing_derate -early "
+    "0.9\nset_timing_derate -late 1.2\n",
 }
 # OpenSTA gives ideal clocks a credit for the delays of their buffers, which they do not have; so it is asked for none.
 IDEAL_CASES = {
     "an ideal clock": "",
-    "an ideal clock with a transition": "set_clock_transition 35 [all_clocks]\nset_clock_transition -min -rise 12 [get_clocks clk]\n",
+    "an ideal clock with a transition": "set_clock_transition 35 [all_clocks]\nset_clock_transition -min -rise 12 "
+    "[get_clocks clk]\n",
     "an ideal clock with latencies": "set_clock_latency 80 [all_clocks]\nset_clock_latency -source 20 [all_clocks]\n",
     "an ideal clock beside a propagated one": "set_propagated_clock [get_clocks clk2]\n",
-    "an ideal clock that is selected": "set_case_analysis 0 [get_ports sel]\nset_clock_uncertainty -setup 12 [all_clocks]\n",
+    "an ideal clock that is selected": "set_case_analysis 0 [get_ports sel]\nset_clock_uncertainty -setup 12 "
+    "[all_clocks]\n",
 }
 
 
@@ -84,7 +102,9 @@ class AgainstOpenSta(unittest.TestCase):
         ours = import_check.slacks_of_lizdrog(import_check.imported(self.case), common.PROGRAM)
         self.assertGreater(len(theirs), 10)
         self.assertEqual(theirs.keys(), ours.keys())
-        self.assertEqual([(it, theirs[it], ours[it]) for it in theirs if abs(theirs[it] - ours[it]) > import_check.TOLERANCE], [])
+        self.assertEqual(
+            [(it, theirs[it], ours[it]) for it in theirs if abs(theirs[it] - ours[it]) > import_check.TOLERANCE], []
+        )
         return theirs
 
     def test_each_construct(self):

@@ -33,14 +33,28 @@ class Constraints(Project):
 
 class Objects(Constraints):
     def test_ports(self):
-        for getter, ports in (("[get_ports d]", "d[2] d[1] d[0]"), ("[get_ports d[*]]", "d[2] d[1] d[0]"), ("{d[1]}", "d[1]"), ("[get_ports {e d[0]}]", "e d[0]"),
-                              ("[get_ports -regexp {d.[01].}]", "d[1] d[0]"), ("[get_ports -filter {direction == in && full_name =~ d*}]", "d[2] d[1] d[0]"),
-                              ("[get_ports -filter {direction == out || name == e} *]", "e"), ("[all_inputs]", "clk e d[2] d[1] d[0]"), ("[all_inputs -no_clocks]", "e d[2] d[1] d[0]"),
-                              ("[remove_from_collection [all_inputs] [get_ports clk]]", "e d[2] d[1] d[0]"), ("[remove_from_collection [all_inputs] {clk d[0]}]", "e d[2] d[1]"),
-                              ("[add_to_collection [get_ports e] [get_ports d[0]]]", "e d[0]"), ("[index_collection [get_ports d] 1]", "d[1]"),
-                              ("[filter_collection [all_inputs] {name !~ d*}]", "clk e"), ("[get_ports -of_objects [get_nets d[1]]]", "d[1]"),
-                              ("[list [get_ports e] [get_ports clk]]", "e clk"), ("[get_ports -nocase E]", "e"), ("[lindex [get_ports d] 0]", "d[2]"),
-                              ("[get_ports [get_object_name [get_ports e]]]", "e"), ("[sort_collection [get_ports d] full_name]", "d[0] d[1] d[2]")):
+        for getter, ports in (
+            ("[get_ports d]", "d[2] d[1] d[0]"),
+            ("[get_ports d[*]]", "d[2] d[1] d[0]"),
+            ("{d[1]}", "d[1]"),
+            ("[get_ports {e d[0]}]", "e d[0]"),
+            ("[get_ports -regexp {d.[01].}]", "d[1] d[0]"),
+            ("[get_ports -filter {direction == in && full_name =~ d*}]", "d[2] d[1] d[0]"),
+            ("[get_ports -filter {direction == out || name == e} *]", "e"),
+            ("[all_inputs]", "clk e d[2] d[1] d[0]"),
+            ("[all_inputs -no_clocks]", "e d[2] d[1] d[0]"),
+            ("[remove_from_collection [all_inputs] [get_ports clk]]", "e d[2] d[1] d[0]"),
+            ("[remove_from_collection [all_inputs] {clk d[0]}]", "e d[2] d[1]"),
+            ("[add_to_collection [get_ports e] [get_ports d[0]]]", "e d[0]"),
+            ("[index_collection [get_ports d] 1]", "d[1]"),
+            ("[filter_collection [all_inputs] {name !~ d*}]", "clk e"),
+            ("[get_ports -of_objects [get_nets d[1]]]", "d[1]"),
+            ("[list [get_ports e] [get_ports clk]]", "e clk"),
+            ("[get_ports -nocase E]", "e"),
+            ("[lindex [get_ports d] 0]", "d[2]"),
+            ("[get_ports [get_object_name [get_ports e]]]", "e"),
+            ("[sort_collection [get_ports d] full_name]", "d[0] d[1] d[2]"),
+        ):
             with self.subTest(getter):
                 self.assertEqual(sorted(self.ports_of(getter)), sorted(ports.split()))
 
@@ -48,33 +62,60 @@ class Objects(Constraints):
         return self.sdc_lines(f"set_false_path {text}\n")
 
     def test_cells_and_pins(self):
-        for words, line in (("-from [get_cells core/*]", "-from [get_cells {core/r2 core/r3}]"), ("-to [get_cells -hierarchical *r2]", "-to [get_cells {core/r2}]"),
-                            ("-from [get_pins core/r*/CK]", "-from [get_pins {core/r2/CK core/r3/CK}]"), ("-to [get_pins -of_objects [get_cells r1] -filter {lib_pin_name == D}]", "-to [get_pins {r1/D}]"),
-                            ("-from [all_registers -clock_pins -clock clk]", "-from [get_pins {r1/CK core/r2/CK core/r3/CK}]"), ("-to [all_registers -data_pins]", "-to [get_pins {r1/D core/r2/D core/r3/D}]"),
-                            ("-to [all_registers]", "-to [get_cells {r1 core/r2 core/r3}]"), ("-from r1", "-from [get_cells {r1}]"), ("-to core/r2/D", "-to [get_pins {core/r2/D}]"),
-                            ("-to [get_cells -filter {ref_name == DFF && is_sequential}]", "-to [get_cells {r1 core/r2 core/r3}]"),
-                            ("-to [get_cells -of_objects [get_pins {core/r3/D}]]", "-to [get_cells {core/r3}]"), ("-from clk", "-from [get_clocks {clk}]")):
+        for words, line in (
+            ("-from [get_cells core/*]", "-from [get_cells {core/r2 core/r3}]"),
+            ("-to [get_cells -hierarchical *r2]", "-to [get_cells {core/r2}]"),
+            ("-from [get_pins core/r*/CK]", "-from [get_pins {core/r2/CK core/r3/CK}]"),
+            ("-to [get_pins -of_objects [get_cells r1] -filter {lib_pin_name == D}]", "-to [get_pins {r1/D}]"),
+            ("-from [all_registers -clock_pins -clock clk]", "-from [get_pins {r1/CK core/r2/CK core/r3/CK}]"),
+            ("-to [all_registers -data_pins]", "-to [get_pins {r1/D core/r2/D core/r3/D}]"),
+            ("-to [all_registers]", "-to [get_cells {r1 core/r2 core/r3}]"),
+            ("-from r1", "-from [get_cells {r1}]"),
+            ("-to core/r2/D", "-to [get_pins {core/r2/D}]"),
+            ("-to [get_cells -filter {ref_name == DFF && is_sequential}]", "-to [get_cells {r1 core/r2 core/r3}]"),
+            ("-to [get_cells -of_objects [get_pins {core/r3/D}]]", "-to [get_cells {core/r3}]"),
+            ("-from clk", "-from [get_clocks {clk}]"),
+        ):
             with self.subTest(words):
                 self.assertEqual(self.false_path(words), [f"set_false_path {line}"])
 
     def test_an_end_of_several_kinds(self):
-        lines = self.false_path("-from [list [get_clocks clk] [get_ports e]] -to [list [get_pins r1/D] [get_cells core/r2]]")
-        self.assertEqual(lines, [f"set_false_path -from {one} -to {other}" for one in ("[get_clocks {clk}]", "[get_ports {e}]") for other in ("[get_pins {r1/D}]", "[get_cells {core/r2}]")])
+        lines = self.false_path(
+            "-from [list [get_clocks clk] [get_ports e]] -to [list [get_pins r1/D] [get_cells core/r2]]"
+        )
+        self.assertEqual(
+            lines,
+            [
+                f"set_false_path -from {one} -to {other}"
+                for one in ("[get_clocks {clk}]", "[get_ports {e}]")
+                for other in ("[get_pins {r1/D}]", "[get_cells {core/r2}]")
+            ],
+        )
 
     def test_what_is_not_there(self):
         self.assertIn("top.sdc:3: not-found: get_ports: there is no port x", self.refusal("set_load 3 [get_ports x]\n"))
-        self.assertIn("top.sdc:4: not-found: set_false_path: there is no clock or port or pin or cell", self.refusal("\nset_false_path -to x\n"))
+        self.assertIn(
+            "top.sdc:4: not-found: set_false_path: there is no clock or port or pin or cell",
+            self.refusal("\nset_false_path -to x\n"),
+        )
         for words in ("-from [get_cells x*]", "-from [get_cells -quiet x]"):
             self.assertEqual(self.false_path(words), [])
             self.assertEqual(self.kinds("left_out_without_effect"), {"no-match", "empty-objects"})
 
     def test_mistakes_have_their_line(self):
-        for text, line, said in (("\nset_load x [all_outputs]\n", 4, "set_load: x is no number"), ("set_input_delay -clok clk 3 e\n", 3, "set_input_delay has no option -clok"),
-                                 ("get_ports -filter {size > 3}\n", 3, "asks for size, which is not known"), ("if {1} {\n set_units -time 1h\n}\n", 4, "set_units -time 1h is not read"),
-                                 ("proc p {} {\n  create_clock -name x\n}\n\np\n", 4, "create_clock needs a -period"), ("set x {\n", 3, "missing close-brace"),
-                                 ("foreach p $nothing {}\n", 3, "can't read \"nothing\": no such variable"), ("get_cells -of_objects [get_clocks clk]\n", 3, "-of_objects of a clock gives no cell"),
-                                 ("index_collection [get_ports d] 3\n", 3, "the collection has 3 objects"), ("get_ports -regexp {(}\n", 3, "is no regular expression"),
-                                 ("source gone.tcl\n", 3, "source: there is no file gone.tcl")):
+        for text, line, said in (
+            ("\nset_load x [all_outputs]\n", 4, "set_load: x is no number"),
+            ("set_input_delay -clok clk 3 e\n", 3, "set_input_delay has no option -clok"),
+            ("get_ports -filter {size > 3}\n", 3, "asks for size, which is not known"),
+            ("if {1} {\n set_units -time 1h\n}\n", 4, "set_units -time 1h is not read"),
+            ("proc p {} {\n  create_clock -name x\n}\n\np\n", 4, "create_clock needs a -period"),
+            ("set x {\n", 3, "missing close-brace"),
+            ("foreach p $nothing {}\n", 3, 'can\'t read "nothing": no such variable'),
+            ("get_cells -of_objects [get_clocks clk]\n", 3, "-of_objects of a clock gives no cell"),
+            ("index_collection [get_ports d] 3\n", 3, "the collection has 3 objects"),
+            ("get_ports -regexp {(}\n", 3, "is no regular expression"),
+            ("source gone.tcl\n", 3, "source: there is no file gone.tcl"),
+        ):
             with self.subTest(text):
                 self.write({"top.sdc": CLOCK + text})
                 status, errors = self.run_import()
@@ -89,7 +130,9 @@ set names {}
 foreach bit {0 2} { lappend names d[$bit] }
 proc half {value} { return [expr {$value / 2}] }
 while {[llength $names] < 3} { lappend names "e" }
-if {[info exists names] && $period > 80} { set_input_transition [half $period] [get_ports $names] } else { set_load 1 q }
+if {[info exists names] && $period > 80} {
+  set_input_transition [half $period] [get_ports $names]
+} else { set_load 1 q }
 foreach_in_collection port [get_ports d] {
   if {[get_attribute $port full_name] eq "d\\[1\\]"} { continue }
   append_to_collection kept $port
@@ -97,7 +140,11 @@ foreach_in_collection port [get_ports d] {
 set_input_transition -min [expr [sizeof_collection $kept] + 0.1 + 0.2] [get_ports d[1]]; # a comment
 switch -glob $period { 80* { set_load -max 2.5 [get_ports v\\[0\\]] } }
 """
-    LINES = ["set_input_transition 40.25 [get_ports {e d[2] d[0]}]", "set_input_transition -min 2.3000000000000003 [get_ports {d[1]}]", "set_load -max 2.5 [get_ports {v[0]}]"]
+    LINES = [
+        "set_input_transition 40.25 [get_ports {e d[2] d[0]}]",
+        "set_input_transition -min 2.3000000000000003 [get_ports {d[1]}]",
+        "set_load -max 2.5 [get_ports {v[0]}]",
+    ]
 
     def test_control_and_collections(self):
         self.assertEqual([sorted(it) for it in self.sdc_lines(self.TEXT)], [sorted(it) for it in self.LINES])
@@ -106,6 +153,7 @@ switch -glob $period { 80* { set_load -max 2.5 [get_ports v\\[0\\]] } }
     def test_both_interpreters_say_the_same(self):
         def in_python(commands, answer):
             return tcl.InPython(commands, answer)
+
         first = self.sdc_lines(self.TEXT)
         with unittest.mock.patch("lizdrog_tools.importing.run_sdc.find_tcl", in_python):
             try:
@@ -121,60 +169,134 @@ switch -glob $period { 80* { set_load -max 2.5 [get_ports v\\[0\\]] } }
         self.assertIn("set_load 4 [get_ports {q}]", self.made("constraints.sdc"))
 
     def test_lists(self):
-        for text, words in (("a {b c} \"d e\" f\\ g", ["a", "b c", "d e", "f g"]), ("{} {a {b c}}", ["", "a {b c}"]), ("\\{ a\\nb", ["{", "a\nb"]), (" ", [])):
+        for text, words in (
+            ('a {b c} "d e" f\\ g', ["a", "b c", "d e", "f g"]),
+            ("{} {a {b c}}", ["", "a {b c}"]),
+            ("\\{ a\\nb", ["{", "a\nb"]),
+            (" ", []),
+        ):
             self.assertEqual(tcl.split_list(text), words)
-        for words in (["a", "b c", "{", "x\\", "", "$d[0]", "\"", "é"],):
+        for words in (["a", "b c", "{", "x\\", "", "$d[0]", '"', "é"],):
             self.assertEqual(tcl.split_list(tcl.joined(words)), words)
 
 
 class Timing(Constraints):
     def test_units(self):
-        self.assertEqual(self.sdc_lines("set_units -time ns -capacitance pF\nset_load 0.0035 q\nset_input_transition 0.02 e\nset_units -time 10ps\nset_input_transition -min 1 e\n"),
-                         ["set_input_transition -min 10 [get_ports {e}]", "set_input_transition -max 20 [get_ports {e}]", "set_load 3.5 [get_ports {q}]"])
+        self.assertEqual(
+            self.sdc_lines(
+                "set_units -time ns -capacitance pF\nset_load 0.0035 q\nset_input_transition 0.02 e\nset_units -time "
+                "10ps\nset_input_transition -min 1 e\n"
+            ),
+            [
+                "set_input_transition -min 10 [get_ports {e}]",
+                "set_input_transition -max 20 [get_ports {e}]",
+                "set_load 3.5 [get_ports {q}]",
+            ],
+        )
 
     def test_clock_groups_are_false_paths_both_ways(self):
         more = VIRTUAL + "create_clock -name x -period 60\n"
         lines = self.sdc_lines(more + "set_clock_groups -asynchronous -group clk -group {io x}\n")
-        self.assertEqual(lines[2:], ["set_false_path -from [get_clocks {clk}] -to [get_clocks {io x}]", "set_false_path -from [get_clocks {io x}] -to [get_clocks {clk}]"])
+        self.assertEqual(
+            lines[2:],
+            [
+                "set_false_path -from [get_clocks {clk}] -to [get_clocks {io x}]",
+                "set_false_path -from [get_clocks {io x}] -to [get_clocks {clk}]",
+            ],
+        )
         lines = self.sdc_lines(more + "set_clock_groups -exclusive -group io\n")
-        self.assertEqual(lines[2:], ["set_false_path -from [get_clocks {io}] -to [get_clocks {clk x}]", "set_false_path -from [get_clocks {clk x}] -to [get_clocks {io}]"])
-        self.assertEqual(self.sdc_lines(more + "set_clock_groups -asynchronous -allow_paths -group clk -group io\n")[2:], [])
+        self.assertEqual(
+            lines[2:],
+            [
+                "set_false_path -from [get_clocks {io}] -to [get_clocks {clk x}]",
+                "set_false_path -from [get_clocks {clk x}] -to [get_clocks {io}]",
+            ],
+        )
+        self.assertEqual(
+            self.sdc_lines(more + "set_clock_groups -asynchronous -allow_paths -group clk -group io\n")[2:], []
+        )
 
     def test_delays_of_a_port(self):
         base = VIRTUAL + "set_input_delay 9 -clock clk e\n"
-        self.assertEqual(self.sdc_lines(base + "set_input_delay 11 -clock clk -add_delay -max -rise e\n")[1:],
-                         ["set_input_delay -min -clock clk 9 [get_ports {e}]", "set_input_delay -max -fall -clock clk 9 [get_ports {e}]", "set_input_delay -max -rise -clock clk 11 [get_ports {e}]"])
-        self.assertEqual(self.sdc_lines(base + "set_input_delay 4 -clock io e\n")[1:], ["set_input_delay -clock io 4 [get_ports {e}]"])
+        self.assertEqual(
+            self.sdc_lines(base + "set_input_delay 11 -clock clk -add_delay -max -rise e\n")[1:],
+            [
+                "set_input_delay -min -clock clk 9 [get_ports {e}]",
+                "set_input_delay -max -fall -clock clk 9 [get_ports {e}]",
+                "set_input_delay -max -rise -clock clk 11 [get_ports {e}]",
+            ],
+        )
+        self.assertEqual(
+            self.sdc_lines(base + "set_input_delay 4 -clock io e\n")[1:],
+            ["set_input_delay -clock io 4 [get_ports {e}]"],
+        )
         self.assertEqual(self.kinds("left_out_without_effect"), {"delay-replaced"})
-        self.assertIn("top.sdc:5: add-delay: the input e has a delay against clk, and here one against io beside it", self.refusal(base + "set_input_delay 4 -clock io -add_delay e\n"))
-        self.assertEqual(self.sdc_lines(VIRTUAL + "set_input_delay -max 9 -clock clk e\nset_input_delay -min 4 -clock io -add_delay e\n")[1:],
-                         ["set_input_delay -max -clock clk 9 [get_ports {e}]", "set_input_delay -min -clock io 4 [get_ports {e}]"])
+        self.assertIn(
+            "top.sdc:5: add-delay: the input e has a delay against clk, and here one against io beside it",
+            self.refusal(base + "set_input_delay 4 -clock io -add_delay e\n"),
+        )
+        self.assertEqual(
+            self.sdc_lines(
+                VIRTUAL + "set_input_delay -max 9 -clock clk e\nset_input_delay -min 4 -clock io -add_delay e\n"
+            )[1:],
+            ["set_input_delay -max -clock clk 9 [get_ports {e}]", "set_input_delay -min -clock io 4 [get_ports {e}]"],
+        )
 
     def test_multicycles_general_ones_first(self):
-        text = "set_multicycle_path 3 -to [get_cells r1]\nset_multicycle_path 2 -from [get_clocks clk]\nset_multicycle_path 4 -from [get_pins r1/CK]\nset_multicycle_path 5 -to [get_cells r1]\n"
-        self.assertEqual(self.sdc_lines(text), ["set_multicycle_path -setup 2 -from [get_clocks {clk}]", "set_multicycle_path -setup 5 -to [get_cells {r1}]",
-                                                "set_multicycle_path -setup 4 -from [get_pins {r1/CK}]"])
+        text = (
+            "set_multicycle_path 3 -to [get_cells r1]\nset_multicycle_path 2 -from [get_clocks clk]\n"
+            "set_multicycle_path 4 -from [get_pins r1/CK]\nset_multicycle_path 5 -to [get_cells r1]\n"
+        )
+        self.assertEqual(
+            self.sdc_lines(text),
+            [
+                "set_multicycle_path -setup 2 -from [get_clocks {clk}]",
+                "set_multicycle_path -setup 5 -to [get_cells {r1}]",
+                "set_multicycle_path -setup 4 -from [get_pins {r1/CK}]",
+            ],
+        )
 
     def test_latencies_move_the_delays_of_other_clocks(self):
-        text = VIRTUAL + "set_clock_latency -source 30 clk\nset_clock_latency 12 io\nset_input_delay 5 -clock io e\nset_output_delay 7 -clock io q\n"
-        self.assertEqual(self.sdc_lines(text)[1:], ["set_input_delay -clock io -13 [get_ports {e}]", "set_output_delay -clock io 25 [get_ports {q}]"])
-        self.assertIn("top.sdc:3: latency: the clock clk has a latency of 5 ps (late rise), and another of 0 ps", self.refusal("set_clock_latency -source -late 5 clk\n"))
+        text = (
+            VIRTUAL + "set_clock_latency -source 30 clk\nset_clock_latency 12 io\nset_input_delay 5 -clock io e\n"
+            "set_output_delay 7 -clock io q\n"
+        )
+        self.assertEqual(
+            self.sdc_lines(text)[1:],
+            ["set_input_delay -clock io -13 [get_ports {e}]", "set_output_delay -clock io 25 [get_ports {q}]"],
+        )
+        self.assertIn(
+            "top.sdc:3: latency: the clock clk has a latency of 5 ps (late rise), and another of 0 ps",
+            self.refusal("set_clock_latency -source -late 5 clk\n"),
+        )
 
     def test_uncertainties_between_clocks(self):
         both = "set_clock_uncertainty -setup 9 -from clk -to io\nset_clock_uncertainty -setup 9 -from io -to io\n"
         self.assertIn("set_clock_uncertainty -setup 9 [get_clocks {io}]", self.sdc_lines(VIRTUAL + both))
-        self.assertIn("top.sdc:4: uncertainty: the setup uncertainty towards io differs by the launching clock", self.refusal(VIRTUAL + both.splitlines()[0] + "\n"))
+        self.assertIn(
+            "top.sdc:4: uncertainty: the setup uncertainty towards io differs by the launching clock",
+            self.refusal(VIRTUAL + both.splitlines()[0] + "\n"),
+        )
 
     def test_a_constant_takes_the_arcs(self):
-        self.assertEqual(self.sdc_lines("set_input_delay 3 -clock clk {e d[2]}\nset_case_analysis 1 d[2]\n"), ["set_input_delay -clock clk 3 [get_ports {e}]"])
+        self.assertEqual(
+            self.sdc_lines("set_input_delay 3 -clock clk {e d[2]}\nset_case_analysis 1 d[2]\n"),
+            ["set_input_delay -clock clk 3 [get_ports {e}]"],
+        )
         self.assertIn("  BUF__1 g3 (.A(d[2]), .Z(v[1]));", self.made("netlist.v"))
         cell = self.made("late.lib").partition('cell ("BUF__1")')[2].partition("  cell (")[0]
         self.assertNotIn("timing ()", cell)
         self.assertIn("timing ()", self.made("late.lib").partition('cell ("BUF")')[2].partition("  cell (")[0])
 
     def test_an_ideal_clock_takes_the_delays(self):
-        self.write({"top.v": NETLIST.replace("wire n1", "wire c, n1").replace(" DFF r1 (.D(d[0]), .CK(clk)", " BUF cb (.A(clk), .Z(c));\n DFF r1 (.D(d[0]), .CK(c)"),
-                    "top.sdc": CLOCK.splitlines()[0] + "\nset_clock_transition 12 clk\n"})
+        self.write(
+            {
+                "top.v": NETLIST.replace("wire n1", "wire c, n1").replace(
+                    " DFF r1 (.D(d[0]), .CK(clk)", " BUF cb (.A(clk), .Z(c));\n DFF r1 (.D(d[0]), .CK(c)"
+                ),
+                "top.sdc": CLOCK.splitlines()[0] + "\nset_clock_transition 12 clk\n",
+            }
+        )
         self.assertEqual(self.run_import(), (0, ""))
         self.assertIn("set_input_transition 12 [get_ports {clk}]", self.made("constraints.sdc"))
         cell = self.made("late.lib").partition('cell ("BUF__1")')[2]
@@ -182,35 +304,75 @@ class Timing(Constraints):
         self.assertIn('rise_transition (scalar) { values ("12"); }', cell)
 
     def test_a_driving_cell_by_its_table(self):
-        # BUF at the port of e: the load is 1 fF of core/r3:D, so the slew is 5 + 20 * 1 / 10 = 7 ps, and the delay 12 - 10 = 2 ps more than without a load.
+        # BUF at the port of e: the load is 1 fF of core/r3:D, so the slew is 5 + 20 * 1 / 10 = 7 ps, and the delay 12 -
+        # 10 = 2 ps more than without a load.
         lines = self.sdc_lines("set_input_delay 20 -clock clk e\nset_driving_cell -lib_cell BUF e\n")
-        self.assertEqual(lines, ["set_input_transition 7 [get_ports {e}]", "set_input_delay -clock clk 22 [get_ports {e}]"])
+        self.assertEqual(
+            lines, ["set_input_transition 7 [get_ports {e}]", "set_input_delay -clock clk 22 [get_ports {e}]"]
+        )
 
     def test_what_changes_slacks_is_refused(self):
-        for text, kind in (("create_generated_clock -name g -source clk -divide_by 2 [get_pins r1/Q]", "create_generated_clock"), ("set_max_delay 3 -from e", "set_max_delay"),
-                           ("set_min_delay 1 -to q", "set_min_delay"), ("set_false_path -through [get_pins g1/A]", "set_false_path-through"), ("set_false_path -rise_from clk", "set_false_path-rise_from"),
-                           ("set_multicycle_path 2 -fall_to q", "set_multicycle_path-fall_to"), ("create_clock -name c2 -period 9 [get_pins g1/Z]", "clock-target"),
-                           ("create_clock -name c2 -period 90 -add [get_ports clk]", "two-clocks"), ("create_clock -name c2 -period 90 {e d[0]}", "clock-target"),
-                           ("set_input_delay 3 e", "no-clock"), ("set_input_delay 3 -clock clk -clock_fall e", "set_input_delay-clock_fall"), ("set_load 3 [get_nets n1]", "set_load-net"),
-                           ("set_timing_derate -late 1.1 [get_cells g1]", "derate-objects"), ("set_timing_derate -late 1.1 -clock", "set_timing_derate-clock"), ("set_ideal_network n1", "set_ideal_network"),
-                           ("set_sense -stop_propagation -clocks clk g1/Z", "set_sense"), ("set_disable_timing [get_pins r1/D]", "disable-end"), ("set_annotated_delay -net 3", "set_annotated_delay"),
-                           ("no_such_command 1", "unknown-command"), ("current_design other", "current-design"), ("set_case_analysis rising e", "case-edge"),
-                           ("set_operating_conditions -analysis_type single", "analysis-type"), ("set_data_check -from r1/D -to r1/D 1", "set_data_check"), ("set_false_path -from [get_ports clk]", "from-clock-port"),
-                           ("set_driving_cell -lib_cell DFF e", "driving-cell"), ("create_clock -name c2 -period 90 -waveform {0 10 20 30}", "waveform"),
-                           ("set_clock_latency -source 3 clk; create_clock -period 100 -name c2 e", "latency")):
+        for text, kind in (
+            ("create_generated_clock -name g -source clk -divide_by 2 [get_pins r1/Q]", "create_generated_clock"),
+            ("set_max_delay 3 -from e", "set_max_delay"),
+            ("set_min_delay 1 -to q", "set_min_delay"),
+            ("set_false_path -through [get_pins g1/A]", "set_false_path-through"),
+            ("set_false_path -rise_from clk", "set_false_path-rise_from"),
+            ("set_multicycle_path 2 -fall_to q", "set_multicycle_path-fall_to"),
+            ("create_clock -name c2 -period 9 [get_pins g1/Z]", "clock-target"),
+            ("create_clock -name c2 -period 90 -add [get_ports clk]", "two-clocks"),
+            ("create_clock -name c2 -period 90 {e d[0]}", "clock-target"),
+            ("set_input_delay 3 e", "no-clock"),
+            ("set_input_delay 3 -clock clk -clock_fall e", "set_input_delay-clock_fall"),
+            ("set_load 3 [get_nets n1]", "set_load-net"),
+            ("set_timing_derate -late 1.1 [get_cells g1]", "derate-objects"),
+            ("set_timing_derate -late 1.1 -clock", "set_timing_derate-clock"),
+            ("set_ideal_network n1", "set_ideal_network"),
+            ("set_sense -stop_propagation -clocks clk g1/Z", "set_sense"),
+            ("set_disable_timing [get_pins r1/D]", "disable-end"),
+            ("set_annotated_delay -net 3", "set_annotated_delay"),
+            ("no_such_command 1", "unknown-command"),
+            ("current_design other", "current-design"),
+            ("set_case_analysis rising e", "case-edge"),
+            ("set_operating_conditions -analysis_type single", "analysis-type"),
+            ("set_data_check -from r1/D -to r1/D 1", "set_data_check"),
+            ("set_false_path -from [get_ports clk]", "from-clock-port"),
+            ("set_driving_cell -lib_cell DFF e", "driving-cell"),
+            ("create_clock -name c2 -period 90 -waveform {0 10 20 30}", "waveform"),
+            ("set_clock_latency -source 3 clk; create_clock -period 100 -name c2 e", "latency"),
+        ):
             with self.subTest(text):
                 self.assertIn(f"import: top.sdc:3: {kind}: ", self.refusal(text + "\n"))
 
     def test_what_changes_no_slack_is_listed(self):
-        for text in ("set_max_fanout 3 [current_design]", "group_path -name g -to q", "set_dont_touch [get_cells g1]", "set_max_area 0", "set_wire_load_mode top", "set_operating_conditions typical"):
+        for text in (
+            "set_max_fanout 3 [current_design]",
+            "group_path -name g -to q",
+            "set_dont_touch [get_cells g1]",
+            "set_max_area 0",
+            "set_wire_load_mode top",
+            "set_operating_conditions typical",
+        ):
             self.assertEqual(self.sdc_lines(text + "\n"), [], text)
             self.assertEqual([it["line"] for it in self.report()["left_out_without_effect"]], [3], text)
 
     @common.needs_program
     def test_the_program_reads_what_is_written(self):
-        self.sdc_lines(VIRTUAL + "set_clock_uncertainty 3 [all_clocks]\nset_input_delay 10 -clock io [get_ports {d e}]\nset_output_delay -clock clk 9 [all_outputs]\nset_load 3 [all_outputs]\n"
-                       "set_timing_derate -early 0.9\nset_input_transition 4 [all_inputs]\nset_false_path -hold -from r1 -to core/r2\nset_multicycle_path 2 -to core/r3/D\nset_case_analysis 0 d[2]\n")
+        self.sdc_lines(
+            VIRTUAL + "set_clock_uncertainty 3 [all_clocks]\nset_input_delay 10 -clock io [get_ports {d e}]\n"
+            "set_output_delay -clock clk 9 [all_outputs]\nset_load 3 [all_outputs]\n"
+            "set_timing_derate -early 0.9\nset_input_transition 4 [all_inputs]\nset_false_path -hold -from r1 -to "
+            "core/r2\nset_multicycle_path 2 -to core/r3/D\nset_case_analysis 0 d[2]\n"
+        )
         self.write({"s.eco": "report_wns setup\n"})
-        status, out, errors = common.run(common.TOP / "lizdrog", "--program", common.PROGRAM, "run", "p.import/lizdrog.toml", "s.eco", cwd=self.folder)
+        status, out, errors = common.run(
+            common.TOP / "lizdrog",
+            "--program",
+            common.PROGRAM,
+            "run",
+            "p.import/lizdrog.toml",
+            "s.eco",
+            cwd=self.folder,
+        )
         self.assertEqual((status, errors), (0, ""))
         self.assertIn("1 0 wns ", out)

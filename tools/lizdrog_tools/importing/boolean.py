@@ -96,7 +96,8 @@ class Function:
         return seen.pop()
 
     def senses(self, name: str, known: dict[str, Value]) -> set[str]:
-        """How the value may follow an input under what is known of the others: `positive`, `negative`, both, or neither."""
+        """How the value may follow an input under what is known of the others: `positive`, `negative`, both, or
+        neither."""
         free = [it for it in self.free(known) if it != name]
         if len(free) > MOST_INPUTS:
             return {"positive", "negative"}

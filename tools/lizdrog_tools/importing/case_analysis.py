@@ -77,7 +77,8 @@ class Carrier:
 
 
 def express_cases(constraints: Constraints, design: Design, variants: Variants, report: Report) -> None:
-    """Constants of ports and pins, with those that the netlist ties; each gate that has one gets a cell without the dead arcs."""
+    """Constants of ports and pins, with those that the netlist ties; each gate that has one gets a cell without the
+    dead arcs."""
     carrier = Carrier(design)
     carrier.tied()
     tied = {name: set(pins) for name, pins in carrier.pins.items()}
@@ -133,7 +134,8 @@ def express_disabled(constraints: Constraints, design: Design, variants: Variant
             report.lose(
                 "disable-end",
                 item.place,
-                f"set_disable_timing of the {made.kind.replace('_', ' ')} {made.name}: timers differ in what becomes of its tests; "
+                f"set_disable_timing of the {made.kind.replace('_', ' ')} {made.name}: timers differ in what becomes "
+                "of its tests; "
                 "the pins of gates, instances, input ports without a clock and library cells are read",
             )
             continue

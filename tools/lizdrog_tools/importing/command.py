@@ -23,7 +23,7 @@ from lizdrog_tools.importing.liberty_merge import (
 )
 from lizdrog_tools.importing.netlist import Netlist
 from lizdrog_tools.importing.project import Project, read_project
-from lizdrog_tools.importing.report import Place, Report, write_report
+from lizdrog_tools.importing.report import SHOWN, Place, Remark, Report, write_report
 from lizdrog_tools.importing.resolve import resolve
 from lizdrog_tools.importing.run_sdc import run_constraints
 from lizdrog_tools.importing.sanity import check_all
@@ -40,9 +40,10 @@ SPEF, REPORT = "parasitics.spef", "import.json"
 WORD = re.compile(r"\\\S+|[A-Za-z_][\w$]*")
 HELP = """Brings a design as tools write it to what Lizdrog reads: import [-o FOLDER] PROJECT.toml
 
-PROJECT.toml names libraries, netlist, constraints and parasitics (docs/IMPORT.md). FOLDER gets early.lib, late.lib, netlist.v,
-constraints.sdc, parasitics.spef, lizdrog.toml, and import.txt and import.json with all that was changed and left out.
-Status: 0 all is expressed, 1 what the project accepts is left out, 2 an input is wrong, or slacks would change: nothing is written.
+PROJECT.toml names libraries, netlist, constraints and parasitics (docs/IMPORT.md). FOLDER gets early.lib, late.lib,
+netlist.v, constraints.sdc, parasitics.spef, lizdrog.toml, and import.txt and import.json with all that was changed and
+left out. Status: 0 all is expressed, 1 what the project accepts is left out, 2 an input is wrong, or slacks would
+change: nothing is written.
 """
 
 
@@ -134,7 +135,8 @@ class Import:
         }
 
     def express(self, constraints: Constraints, design: Design, wires: Merger | None) -> None:
-        """What needs the cells and the wires: constants, cut arcs, driving cells, ideal clocks; then what the constraints say by themselves."""
+        """What needs the cells and the wires: constants, cut arcs, driving cells, ideal clocks; then what the
+        constraints say by themselves."""
         cut = Variants(design, self.early, self.late)
         express_cases(constraints, design, cut, self.report)
         express_disabled(constraints, design, cut, self.report)
@@ -168,9 +170,7 @@ def write_folder(folder: pathlib.Path, texts: dict[str, str], report: Report, fa
         part = pathlib.Path(name)
         for file, text in texts.items():
             (part / file).write_text(text, encoding="latin-1")
-        (part / "lizdrog.toml").write_text(
-            RUN_FILE.format(spef=SPEF if SPEF in texts else "none")
-        )
+        (part / "lizdrog.toml").write_text(RUN_FILE.format(spef=SPEF if SPEF in texts else "none"))
         write_report(report, part, facts)
         folder.mkdir(exist_ok=True)
         (folder / SPEF).unlink(missing_ok=True)
@@ -179,25 +179,36 @@ def write_folder(folder: pathlib.Path, texts: dict[str, str], report: Report, fa
 
 
 def refuse(report: Report) -> int:
-    """Says what cannot be expressed, and how it may be accepted."""
+    """Says what cannot be expressed, the first of each kind, and how it may be accepted."""
+    kinds: dict[str, list[Remark]] = {}
     for remark in report.refused:
-        print(f"import: {remark}", file=sys.stderr)
-    kinds = ", ".join(f'"{it}"' for it in dict.fromkeys(it.kind for it in report.refused))
+        kinds.setdefault(remark.kind, []).append(remark)
+    for kind, alike in kinds.items():
+        for remark in alike[:SHOWN]:
+            print(f"import: {remark}", file=sys.stderr)
+        if len(alike) > SHOWN:
+            print(f"import: .. and {len(alike) - SHOWN} more of {kind}", file=sys.stderr)
+    words = ", ".join(f'"{it}"' for it in kinds)
     print(
         f"import: {len(report.refused)} things would change slacks and cannot be expressed; nothing is written. "
-        f"Where you can do without them, write accept = [{kinds}] into the project",
+        f"Where you can do without them, write accept = [{words}] into the project",
         file=sys.stderr,
     )
-    return 2
+    return report.status()
 
 
 def import_project(words: list[str]) -> int:
     """Imports the project that the words name; gives the status."""
     parser = argparse.ArgumentParser(
-        prog="lizdrog import", usage=argparse.SUPPRESS, description=HELP, formatter_class=argparse.RawDescriptionHelpFormatter
+        prog="lizdrog import",
+        usage=argparse.SUPPRESS,
+        description=HELP,
+        formatter_class=argparse.RawDescriptionHelpFormatter,
     )
     parser.add_argument("project", metavar="PROJECT.toml")
-    parser.add_argument("-o", "--output", metavar="FOLDER", help="the folder that is written, PROJECT.import where none is named")
+    parser.add_argument(
+        "-o", "--output", metavar="FOLDER", help="the folder that is written, PROJECT.import where none is named"
+    )
     given = parser.parse_args(words)
     decimal.getcontext().prec = DIGITS
     project = read_project(given.project)

@@ -15,7 +15,8 @@ ESCAPED = re.compile(r"\\(.)")
 
 @dataclasses.dataclass(frozen=True, slots=True)
 class Object:
-    """An object by its kind and its name: port, cell, pin, net, clock, block, block_pin, lib, lib_cell, lib_pin or design."""
+    """An object by its kind and its name: port, cell, pin, net, clock, block, block_pin, lib, lib_cell, lib_pin or
+    design."""
 
     kind: str
     name: str
@@ -32,7 +33,8 @@ class Search:
 
 
 def translated(pattern: str) -> str:
-    """A pattern as a regular expression over keys: wildcards stay on one level of hierarchy, and a slash is a slash or a level."""
+    """A pattern as a regular expression over keys: wildcards stay on one level of hierarchy, and a slash is a slash or
+    a level."""
     said, at = [], 0
     while at < len(pattern):
         letter = pattern[at]
@@ -353,7 +355,8 @@ class Design:
 
 @dataclasses.dataclass(slots=True)
 class Reached:
-    """What a clock reaches: pins by name, the instances with the pins at which it passes them, and ends that are no clock pins."""
+    """What a clock reaches: pins by name, the instances with the pins at which it passes them, and ends that are no
+    clock pins."""
 
     pins: set[str] = dataclasses.field(default_factory=set)
     passed: dict[str, set[str]] = dataclasses.field(default_factory=dict)

@@ -72,7 +72,8 @@ def as_decimal(value: Fraction) -> Decimal:
 def express_drives(
     constraints: Constraints, design: Design, sides: tuple[LibrarySet, LibrarySet], wires: Merger | None, report: Report
 ) -> None:
-    """Each driven port gets the slew of its driver, and its input delays the delay that the load adds to the driver, as a delay of the net."""
+    """Each driven port gets the slew of its driver, and its input delays the delay that the load adds to the driver, as
+    a delay of the net."""
     clock_ports = {it.port: it for it in constraints.clocks.values() if it.port}
     for port, drive in constraints.drives.items():
         for split, cells in zip(SPLITS, sides, strict=True):

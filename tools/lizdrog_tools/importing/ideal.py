@@ -18,14 +18,16 @@ def express_ideal(
             report.lose(
                 "ideal-data",
                 clock.place,
-                f"the ideal clock {clock.name} is data at {', '.join(reached.data[:SHOWN])}: a propagated clock is read",
+                f"the ideal clock {clock.name} is data at {', '.join(reached.data[:SHOWN])}: a propagated clock is "
+                "read",
             )
             continue
         shorten(clock, constraints, design, variants, wires, reached)
         report.change(
             "ideal-clock",
             clock.place,
-            f"the clock {clock.name} is ideal: {len(reached.passed)} gates of its network have cells without delay, and its nets no wires",
+            f"the clock {clock.name} is ideal: {len(reached.passed)} gates of its network have cells without delay, "
+            "and its nets no wires",
         )
     for clock in (it for it in constraints.clocks.values() if it.port and it.is_propagated and it.transition):
         report.drop(

@@ -2,7 +2,7 @@
 import dataclasses
 import fractions
 import re
-from collections.abc import Iterator
+from collections.abc import Callable, Iterator
 from decimal import Decimal, InvalidOperation
 
 from lizdrog_tools.files import InputFault
@@ -213,6 +213,7 @@ class CellReader:
         self.buses: dict[str, list[str]] = {}
         self.pin_groups: list[tuple[str, Group, list[str]]] = []
         self.internal: set[str] = set()
+        self.uneven: dict[str, int] = {}
 
     def place(self, line: int) -> Place:
         return Place(self.frame.file, line)
@@ -237,6 +238,7 @@ class CellReader:
         for name, group, bits in self.pin_groups:
             for timing in group.named("timing"):
                 self.timing(name, bits, timing)
+        self.lose_uneven()
         return self.cell
 
     def bus(self, group: Group) -> None:
@@ -288,45 +290,40 @@ class CellReader:
             return
         if way not in ("input", "output", "inout"):
             raise InputFault(self.frame.file, line, f"the pin {name} of {self.cell.name} has the direction {way}")
-        if way == "inout" or ":" in name:
-            self.cell.misfit = (
-                f"its pin {name} is an inout" if way == "inout" else f"its pin {name} has a colon in its name"
-            )
-        load = said("capacitance")
-        load = self.frame.defaults[way] if load is None else load
-        made = Pin(
-            name,
-            way,
-            as_decimal(load or "0", self.frame.file, line, f"the capacitance of {name}") * self.frame.load,
-            said("function"),
-        )
-        self.capacitances(name, made.capacitance, said, line)
-        for word, scale in (
-            ("max_capacitance", self.frame.load),
-            ("max_transition", self.frame.time),
-            ("max_fanout", Decimal(1)),
-        ):
-            if said(word) is not None:
-                made.limits[word] = as_decimal(said(word), self.frame.file, line, word) * scale
-        made.is_clock = said("clock") == "true"
         if name in self.cell.pins:
             raise InputFault(self.frame.file, line, f"the pin {name} is there twice in the cell {self.cell.name}")
-        self.cell.pins[name] = made
+        if way == "inout" or ":" in name:
+            self.cell.misfit = f"its pin {name} {'is an inout' if way == 'inout' else 'has a colon in its name'}"
+        self.cell.pins[name] = self.made_pin(name, way, said, line)
         if group is not None:
             self.pin_groups.append((name, group, bits))
 
-    def capacitances(self, name: str, load: Decimal, said, line: int) -> None:
+    def made_pin(self, name: str, way: str, said: Callable[[str], str | None], line: int) -> Pin:
+        """A pin by what its group says of it: its capacitance, its function, its limits."""
+        load = said("capacitance") or self.frame.defaults[way] or "0"
+        load = as_decimal(load, self.frame.file, line, f"the capacitance of {name}") * self.frame.load
+        made = Pin(name, way, load, said("function"), is_clock=said("clock") == "true")
+        self.capacitances(name, load, said, line)
+        units = {"max_capacitance": self.frame.load, "max_transition": self.frame.time, "max_fanout": Decimal(1)}
+        for word, unit in units.items():
+            if said(word) is not None:
+                made.limits[word] = as_decimal(said(word), self.frame.file, line, word) * unit
+        return made
+
+    def capacitances(self, name: str, load: Decimal, said: Callable[[str], str | None], line: int) -> None:
+        """Notes a pin whose loads of its edges are other than its capacitance."""
         for edge in ("rise", "fall"):
-            text = said(f"{edge}_capacitance")
-            if (
-                text is not None
-                and as_decimal(text, self.frame.file, line, f"{edge}_capacitance") * self.frame.load != load
-            ):
-                self.lose(
-                    "pin-capacitance",
-                    line,
-                    f"pin {name} has a {edge}_capacitance other than its capacitance, which alone is read",
-                )
+            word = f"{edge}_capacitance"
+            text = said(word)
+            if text is not None and as_decimal(text, self.frame.file, line, word) * self.frame.load != load:
+                self.uneven.setdefault(name, line)
+
+    def lose_uneven(self) -> None:
+        """Tells of the pins whose edges have loads of their own."""
+        if self.uneven:
+            names = ", ".join(self.uneven)
+            text = f"rise_capacitance or fall_capacitance of {names} differ from the capacitance, which alone is read"
+            self.lose("pin-capacitance", next(iter(self.uneven.values())), text)
 
     def related(self, group: Group, bits: list[str]) -> list[tuple[list[str], list[str]]]:
         """Pairs of related pins and pins: bit by bit where both are buses of one width, else each to each."""

@@ -214,7 +214,9 @@ def unclosed(text: str, file: str) -> InputFault:
                     (f"{it.name} ({', '.join(it.args)})", line_of(text, it.brace)) for it in (opened[1], opened[-1])
                 )
                 return InputFault(
-                    file, line, f"{other} begins inside the group {one} of line {outer}: a closing bracket is missing before it"
+                    file,
+                    line,
+                    f"{other} begins inside the group {one} of line {outer}: a closing bracket is missing before it",
                 )
     return InputFault(file, None, f"{len(opened)} closing brackets are missing at the end of the library")
 
@@ -227,7 +229,8 @@ def check_end(text: str, end: int, file: str) -> None:
         raise InputFault(
             file,
             line,
-            "the library ends before this line: a closing bracket too many, or a second library, which is a file of its own",
+            "the library ends before this line: a closing bracket too many, or a second library, which is a file of "
+            "its own",
         )
 
 

@@ -42,24 +42,31 @@ class Report:
         self.accepted: list[Remark] = []
         self.refused: list[Remark] = []
         self.used: set[str] = set()
+        self.seen: set[tuple[str, Remark]] = set()
+
+    def add(self, part: str, remarks: list[Remark], remark: Remark) -> None:
+        """Adds a remark once: a library may be read for both sides."""
+        if (part, remark) not in self.seen:
+            self.seen.add((part, remark))
+            remarks.append(remark)
 
     def change(self, kind: str, place: Place, text: str) -> None:
         """Something is expressed in another way, with the same slacks."""
-        self.changes.append(Remark(kind, place, text))
+        self.add("changed", self.changes, Remark(kind, place, text))
 
     def drop(self, kind: str, place: Place, text: str) -> None:
         """Something has no counterpart, and no slack rests on it."""
-        self.harmless.append(Remark(kind, place, text))
+        self.add("left out", self.harmless, Remark(kind, place, text))
 
     def lose(self, kind: str, place: Place, text: str) -> None:
         """Something has no counterpart, and slacks would change; an error unless the project accepts it."""
         remark = Remark(kind, place, text)
         word = next((it for it in self.accept if it in (kind, f"{kind} {place}", f"{kind} {place.file}")), None)
         if word is None:
-            self.refused.append(remark)
+            self.add("refused", self.refused, remark)
         else:
             self.used.add(word)
-            self.accepted.append(remark)
+            self.add("accepted", self.accepted, remark)
 
     def unused(self) -> list[str]:
         """The words of `accept` that met nothing."""

@@ -1,4 +1,5 @@
-"""Expresses by the constraints that Lizdrog reads what others say: clock groups, latencies, delays of several clocks, orders of exceptions."""
+"""Expresses by the constraints that Lizdrog reads what others say: clock groups, latencies, delays of several clocks,
+orders of exceptions."""
 from decimal import Decimal
 
 from lizdrog_tools.importing.constraints import (
@@ -19,7 +20,8 @@ OTHER_SPLIT = {"early": "late", "late": "early"}
 
 
 def expand_groups(constraints: Constraints, report: Report) -> None:
-    """Clock groups are false paths, both ways, between the clocks of each two groups; a group alone is cut from all other clocks."""
+    """Clock groups are false paths, both ways, between the clocks of each two groups; a group alone is cut from all
+    other clocks."""
     for item in constraints.groups:
         groups = [list(it) for it in item.groups]
         if len(groups) == 1:
@@ -57,7 +59,8 @@ def common_latency(constraints: Constraints, report: Report) -> Decimal:
                 report.lose(
                     "latency",
                     clock.ideal_places[-1] if clock.ideal_places else clock.place,
-                    f"the clock {clock.name} has a latency of {value} ps ({' '.join(corner)}), and another of {common} ps: one latency of all clocks is read",
+                    f"the clock {clock.name} has a latency of {value} ps ({' '.join(corner)}), and another of "
+                    f"{common} ps: one latency of all clocks is read",
                 )
                 return common
     return common or Decimal(0)
@@ -145,7 +148,8 @@ def between_clocks(constraints: Constraints, report: Report) -> None:
                 report.lose(
                     "uncertainty",
                     place,
-                    f"the {kind} uncertainty towards {clock.name} differs by the launching clock: one of the clock alone is read",
+                    f"the {kind} uncertainty towards {clock.name} differs by the launching clock: one of the clock "
+                    "alone is read",
                 )
 
 
@@ -160,7 +164,8 @@ def all_parts(end: PathEnd) -> list[tuple[str, list[str]]]:
 
 
 def order_multicycles(constraints: Constraints, report: Report) -> None:
-    """The last multicycle that matches a path counts: general ones are written first, and of equal rank the tighter last."""
+    """The last multicycle that matches a path counts: general ones are written first, and of equal rank the tighter
+    last."""
     cycles: list[PathException] = []
     for made in constraints.exceptions:
         if made.cycles is None:

@@ -14,15 +14,20 @@ from lizdrog_tools.importing.session import Session
 from lizdrog_tools.importing.tcl import CommandFault, NoTcl, find_tcl
 
 # Commands without an effect on slacks: limits, wishes of synthesis, power, settings and printing of tools.
-WITHOUT_EFFECT = """group_path set_max_area set_max_fanout set_max_transition set_max_capacitance set_min_capacitance set_min_fanout set_min_transition
- set_fanout_load set_dont_touch set_dont_touch_network set_dont_use set_size_only set_max_dynamic_power set_max_leakage_power set_min_pulse_width
- set_clock_gating_check set_clock_gating_style set_voltage create_voltage_area set_level_shifter_strategy set_level_shifter_threshold set_cost_priority
- set_critical_range set_fix_hold set_fix_multiple_port_nets set_auto_disable_drc_nets set_isolate_ports set_ungroup set_boundary_optimization
- set_app_var set_app_options suppress_message unsuppress_message set_message_info set_host_options define_user_attribute set_user_attribute set_attribute
- set_svf set_switching_activity set_verification_top set_register_merging set_prefer set_target_library_subset set_cell_internal_power set_default_switching_activity
- define_proc_attributes parse_proc_arguments echo printvar date update_timing check_timing check_design report_clocks report_clock report_timing
- report_constraint report_port report_checks report_exceptions write_sdc set_debug_level set_units_display define_corners set_cmd_units
- set_propagated_clock_network set_layer_rc set_wire_rc set_placement_padding""".split()
+WITHOUT_EFFECT = """
+    check_design check_timing create_voltage_area date define_corners define_proc_attributes define_user_attribute
+    echo group_path parse_proc_arguments printvar report_checks report_clock report_clocks report_constraint
+    report_exceptions report_port report_timing set_app_options set_app_var set_attribute set_auto_disable_drc_nets
+    set_boundary_optimization set_cell_internal_power set_clock_gating_check set_clock_gating_style set_cmd_units
+    set_cost_priority set_critical_range set_debug_level set_default_switching_activity set_dont_touch
+    set_dont_touch_network set_dont_use set_fanout_load set_fix_hold set_fix_multiple_port_nets set_host_options
+    set_isolate_ports set_layer_rc set_level_shifter_strategy set_level_shifter_threshold set_max_area
+    set_max_capacitance set_max_dynamic_power set_max_fanout set_max_leakage_power set_max_transition
+    set_message_info set_min_capacitance set_min_fanout set_min_pulse_width set_min_transition set_placement_padding
+    set_prefer set_propagated_clock_network set_register_merging set_size_only set_svf set_switching_activity
+    set_target_library_subset set_ungroup set_units_display set_user_attribute set_verification_top set_voltage
+    set_wire_rc suppress_message unsuppress_message update_timing write_sdc
+""".split()
 # Commands that change slacks and have no counterpart.
 LOST = {
     "create_generated_clock": "registers clocked by it have no clock, and their endpoints are not tested",
@@ -166,14 +171,16 @@ class Runner:
         if kind not in (None, "on_chip_variation"):
             self.session.lose(
                 "analysis-type",
-                f"set_operating_conditions -analysis_type {kind}: setup and hold are tested with early against late delays",
+                f"set_operating_conditions -analysis_type {kind}: setup and hold are tested with early against late "
+                "delays",
             )
         names = [*said.plain, *said.values.get("-max", []), *said.values.get("-min", [])]
         for name in names:
             if any(scales(it.library.frame) for it in self.session.design.cells.frames):
                 self.session.lose(
                     "operating-conditions",
-                    f"set_operating_conditions {name}: the library's factors of voltage and temperature are not applied",
+                    f"set_operating_conditions {name}: the library's factors of voltage and temperature are not "
+                    "applied",
                 )
             else:
                 self.session.drop(

@@ -1,4 +1,5 @@
-"""What is hardly meant although it can be read: libraries exchanged, units wrong by a thousand, no clock, nets without wires."""
+"""What is hardly meant although it can be read: libraries exchanged, units wrong by a thousand, no clock, nets without
+wires."""
 from collections.abc import Iterator
 from decimal import Decimal
 from fractions import Fraction
@@ -10,7 +11,8 @@ from lizdrog_tools.importing.liberty_model import Cell, Table
 from lizdrog_tools.importing.report import Place, Report
 from lizdrog_tools.importing.spef_merge import Merger
 
-# A period of fewer gates than this, or of more, is one in another unit; so is a slew or a load so far beyond the tables.
+# A period of fewer gates than this, or of more, is one in another unit; so is a slew or a load so far beyond the
+# tables.
 FEWEST_GATES, MOST_GATES = 1, 100_000
 FAR_BEYOND = 30
 SHOWN = 5
@@ -41,7 +43,12 @@ def check_order(names: list[str], early: LibrarySet, late: LibrarySet, report: R
                 faster += middle(table) < others[key]
     if slower > faster:
         file = early.frames[0].file
-        report.lose("early-late", Place(file), f"{slower} arcs are slower here than in the late library {late.frames[0].file}, and {faster} faster: are the two exchanged?")
+        report.lose(
+            "early-late",
+            Place(file),
+            f"{slower} arcs are slower here than in the late library {late.frames[0].file}, and {faster} faster: are "
+            "the two exchanged?",
+        )
 
 
 def check_periods(names: list[str], constraints: Constraints, late: LibrarySet, report: Report) -> None:
@@ -52,7 +59,12 @@ def check_periods(names: list[str], constraints: Constraints, late: LibrarySet, 
     gate = gates[len(gates) // 2]
     for clock in constraints.clocks.values():
         if not FEWEST_GATES * gate <= Fraction(clock.period) <= MOST_GATES * gate:
-            report.lose("period", clock.place, f"the clock {clock.name} has a period of {clock.period.normalize():f} ps, where a gate takes {float(gate):.3g} ps: is the unit right?")
+            report.lose(
+                "period",
+                clock.place,
+                f"the clock {clock.name} has a period of {clock.period.normalize():f} ps, where a gate takes "
+                f"{float(gate):.3g} ps: is the unit right?",
+            )
 
 
 def last_entries(names: list[str], cells: LibrarySet) -> dict[str, Fraction]:
@@ -68,10 +80,19 @@ def last_entries(names: list[str], cells: LibrarySet) -> dict[str, Fraction]:
 def check_ports(constraints: Constraints, last: dict[str, Fraction], report: Report, place: Place) -> None:
     """Slews and loads of ports far beyond all tables."""
     for word, table, unit in (("slew", constraints.slews, "ps"), ("load", constraints.loads, "fF")):
-        far = {port: max(values.values()) for port, values in table.items() if max(values.values(), default=Decimal(0)) > FAR_BEYOND * last[word] > 0}
+        far = {
+            port: max(values.values())
+            for port, values in table.items()
+            if max(values.values(), default=Decimal(0)) > FAR_BEYOND * last[word] > 0
+        }
         if far:
             port, value = next(iter(far.items()))
-            report.lose(word, place, f"{len(far)} ports such as {port} have a {word} of {value.normalize():f} {unit}, and the tables end at {float(last[word]):.3g}: is the unit right?")
+            report.lose(
+                word,
+                place,
+                f"{len(far)} ports such as {port} have a {word} of {value.normalize():f} {unit}, and the tables end "
+                f"at {float(last[word]):.3g}: is the unit right?",
+            )
 
 
 def check_wires(wires: Merger | None, design: Design, last: dict[str, Fraction], report: Report) -> None:
@@ -81,30 +102,62 @@ def check_wires(wires: Merger | None, design: Design, last: dict[str, Fraction],
     driven = [net for net, ends in design.ends.items() if ends.drivers and ends.sinks]
     far = [net for net, it in wires.nets.items() if it.load() > FAR_BEYOND * last["load"] > 0]
     if Fraction(len(far)) > MOST_OF * len(wires.nets):
-        report.lose("wire-load", wires.nets[far[0]].place, f"{len(far)} nets such as {far[0]} have {float(wires.nets[far[0]].load()):.3g} fF, and the tables end at "
-                    f"{float(last['load']):.3g} fF: is the unit right?")
+        report.lose(
+            "wire-load",
+            wires.nets[far[0]].place,
+            f"{len(far)} nets such as {far[0]} have {float(wires.nets[far[0]].load()):.3g} fF, and the tables end at "
+            f"{float(last['load']):.3g} fF: is the unit right?",
+        )
     bare = [net for net in driven if net not in wires.nets]
     if bare:
-        report.drop("no-wires", Place(wires.files[0]), f"{len(bare)} of {len(driven)} driven nets have no parasitics here, such as {', '.join(bare[:SHOWN])}")
+        report.drop(
+            "no-wires",
+            Place(wires.files[0]),
+            f"{len(bare)} of {len(driven)} driven nets have no parasitics here, such as {', '.join(bare[:SHOWN])}",
+        )
 
 
 def check_wire_loads(constraints: Constraints, wires: Merger | None, design: Design, report: Report) -> None:
     """Wire load models matter where nets have no parasitics."""
-    bare = [net for net, ends in design.ends.items() if ends.drivers and ends.sinks and (wires is None or net not in wires.nets)]
+    bare = [
+        net
+        for net, ends in design.ends.items()
+        if ends.drivers and ends.sinks and (wires is None or net not in wires.nets)
+    ]
     models = [frame for frame in design.cells.frames if any(it.name == "wire_load" for it in frame.library.parts)]
     for place, text in constraints.wire_loads:
         if bare and models:
-            report.lose("wire-load-model", place, f"{text}: {len(bare)} nets have no parasitics, and the model's capacitance is not added")
+            report.lose(
+                "wire-load-model",
+                place,
+                f"{text}: {len(bare)} nets have no parasitics, and the model's capacitance is not added",
+            )
         else:
-            report.drop("wire-load-model", place, f"{text}: {'all nets have parasitics' if models else 'no library has a model'}")
+            report.drop(
+                "wire-load-model",
+                place,
+                f"{text}: {'all nets have parasitics' if models else 'no library has a model'}",
+            )
     for frame in models:
         name = frame.library.frame.text("default_wire_load")
         if bare and name and not constraints.wire_loads:
-            report.lose("wire-load-model", Place(frame.file, frame.line("default_wire_load") or 0), f"default_wire_load {name}: {len(bare)} nets have no parasitics, "
-                        "and the model's capacitance is not added")
+            report.lose(
+                "wire-load-model",
+                Place(frame.file, frame.line("default_wire_load") or 0),
+                f"default_wire_load {name}: {len(bare)} nets have no parasitics, "
+                "and the model's capacitance is not added",
+            )
 
 
-def check_all(names: list[str], sides: tuple[LibrarySet, LibrarySet], constraints: Constraints, wires: Merger | None, design: Design, report: Report, place: Place) -> None:
+def check_all(
+    names: list[str],
+    sides: tuple[LibrarySet, LibrarySet],
+    constraints: Constraints,
+    wires: Merger | None,
+    design: Design,
+    report: Report,
+    place: Place,
+) -> None:
     """All of these; a project accepts what is meant."""
     early, late = sides
     if [it.file for it in early.frames] != [it.file for it in late.frames]:

@@ -44,6 +44,16 @@ PATH_OPTIONS = {
     "-end": 0,
 }
 EDGED = ("-rise", "-fall", "-rise_from", "-fall_from", "-rise_to", "-fall_to", "-rise_through", "-fall_through")
+DELAY_OPTIONS = {
+    **EDGE_OPTIONS,
+    "-clock": 1,
+    "-add_delay": 0,
+    "-clock_fall": 0,
+    "-level_sensitive": 0,
+    "-reference_pin": 1,
+    "-source_latency_included": 0,
+    "-network_latency_included": 0,
+}
 END_KINDS = ("clock", "port", "pin", "cell")
 
 
@@ -164,8 +174,7 @@ class TimingCommands:
         targets = [it for word in said.plain for it in self.session.objects(word, ("port", "pin", "net", "block_pin"))]
         if any(it.kind != "port" for it in targets) or len(targets) > 1:
             self.session.lose(
-                "clock-target",
-                f"a clock at {', '.join(it.name for it in targets[:4])}: a clock has one port, or none",
+                "clock-target", f"a clock at {', '.join(it.name for it in targets[:4])}: a clock has one port, or none"
             )
             return
         if said.plain and not targets:
@@ -184,7 +193,8 @@ class TimingCommands:
         if len(edges) != 2 or not 0 <= edges[0] < edges[1] < edges[0] + period:
             self.session.lose(
                 "waveform",
-                f"the waveform {said.value('-waveform')} of {name}: one rise and then one fall within a period are read",
+                f"the waveform {said.value('-waveform')} of {name}: one rise and then one fall within a period are "
+                "read",
             )
             return
         self.add_clock(Clock(name, port, period, edges[0], edges[1], self.session.place), said.has("-add"))
@@ -341,48 +351,36 @@ class TimingCommands:
         self.port_delay(words, "output", self.constraints.outputs)
 
     def port_delay(self, words: list[str], way: str, kept: dict[str, PortDelays]) -> None:
-        options = {
-            **EDGE_OPTIONS,
-            "-clock": 1,
-            "-add_delay": 0,
-            "-clock_fall": 0,
-            "-level_sensitive": 0,
-            "-reference_pin": 1,
-            "-source_latency_included": 0,
-            "-network_latency_included": 0,
-        }
-        said = self.session.parse(words, options)
+        """A delay of ports against a clock, in the place of what they have against others where it does not say
+        -add_delay."""
+        said = self.session.parse(words, DELAY_OPTIONS)
         if self.lose_options(said, ("-clock_fall", "-level_sensitive", "-reference_pin")):
             return
         value = self.first_number(said, self.time)
         if not said.has("-clock"):
             self.session.lose("no-clock", f"a {self.session.command} without -clock")
             return
-        clocks = self.session.objects(said.value("-clock"), ("clock",))
-        ports = self.ports(said, way)
+        clocks, ports = self.session.objects(said.value("-clock"), ("clock",)), self.ports(said, way)
         if len(clocks) != 1 or clocks[0].name not in self.constraints.clocks:
             return
-        clock = clocks[0].name
+        clock, beside = clocks[0].name, said.has("-add_delay")
+        included = said.has("-source_latency_included"), said.has("-network_latency_included")
         for port in ports:
             delays = kept.setdefault(port, PortDelays())
-            if not said.has("-add_delay") and set(delays.by_clock) - {clock}:
-                self.session.drop(
-                    "delay-replaced",
-                    f"{self.session.command}: the delays of {port} against {', '.join(set(delays.by_clock) - {clock})} go, as there is no -add_delay",
-                )
-                delays.by_clock = {name: it for name, it in delays.by_clock.items() if name == clock}
+            if not beside:
+                self.drop_others(port, delays, clock)
             for corner in self.corners(said):
-                self.keep_delay(
-                    delays.by_clock.setdefault(clock, {}),
-                    corner,
-                    Delay(
-                        value,
-                        self.session.place,
-                        said.has("-source_latency_included"),
-                        said.has("-network_latency_included"),
-                    ),
-                    said.has("-add_delay"),
-                )
+                made = Delay(value, self.session.place, *included)
+                self.keep_delay(delays.by_clock.setdefault(clock, {}), corner, made, beside)
+
+    def drop_others(self, port: str, delays: PortDelays, clock: str) -> None:
+        """Takes away the delays of a port against other clocks."""
+        others = [it for it in delays.by_clock if it != clock]
+        if others:
+            text = f"the delays of {port} against {', '.join(others)} go, as there is no -add_delay"
+            self.session.drop("delay-replaced", f"{self.session.command}: {text}")
+        for name in others:
+            del delays.by_clock[name]
 
     def keep_delay(self, kept: dict, corner: tuple[str, str], delay: Delay, beside: bool) -> None:
         """A delay of a clock in the place of the one before; beside it the worse of both counts."""
@@ -457,7 +455,8 @@ class TimingCommands:
             elif made.kind in ("block", "block_pin"):
                 self.session.lose(
                     f"{self.session.command}-block",
-                    f"{self.session.command} {option} {made.name}: an instance of a block; name its registers or the top's ports",
+                    f"{self.session.command} {option} {made.name}: an instance of a block; name its registers or the "
+                    "top's ports",
                 )
             else:
                 end.add(made)

@@ -103,7 +103,8 @@ class SdcWriter:
     def clock(self, clock: Clock) -> None:
         at = f" [get_ports {{{clock.port}}}]" if clock.port else ""
         self.lines.append(
-            f"create_clock -name {clock.name} -period {plain(clock.period)} -waveform {{{plain(clock.rise)} {plain(clock.fall)}}}{at}"
+            f"create_clock -name {clock.name} -period {plain(clock.period)} -waveform "
+            f"{{{plain(clock.rise)} {plain(clock.fall)}}}{at}"
         )
         if clock.port:
             self.lines.append(f"set_propagated_clock [get_clocks {{{clock.name}}}]")

@@ -1,4 +1,5 @@
-"""What the commands of constraints share: the design, the objects that Tcl holds by a number, and the place of the command."""
+"""What the commands of constraints share: the design, the objects that Tcl holds by a number, and the place of the
+command."""
 import dataclasses
 import re
 
@@ -38,7 +39,8 @@ class Session:
     # ------------------------------------------------------------------------------------------ words
 
     def parse(self, words: list[str], options: dict[str, int]) -> Words:
-        """The words of a command, by how many values each option takes; a beginning that fits one option stands for it."""
+        """The words of a command, by how many values each option takes; a beginning that fits one option stands for it.
+        """
         found, rest = Words(set(), {}, []), list(words)
         while rest:
             word = rest.pop(0)
@@ -115,7 +117,8 @@ class Session:
                 found[item] = None
             else:
                 raise CommandFault(
-                    f"{self.command}: a {item.kind.replace('_', ' ')} ({item.name}) is given where {' or '.join(kinds)} is asked"
+                    f"{self.command}: a {item.kind.replace('_', ' ')} ({item.name}) is given where "
+                    f"{' or '.join(kinds)} is asked"
                 )
         return list(found)
 

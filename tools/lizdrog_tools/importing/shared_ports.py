@@ -1,4 +1,5 @@
-"""Output ports that are one net with another port: each gets a cell of its own that hands on times and slews as they are."""
+"""Output ports that are one net with another port: each gets a cell of its own that hands on times and slews as they
+are."""
 from decimal import Decimal
 
 from lizdrog_tools.importing.constraints import SPLITS, Constraints

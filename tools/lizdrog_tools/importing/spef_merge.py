@@ -54,9 +54,7 @@ class Merger:
                 gone.append(section)
             elif not self.design.ends[net].drivers:
                 self.report.drop(
-                    "no-driver",
-                    Place(name, section.line),
-                    f"the parasitics of {section.net}, which nothing drives",
+                    "no-driver", Place(name, section.line), f"the parasitics of {section.net}, which nothing drives"
                 )
             else:
                 self.add(reader, net, section)
@@ -81,9 +79,7 @@ class Merger:
 
     def add(self, reader: SpefReader, net: str, section: Section) -> None:
         """The wires of a section as wires of its net."""
-        wires = self.nets.setdefault(
-            net, Wires(place=Place(reader.file, section.line if net not in self.nets else 0))
-        )
+        wires = self.nets.setdefault(net, Wires(place=Place(reader.file, section.line if net not in self.nets else 0)))
         wires.sections += 1
         numbers: dict[Node, Node] = {}
         own = {*section.pins, *(it for row in section.ress for it in row[:2])}

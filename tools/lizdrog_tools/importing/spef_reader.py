@@ -67,7 +67,7 @@ class Words:
         row = re.sub(r"/\*.*?\*/", " ", row)
         begun = re.search(r"/\*", row)
         if begun:
-            self.in_comment, row = True, row[:begun.start()]
+            self.in_comment, row = True, row[: begun.start()]
         return [it for it in WORD.findall(row) if not it.startswith(('"', "//"))]
 
     def step(self) -> str:
@@ -195,7 +195,9 @@ class SpefReader:
             if words.word in PARTS:
                 part = words.step()
                 if part == "*INDUC":
-                    self.report.lose("inductance", Place(self.file, line), f"the inductances of {made.net} are not read")
+                    self.report.lose(
+                        "inductance", Place(self.file, line), f"the inductances of {made.net} are not read"
+                    )
             elif part == "*CONN":
                 if words.step() in ("*P", "*I"):
                     made.pins.append(self.node(words.step(), made.net))

@@ -89,7 +89,8 @@ class SpefWriter:
         lines = [f"*D_NET {self.index(net)} {plain(wires.load() if wires.ress else wires.total)}", "*CONN"]
         for node, drives in zip(pins, (it < len(ends.drivers) for it in range(len(pins))), strict=True):
             lines.append(
-                f"*{'P' if node[0] == 'port' else 'I'} {self.word(node, net)} {'O' if drives == (node[0] == 'pin') else 'I'}"
+                f"*{'P' if node[0] == 'port' else 'I'} {self.word(node, net)} "
+                f"{'O' if drives == (node[0] == 'pin') else 'I'}"
             )
         if wires.ress:
             lines += [
@@ -130,7 +131,8 @@ class SpefWriter:
             self.report.lose(
                 "spef-tree",
                 wires.place,
-                f"the resistors of {net} do not reach {', '.join(gone[:NAMED]) or 'all nodes'}; accepted, the net has its load and no delay",
+                f"the resistors of {net} do not reach {', '.join(gone[:NAMED]) or 'all nodes'}; accepted, the net "
+                "has its load and no delay",
             )
             wires.total, wires.caps, wires.ress = wires.load(), [], []
         return True

@@ -137,7 +137,8 @@ class Variants:
             kept.append(change)
 
     def make(self) -> int:
-        """Gives each changed instance its cell, one for all instances that are changed alike; tells how many cells are new."""
+        """Gives each changed instance its cell, one for all instances that are changed alike; tells how many cells are
+        new."""
         made: dict[tuple, str] = {}
         for name, changes in self.changes.items():
             instance = self.design.netlist.instances[name]

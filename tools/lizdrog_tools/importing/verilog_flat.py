@@ -212,7 +212,8 @@ def verilog_word(name: str) -> str:
 
 
 def ranged(netlist: Netlist, base: str) -> str | None:
-    """The range of a vector whose bits are all there with falling or rising indexes; none where it is written bit by bit."""
+    """The range of a vector whose bits are all there with falling or rising indexes; none where it is written bit by
+    bit."""
     names = netlist.vectors[base].bits
     found = [BIT.fullmatch(it) for it in names]
     if not PLAIN_NAME.fullmatch(base) or not all(found) or base in netlist.nets:

@@ -1,5 +1,7 @@
-"""Flattens a netlist with hierarchy, assigns, vectors on pins or connections by position: yosys reads it, and this joins its modules."""
+"""Flattens a netlist with hierarchy, assigns, vectors on pins or connections by position: yosys reads it, and this
+joins its modules."""
 import json
+import os
 import pathlib
 import re
 import shutil
@@ -37,45 +39,44 @@ class LibraryPins:
         return port if span is None else f"{port}[{span[1] + (number if span[0] >= span[1] else -number)}]"
 
 
+NO_YOSYS = "this netlist has to be flattened by yosys, and there is no yosys here: apt-get install yosys"
+
+
+def write_script(
+    folder: pathlib.Path, files: list[str], top: str | None, cells: dict[str, LibraryPins]
+) -> dict[str, str]:
+    """Writes what yosys reads and does; gives the original of each file that it is given."""
+    (folder / "cells.v").write_text("".join(it.stub() for it in cells.values()))
+    originals, script = {}, ["read_verilog -lib cells.v"]
+    for number, file in enumerate(files):
+        copy = f"part{number}.v"
+        (folder / copy).write_text(read_text(file), encoding="latin-1")
+        originals[copy] = file
+        is_system = os.path.splitext(file.removesuffix(".gz"))[1] == ".sv"
+        script.append(f"read_verilog {'-sv ' if is_system else ''}{copy}")
+    which = f"-top {verilog_word(top)}" if top else "-auto-top"
+    (folder / "run.ys").write_text("\n".join([*script, f"hierarchy -check {which}", "proc", "write_json out.json", ""]))
+    return originals
+
+
 def run_yosys(
     files: list[str], top: str | None, cells: dict[str, LibraryPins], report: Report
 ) -> tuple[dict[str, Any], dict[str, str]]:
     """The modules as yosys has elaborated them, and the original of each file that it was given."""
     program = shutil.which("yosys")
     if program is None:
-        raise InputFault(
-            files[0],
-            None,
-            "this netlist has to be flattened by yosys, and there is no yosys here: apt-get install yosys",
-        )
+        raise InputFault(files[0], None, NO_YOSYS)
     with tempfile.TemporaryDirectory() as name:
-        folder, originals, script = pathlib.Path(name), {}, ["read_verilog -lib cells.v"]
-        (folder / "cells.v").write_text("".join(it.stub() for it in cells.values()))
-        for number, file in enumerate(files):
-            copy = f"part{number}.v"
-            (folder / copy).write_text(read_text(file), encoding="latin-1")
-            originals[copy] = file
-            script.append(
-                f"read_verilog -sv {copy}" if file.removesuffix(".gz").endswith(".sv") else f"read_verilog {copy}"
-            )
-        script += [
-            f"hierarchy -check {f'-top {verilog_word(top)}' if top else '-auto-top'}",
-            "proc",
-            "write_json out.json",
-        ]
-        (folder / "run.ys").write_text("\n".join(script) + "\n")
-        ran = subprocess.run(
-            [program, "-q", "run.ys"], cwd=folder, capture_output=True, text=True, errors="replace", check=False
-        )
+        folder = pathlib.Path(name)
+        originals = write_script(folder, files, top, cells)
+        words = [program, "-q", "run.ys"]
+        ran = subprocess.run(words, cwd=folder, capture_output=True, text=True, errors="replace", check=False)
         said = ran.stdout + ran.stderr
         if ran.returncode:
             found = ERROR.search(said)
             file = originals.get(found.group(1) or "", files[0]) if found else files[0]
-            raise InputFault(
-                file,
-                int(found.group(2)) if found and found.group(2) else None,
-                f"yosys refuses it: {found.group(3) if found else said.strip()[-300:]}",
-            )
+            line = int(found.group(2)) if found and found.group(2) else None
+            raise InputFault(file, line, f"yosys refuses it: {found.group(3) if found else said.strip()[-300:]}")
         for found in RESIZED.finditer(said):
             report.lose("width", Place(files[0]), f"a connection has another width than its port: {found.group(1)}")
         return json.loads((folder / "out.json").read_text())["modules"], originals
