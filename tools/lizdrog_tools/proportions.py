@@ -68,8 +68,8 @@ def last_entries(library, used: list[str]) -> tuple[float, float]:
     """The greatest entries of slews (fs) and loads (aF) in the delay tables of the used cells."""
     cells = [library.cells[name] for name in used if name in library.cells]
     tables = [pair[0] for cell in cells for those in cell.arcs.values() for pair in those]
-    slews, loads = ([axis[-1] for axis in axes if axis] for axes in ((it.xs for it in tables), (it.ys for it in tables)))
-    return max(slews, default=0.0), max(loads, default=0.0)
+    slews = max((it.xs[-1] for it in tables if it.xs), default=0.0)
+    return slews, max((it.ys[-1] for it in tables if it.ys), default=0.0)
 
 
 def out_of_proportion(commands, library, used: list[str]) -> Iterator[str]:
