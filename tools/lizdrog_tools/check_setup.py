@@ -1,10 +1,11 @@
 """Looks over the documents of a design for what is accepted but probably not meant: check_setup.py EARLY LATE NETLIST SDC SPEF [options]
 
-It lists, each with a count and some names: commands of the SDC that are not read, all in one run; clocks without registers; registers
-without a clock; inputs without a delay; endpoints without a test; undriven nets and open inputs; nets without parasitics, and parasitics
-that do not fit their net; arcs whose early delay exceeds the late one; derates that are crossed; exceptions that match nothing; options that come twice; timing
-types that are passed over; sections of the SPEF that are. Exit status 1 where it finds something, 0 where it does not, 2 where a file cannot
-be read; lines that begin with `note` are no findings.
+It lists, each with a count and some names: commands of the SDC that are not read, all in one run; clocks without
+registers; registers without a clock; inputs without a delay; endpoints without a test; undriven nets and open inputs;
+nets without parasitics, and parasitics that do not fit their net; arcs whose early delay exceeds the late one; derates
+that are crossed; exceptions that match nothing; options that come twice; timing types that are passed over; sections
+of the SPEF that are; libraries exchanged, numbers in another unit, attributes that look mistyped. Exit status 1 where
+it finds something, 0 where it does not, 2 where a file cannot be read; lines that begin with `note` are no findings.
 
   --program FILE   ask this program (./lizdrog, say) for the slack of each endpoint, and list those without a tested path
   --all            list all names, not the first ten
@@ -20,6 +21,7 @@ import tempfile
 
 from lizdrog_tools.files import line_and_column, read_text, tool
 from lizdrog_tools.liberty import numbers, read_library
+from lizdrog_tools.proportions import exchanged, mistyped, out_of_proportion
 from lizdrog_tools.sdc import pin_word, read_commands
 from lizdrog_tools.spef import read_spef
 from lizdrog_tools.verilog import Joined, read_netlist
@@ -382,6 +384,15 @@ def check_libraries(findings, early, late, netlist, derates, same):
     findings.add("arcs whose early delay exceeds the late one at some entry", crossed)
 
 
+def check_proportions(findings, early, late, joined, commands, given):
+    """What is hardly meant: libraries exchanged, units wrong by a thousand, mistyped attributes."""
+    used = sorted({it.cell for it in joined.netlist.instances.values()})
+    findings.add("libraries that seem to be exchanged", exchanged(early, late, used) if early is not late else [])
+    findings.add("numbers of the SDC out of all proportion: is a unit wrong?", list(out_of_proportion(commands, late, used)))
+    for file in dict.fromkeys((given.early, given.late)):
+        findings.add(f"attributes of {file} that look mistyped, passed over", mistyped(read_text(file)))
+
+
 def differences(early, late):
     return [f"other {what}s" for what, one in early.parts().items() if one != late.parts()[what]]
 
@@ -533,6 +544,7 @@ def main():
     if given.spef != "none":
         check_parasitics(findings, joined, given.spef)
     check_libraries(findings, early, late, netlist, constraints.derates, same)
+    check_proportions(findings, early, late, joined, commands, given)
     check_exceptions(findings, joined, constraints, network, text, given.sdc)
     check_repeated(findings, commands, text, given.sdc)
     if given.program:

@@ -54,6 +54,8 @@ def sdc_word(text, at):
     if text[at] == "[":
         end = closing(text, at, "[", "]")
         inside = text[at + 1:end - 1].replace("\\\n", " ").replace("{", " ").replace("}", " ").split()
+        if inside[:1] == ["list"]:
+            return Word("[list", [], at, " ".join(text[at:end].replace("\\\n", " ").split())), end
         return Word(inside[0] if inside else "", inside[1:], at, text[at:end]), end
     found = PLAIN.match(text, at)
     end = found.end() if found else at + 1

@@ -54,6 +54,12 @@ CASES = {
     "multicycles of equal rank": "set_multicycle_path 2 -from [get_cells r1]\nset_multicycle_path 3 -from [get_cells "
     "{r1 r2}]\n",
     "multicycle of the start": "set_multicycle_path 2 -setup -start -from [get_clocks clk2] -to [get_clocks clk]\n",
+    "a path through a gate": "set_false_path -through [get_pins g2/Y]\n",
+    "a path through a net": "set_multicycle_path 2 -through [get_nets n5]\n",
+    "a path through two gates": "set_false_path -setup -through [get_pins g1/B] -through [get_pins g4/A]\n",
+    "a path through a register's output": "set_false_path -through [get_pins r2/QN]\n",
+    "a path from a start through a gate": "set_false_path -from [get_cells ra_1] -through [get_pins x1/A]\n",
+    "a path through a gate to an end": "set_false_path -through [get_pins g3/A] -to [get_cells r2]\n",
     "derates": "set_timing_derate -early 0.9\nset_timing_derate -late 1.1 -cell_delay\n",
     "a constant that selects": "set_case_analysis 0 [get_ports sel]\n",
     "the other constant": "set_case_analysis 1 [get_ports sel]\n",

@@ -5,6 +5,7 @@ import unittest.mock
 
 import common
 from import_cases import CLOCK, Project
+from lizdrog_dev import import_designs
 from lizdrog_tools.importing import tcl
 
 NETLIST = """module top (clk, d, e, q, v);
@@ -316,7 +317,7 @@ class Timing(Constraints):
             ("create_generated_clock -name g -source clk -divide_by 2 [get_pins r1/Q]", "create_generated_clock"),
             ("set_max_delay 3 -from e", "set_max_delay"),
             ("set_min_delay 1 -to q", "set_min_delay"),
-            ("set_false_path -through [get_pins g1/A]", "set_false_path-through"),
+            ("set_false_path -from clk -through [get_pins g1/A]", "through"),
             ("set_false_path -rise_from clk", "set_false_path-rise_from"),
             ("set_multicycle_path 2 -fall_to q", "set_multicycle_path-fall_to"),
             ("create_clock -name c2 -period 9 [get_pins g1/Z]", "clock-target"),
@@ -355,6 +356,31 @@ class Timing(Constraints):
         ):
             self.assertEqual(self.sdc_lines(text + "\n"), [], text)
             self.assertEqual([it["line"] for it in self.report()["left_out_without_effect"]], [3], text)
+
+    def test_paths_beside_those_that_pass(self):
+        """What passes a gate is told by starts and ends only where all paths between them pass it."""
+        kind = import_designs.Kind("cells", 1.0)
+        self.write(
+            {
+                "cells.lib": import_designs.standard_cells(kind),
+                "top.v": "module top (input clk, d, output q);\n wire a, b, c;\n"
+                " DFF r1 (.D(d), .CK(clk), .Q(a));\n"
+                " BUF g1 (.A(a), .Y(b));\n AND2 g2 (.A(a), .B(b), .Y(c));\n DFF r2 (.D(c), .CK(clk), .Q(q));\nendmodule\n",
+            }
+        )
+        clock = CLOCK.replace("100", "1000")
+        for pin, line in (
+            ("g2/Y", "set_false_path -from [get_pins {r1/CK}] -to [get_pins {r2/D}]"),
+            ("g1/A", None),
+            ("g2/B", None),
+        ):
+            self.write({"top.sdc": f"{clock}set_false_path -through [get_pins {pin}]\n"})
+            status, errors = self.run_import()
+            self.assertEqual(status, 0 if line else 2)
+            if line:
+                self.assertIn(line, self.made("constraints.sdc").splitlines())
+            else:
+                self.assertIn("top.sdc:3: through: -through: other paths lead to r2/D from the same starts", errors)
 
     @common.needs_program
     def test_the_program_reads_what_is_written(self):

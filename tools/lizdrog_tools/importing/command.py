@@ -31,6 +31,7 @@ from lizdrog_tools.importing.sdc_writer import SdcWriter
 from lizdrog_tools.importing.shared_ports import part_ports, share_loads
 from lizdrog_tools.importing.spef_merge import Merger, merge_spef
 from lizdrog_tools.importing.spef_writer import write_spef
+from lizdrog_tools.importing.through import express_through
 from lizdrog_tools.importing.variants import Variants
 from lizdrog_tools.importing.verilog_flat import NotFlat, read_flat, write_flat
 from lizdrog_tools.importing.verilog_hierarchy import read_hierarchy
@@ -144,6 +145,7 @@ class Import:
         undelayed = Variants(design, self.early, self.late)
         express_ideal(constraints, design, undelayed, wires, self.report)
         undelayed.make()
+        express_through(constraints, design, self.report)
         share_loads(design.netlist, constraints)
         express_drives(constraints, design, (self.early, self.late), wires, self.report)
         resolve(constraints, design, self.report)

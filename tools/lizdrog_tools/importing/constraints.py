@@ -70,10 +70,14 @@ class PathException:
     start: PathEnd | None
     end: PathEnd | None
     place: Place
+    through: list[list[Object]] = dataclasses.field(default_factory=list)
+    rank: int | None = None
 
     def priority(self) -> int:
         """The rank by which other timers choose among multicycles: pins count before clocks, starts before ends."""
-        rank = 0
+        if self.rank is not None:
+            return self.rank
+        rank = 8 if self.through else 0
         for end, objects, clocks in ((self.start, 32, 4), (self.end, 16, 2)):
             if end is not None:
                 rank += clocks if end.clocks and not (end.ports or end.pins or end.cells) else objects

@@ -55,6 +55,7 @@ DELAY_OPTIONS = {
     "-network_latency_included": 0,
 }
 END_KINDS = ("clock", "port", "pin", "cell")
+THROUGH_KINDS = ("pin", "port", "net", "cell", "block", "block_pin")
 
 
 class TimingCommands:
@@ -471,7 +472,7 @@ class TimingCommands:
         )
 
     def exception(self, words: list[str], cycles: int | None, said: Words) -> None:
-        if self.lose_options(said, (*EDGED, "-through", "-reset_path")):
+        if self.lose_options(said, (*EDGED, "-reset_path")):
             return
         kinds = tuple(it for it in ("setup", "hold") if said.has(f"-{it}"))
         ends = self.path_end(said, "-from"), self.path_end(said, "-to")
@@ -481,10 +482,14 @@ class TimingCommands:
                     "empty-objects", f"{self.session.command}: no object of {option} is there, so it says nothing"
                 )
                 return
-        made = PathException(
-            kinds or (("setup",) if cycles is not None else ("setup", "hold")), cycles, *ends, self.session.place
-        )
-        self.constraints.exceptions.append(made)
+        through = [self.session.objects(text, THROUGH_KINDS) for text in said.values.get("-through", [])]
+        if not all(through):
+            self.session.drop(
+                "empty-objects", f"{self.session.command}: no object of -through is there, so it says nothing"
+            )
+            return
+        kinds = kinds or (("setup",) if cycles is not None else ("setup", "hold"))
+        self.constraints.exceptions.append(PathException(kinds, cycles, *ends, self.session.place, through))
 
     def set_false_path(self, words: list[str]) -> None:
         said = self.session.parse(words, PATH_OPTIONS)
