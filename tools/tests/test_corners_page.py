@@ -57,7 +57,7 @@ class Page(unittest.TestCase):
     @unittest.skipUnless(importlib.util.find_spec("jinja2"), "no Jinja2: apt-get install python3-jinja2")
     def test_commands_print_what_the_page_shows(self):
         commands = [it for it in self.blocks if it.startswith(("cd ", "../", "tail "))]
-        self.assertEqual(len(commands), 7)
+        self.assertEqual(len(commands), 5)
         out = without_seconds(self.run_lines(commands))
         project = (self.top / "examples" / "four-corners" / "design.toml").read_text().strip("\n")
         for block in self.blocks:
