@@ -138,17 +138,23 @@ fn reader_word(line: &str) -> Option<&str> {
     }
 }
 
-/// Writes the answer to a row, of which the first line and the document are there.
-fn answer_row(alloc: Global, first: &str, document: &Text, out: &mut Text) {
-    let Some(word) = reader_word(first) else {
-        return;
-    };
+/// Begins a row with its first line, and gives the reader that its word names.
+fn begin_row(line: &str, word: &str, out: &mut Text) -> Option<Reader> {
+    out.line(line);
+    let reader = reader_of(word);
+    if reader.is_none() {
+        out.add(b"no such reader\n");
+    }
+    reader
+}
+
+/// Writes the answer to a row of which the document is there; nothing where it has no reader.
+fn answer_row(alloc: Global, reader: Option<Reader>, document: &Text, out: &mut Text) {
     if document.is_short() {
         out.want();
     }
-    match reader_of(word) {
-        Some(reader) => answer(alloc, reader, document.as_bytes(), out),
-        None => out.add(b"no such reader\n"),
+    if let Some(reader) = reader {
+        answer(alloc, reader, document.as_bytes(), out);
     }
 }
 
@@ -166,16 +172,16 @@ fn add_line(document: &mut Text, line: &str, out: &mut Text) {
 /// Writes the answers to all rows of a text.
 pub(crate) fn answer_rows(alloc: Global, text: &str, out: &mut Text) {
     let mut document = Text::new(alloc);
-    let mut first = "";
+    let mut reader = None;
     for line in text.lines() {
-        if reader_word(line).is_some() {
-            answer_row(alloc, first, &document, out);
-            document.clear();
-            out.line(line);
-            first = line;
-        } else {
-            add_line(&mut document, line, out);
+        match reader_word(line) {
+            Some(word) => {
+                answer_row(alloc, reader, &document, out);
+                document.clear();
+                reader = begin_row(line, word, out);
+            }
+            None => add_line(&mut document, line, out),
         }
     }
-    answer_row(alloc, first, &document, out);
+    answer_row(alloc, reader, &document, out);
 }
