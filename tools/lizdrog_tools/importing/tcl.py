@@ -3,6 +3,7 @@ import os
 import pathlib
 import re
 import shutil
+import contextlib
 import subprocess
 from collections.abc import Callable
 
@@ -172,8 +173,10 @@ class InPython:
             return joined(["error", str(why)])
 
     def run(self, file: str, folder: str) -> list[str]:
-        self.tcl.eval(f"cd {quoted(folder)}")
-        return split_list(self.tcl.eval(f"::lizdrog::run {quoted(file)}"))
+        # Tcl's cd moves this process: it goes back where it was.
+        with contextlib.chdir(folder):
+            self.tcl.eval(f"cd {quoted(folder)}")
+            return split_list(self.tcl.eval(f"::lizdrog::run {quoted(file)}"))
 
 
 def find_tcl(commands: list[str], answer: Answer) -> Tclsh | InPython:
