@@ -1,9 +1,9 @@
 """Runs constraints in a real Tcl: `tclsh` where it is there, else the one in Python's tkinter."""
+import contextlib
 import os
 import pathlib
 import re
 import shutil
-import contextlib
 import subprocess
 from collections.abc import Callable
 
