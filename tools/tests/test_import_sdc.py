@@ -365,7 +365,8 @@ class Timing(Constraints):
                 "cells.lib": import_designs.standard_cells(kind),
                 "top.v": "module top (input clk, d, output q);\n wire a, b, c;\n"
                 " DFF r1 (.D(d), .CK(clk), .Q(a));\n"
-                " BUF g1 (.A(a), .Y(b));\n AND2 g2 (.A(a), .B(b), .Y(c));\n DFF r2 (.D(c), .CK(clk), .Q(q));\nendmodule\n",
+                " BUF g1 (.A(a), .Y(b));\n AND2 g2 (.A(a), .B(b), .Y(c));\n"
+                " DFF r2 (.D(c), .CK(clk), .Q(q));\nendmodule\n",
             }
         )
         clock = CLOCK.replace("100", "1000")
