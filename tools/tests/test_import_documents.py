@@ -163,6 +163,7 @@ class Libraries(Project):
 
     def test_libraries_that_cannot_be_read(self):
         for old, new, said in (
+            ('"1ps";', '"1ps"; slew_derate_from_library : x;', "cells.lib:1: slew_derate_from_library is no number: x"),
             ("(1, ff)", "(1, xx)", "cells.lib:1: the library has no capacitive_load_unit"),
             ('"1ps"', '"1 hour"', "cells.lib:1: the time unit 1 hour is not read"),
             (

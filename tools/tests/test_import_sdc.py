@@ -169,6 +169,15 @@ switch -glob $period { 80* { set_load -max 2.5 [get_ports v\\[0\\]] } }
         self.assertEqual(self.run_import(sdc=["top.sdc", "more.tcl"], accept=["set_max_delay"])[0], 1)
         self.assertIn("set_load 4 [get_ports {q}]", self.made("constraints.sdc"))
 
+    def test_tcl_that_ends_by_itself(self):
+        """What comes before `exit` counts, as in other tools; another end is an error."""
+        self.assertEqual(self.sdc_lines("set_load 3 q\nexit\nset_load 4 q\n"), ["set_load 3 [get_ports {q}]"])
+        if shutil.which("tclsh"):
+            self.write({"top.sdc": CLOCK + "exit 3\n"})
+            status, errors = self.run_import()
+            self.assertEqual(status, 2)
+            self.assertIn("import: top.sdc: tclsh ended with 3", errors)
+
     def test_lists(self):
         for text, words in (
             ('a {b c} "d e" f\\ g', ["a", "b c", "d e", "f g"]),
@@ -365,7 +374,8 @@ class Timing(Constraints):
                 "cells.lib": import_designs.standard_cells(kind),
                 "top.v": "module top (input clk, d, output q);\n wire a, b, c;\n"
                 " DFF r1 (.D(d), .CK(clk), .Q(a));\n"
-                " BUF g1 (.A(a), .Y(b));\n AND2 g2 (.A(a), .B(b), .Y(c));\n DFF r2 (.D(c), .CK(clk), .Q(q));\nendmodule\n",
+                " BUF g1 (.A(a), .Y(b));\n AND2 g2 (.A(a), .B(b), .Y(c));\n"
+                " DFF r2 (.D(c), .CK(clk), .Q(q));\nendmodule\n",
             }
         )
         clock = CLOCK.replace("100", "1000")

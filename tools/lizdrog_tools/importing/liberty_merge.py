@@ -5,7 +5,7 @@ from collections.abc import Callable, Iterable
 from decimal import Decimal
 
 from lizdrog_tools.files import InputFault, read_text
-from lizdrog_tools.importing.liberty_model import WRITTEN, Cell, CellReader, Frame, Pin, Table, plain
+from lizdrog_tools.importing.liberty_model import WRITTEN, Cell, CellReader, Frame, Pin, Table, as_decimal, plain
 from lizdrog_tools.importing.liberty_tree import Group, Part, read_library
 from lizdrog_tools.importing.mistyped import mistyped
 from lizdrog_tools.importing.report import Place, Report
@@ -20,6 +20,7 @@ THRESHOLDS = [
     for side in ("input", "output", "slew_lower", "slew_upper")
     for edge in ("rise", "fall")
 ]
+SLEW_DERATE = "slew_derate_from_library"
 FIRST = "first"
 
 
@@ -105,24 +106,18 @@ class LibrarySet:
 
 def check_frames(frames: Iterable[Frame], report: Report) -> None:
     """What holds for whole libraries and has no counterpart."""
-    first: dict[str, tuple[str, str]] = {}
+    first: dict[str, tuple[Decimal, str]] = {}
     for frame in frames:
-        for name in THRESHOLDS:
-            text = frame.library.frame.text(name)
+        for name in (*THRESHOLDS, SLEW_DERATE):
+            text, line = frame.library.frame.text(name), frame.line(name) or 0
             if text is None:
                 continue
-            before, file = first.setdefault(name, (text, frame.file))
-            if Decimal(before) != Decimal(text):
-                report.lose(
-                    "thresholds", Place(frame.file, frame.line(name) or 0), f"{name} is {text}, and {before} in {file}"
-                )
-        derate = frame.library.frame.text("slew_derate_from_library")
-        if derate is not None and Decimal(derate) != 1:
-            report.lose(
-                "slew-derate",
-                Place(frame.file, frame.line("slew_derate_from_library") or 0),
-                f"slew_derate_from_library {derate} is not read",
-            )
+            value, place = as_decimal(text, frame.file, line, name), Place(frame.file, line)
+            before, file = first.setdefault(name, (value, frame.file))
+            if name == SLEW_DERATE and value != 1:
+                report.lose("slew-derate", place, f"{name} {text} is not read")
+            elif before != value:
+                report.lose("thresholds", place, f"{name} is {text}, and {before} in {file}")
 
 
 def differences(early: Cell, late: Cell) -> str | None:

@@ -121,10 +121,12 @@ class SpefReader:
 
     def name(self, word: str) -> str:
         """A name from the top of the design, its index in the map looked up."""
+        if not word:
+            raise self.fault("the file ends where a name is expected")
         found = self.map.get(word)
         if found is not None:
             return found
-        if word[0] == "*" and word[1:].isdigit():
+        if word.startswith("*") and word[1:].isdigit():
             raise self.fault(f"{word} is not in the *NAME_MAP")
         return self.prefix + self.spelled(word)
 

@@ -5,6 +5,7 @@ import pathlib
 import re
 import shutil
 import subprocess
+import tempfile
 from collections.abc import Callable
 
 PRELUDE = pathlib.Path(__file__).with_name("prelude.tcl")
@@ -120,33 +121,51 @@ class Tclsh:
         """Runs a file: `ok`, or `error`, the message and where it came from."""
         asked, questions = os.pipe()
         replies, answers = os.pipe()
-        words = [self.program]
         script = "namespace eval ::lizdrog {}\n" + self.script(file, folder, (questions, replies))
-        with subprocess.Popen(words, stdin=subprocess.PIPE, stdout=2, pass_fds=(questions, replies)) as child:
-            os.close(questions)
-            os.close(replies)
-            with os.fdopen(asked, "rb") as reading, os.fdopen(answers, "wb") as writing:
-                child.stdin.write(script.encode("latin-1"))
-                child.stdin.close()
+        with tempfile.NamedTemporaryFile("w", encoding="latin-1", suffix=".tcl") as made:
+            made.write(script)
+            made.flush()
+            with subprocess.Popen(
+                [self.program, made.name], stdin=subprocess.DEVNULL, stdout=2, pass_fds=(questions, replies)
+            ) as child:
+                os.close(questions)
+                os.close(replies)
                 try:
-                    return self.serve(reading, writing)
+                    said = self.serve(asked, answers)
                 except BaseException:
                     child.kill()
                     raise
+                finally:
+                    os.close(asked)
+                    os.close(answers)
+                return said or (["ok"] if child.wait() == 0 else ["error", f"tclsh ended with {child.returncode}", ""])
 
-    def serve(self, reading, writing) -> list[str]:
-        while header := reading.readline():
-            words = split_list(reading.read(int(header)).decode("latin-1"))
-            if words[0] == "finished":
-                return words[1:]
-            try:
-                status, text = "ok", self.answer(words)
-            except CommandFault as why:
-                status, text = "error", str(why)
-            data = text.encode("latin-1", "replace")
-            writing.write(f"{status} {len(data)}\n".encode() + data)
-            writing.flush()
-        return ["ok"]
+    def serve(self, asked: int, answers: int) -> list[str]:
+        """Answers what Tcl asks, until it has finished; nothing where it ends by itself."""
+        with os.fdopen(os.dup(asked), "rb") as reading:
+            while header := reading.readline():
+                words = split_list(reading.read(int(header)).decode("latin-1"))
+                if words[0] == "finished":
+                    return words[1:]
+                try:
+                    status, text = "ok", self.answer(words)
+                except CommandFault as why:
+                    status, text = "error", str(why)
+                data = text.encode("latin-1", "replace")
+                if not write_all(answers, f"{status} {len(data)}\n".encode() + data):
+                    break
+        return []
+
+
+def write_all(file: int, data: bytes) -> bool:
+    """Whether somebody took all of it."""
+    view = memoryview(data)
+    try:
+        while view:
+            view = view[os.write(file, view) :]
+    except BrokenPipeError:
+        return False
+    return True
 
 
 class InPython:
