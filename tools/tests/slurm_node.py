@@ -18,7 +18,10 @@ PARTS = {
     "squeue": "slurm-client",
 }
 MISSING = sorted({package for program, package in PARTS.items() if not shutil.which(program, path=PATH)})
-needs_slurm = unittest.skipIf(MISSING, f"no Slurm: apt-get install slurm-wlm munge (missing {', '.join(MISSING)})")
+# These tests depend on when Slurm runs and ends jobs, so the gate leaves them out.
+LEFT_OUT = os.environ.get("LIZDROG_SLURM") == "no"
+WHY = "LIZDROG_SLURM=no" if LEFT_OUT else f"apt-get install slurm-wlm munge (missing {', '.join(MISSING)})"
+needs_slurm = unittest.skipIf(MISSING or LEFT_OUT, f"no Slurm: {WHY}")
 PATIENCE = 60.0
 CONFIGURATION = """ClusterName=lizdrog
 SlurmctldHost={host}(127.0.0.1)
