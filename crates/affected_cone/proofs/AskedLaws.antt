@@ -10,8 +10,8 @@ use Rattle.timing_defs.specs.declared.kinds.Kind.{Kind}
 use Rattle.timing_defs.specs.declared.faults.QueryFault.{QueryFault}
 use Rattle.timing_defs.specs.declared.faults.QueryFault.TheVariants.{UnknownPin, NotEndpoint, NotClocked}
 use Rattle.timing_defs.specs.Netlist.{Pin, pin_named}
-use Rattle.timing_defs.specs.Tests.{is_endpoint, is_clocked}
-use Rattle.timing_defs.specs.Reports.{unknown_pin, end_fault, endpoint_fault}
+use Rattle.timing_rules.specs.Tests.{is_endpoint, is_clocked}
+use Rattle.timing_rules.specs.Reports.{unknown_pin, end_fault, endpoint_fault}
 use Rattle.netlist_store.specs.Numbering.{Stored, name_at, number_of, is_number, pin_numbered, IsNumbered}
 use Rattle.pin_graph.specs.Nodes.{node_at, node_bound, node_number, number_at, tran_under}
 use Rattle.timing_defs.proofs.Members.{some_is}

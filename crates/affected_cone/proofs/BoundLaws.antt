@@ -16,8 +16,8 @@ use Rattle.timing_defs.specs.declared.kinds.Tran.TheVariants.{Rise, Fall}
 use Rattle.timing_defs.specs.declared.library.CellPin.{CellPin}
 use Rattle.timing_defs.specs.declared.netlist.Inst.{Inst}
 use Rattle.timing_defs.specs.Netlist.{cell_of, cell_pins}
-use Rattle.timing_defs.specs.Cones.{Touch}
-use Rattle.timing_defs.specs.Tests.{data_split}
+use Rattle.timing_defs.specs.Touches.{Touch}
+use Rattle.timing_defs.specs.Kinds.{data_split}
 use Rattle.timing_defs.proofs.Members.{some_is, none_in, any_in, found_in, found_passes, in_filter_map_back}
 use Rattle.netlist_store.specs.Linked.{IsLinked}
 use Rattle.netlist_store.specs.Numbering.{Stored, name_at, is_number, inst_numbered, owner_number, IsNumbered}

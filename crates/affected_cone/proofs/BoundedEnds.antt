@@ -13,10 +13,13 @@ use Rattle.timing_defs.specs.declared.kinds.Kind.{Kind}
 use Rattle.timing_defs.specs.declared.kinds.Kind.TheVariants.{Setup, Hold}
 use Rattle.timing_defs.specs.declared.design.Design.{Design}
 use Rattle.timing_defs.specs.Netlist.{Pin, Node, name_of, same_tran}
-use Rattle.timing_defs.specs.Cones.{Touch, is_seed}
-use Rattle.timing_defs.specs.Paths.{node_named, IsSlack}
-use Rattle.timing_defs.specs.Rows.{arrival, empty_row, row, time_on, times_in}
-use Rattle.timing_defs.specs.Tests.{Test, data_split, tests_at}
+use Rattle.timing_defs.specs.Touches.{Touch}
+use Rattle.timing_rules.specs.Cones.{is_seed}
+use Rattle.timing_rules.specs.Paths.{node_named, IsSlack}
+use Rattle.timing_rules.specs.Rows.{arrival, empty_row, row}
+use Rattle.timing_defs.specs.RowTimes.{time_on, times_in}
+use Rattle.timing_rules.specs.Tests.{Test, tests_at}
+use Rattle.timing_defs.specs.Kinds.{data_split}
 use Rattle.timing_defs.proofs.Members.{some_is, found_in, found_passes}
 use Rattle.netlist_store.specs.Numbering.{name_at, number_of, IsNumbered}
 use Rattle.netlist_store.specs.Applying.{IsEditOf}

@@ -6,8 +6,8 @@ use Rattle.std.specs.List.{range_with_len}
 use Rattle.std.specs.Option.{option_map_or}
 use Rattle.std.proofs.lemmas.Bool.{false≢true}
 use Rattle.timing_defs.specs.Netlist.{Pin, name_of, pins, pin_named}
-use Rattle.timing_defs.specs.Tests.{is_endpoint}
-use Rattle.timing_defs.specs.Reports.{endpoints}
+use Rattle.timing_rules.specs.Tests.{is_endpoint}
+use Rattle.timing_rules.specs.Reports.{endpoints}
 use Rattle.netlist_store.specs.Linked.{IsLinked}
 use Rattle.netlist_store.specs.Numbering.{Stored, name_at, is_number, pin_numbered, IsNumbered}
 use Rattle.timing_defs.proofs.Members.{some_is, in_map, in_map_back, in_filter, passes_in, kept_in, number_in}

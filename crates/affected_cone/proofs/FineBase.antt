@@ -9,7 +9,7 @@ use Rattle.timing_defs.specs.declared.kinds.Split.TheVariants.{Early, Late}
 use Rattle.timing_defs.specs.declared.faults.Place.TheVariants.{Pin as at_pin}
 use Rattle.timing_defs.specs.declared.design.Design.{Design}
 use Rattle.timing_defs.specs.Netlist.{Node, name_of, nodes}
-use Rattle.timing_defs.specs.Range.{is_forward_origin, is_back_origin, is_node_origin, NoOrigin}
+use Rattle.timing_rules.specs.Range.{is_forward_origin, is_back_origin, is_node_origin, NoOrigin}
 use Rattle.pin_graph.specs.RowTables.{AreBacksFine}
 use Rattle.timing_defs.proofs.Members.{any_in}
 use Rattle.timing_defs.proofs.SameNames.{same_self}

@@ -4,8 +4,8 @@ use Rattle.std.proofs.Common.{◌≡◌, ℕ, true, List, sym, ap, subst, ◌∙
 use Rattle.std.specs.Prelude.{slice_get, Some}
 use Rattle.timing_defs.specs.declared.rows.NodeRow.{NodeRow}
 use Rattle.timing_defs.specs.declared.rows.BackRow.{BackRow}
-use Rattle.timing_defs.specs.Checks.{IsSound}
-use Rattle.timing_defs.specs.Range.{NoOrigin}
+use Rattle.timing_rules.specs.Checks.{IsSound}
+use Rattle.timing_rules.specs.Range.{NoOrigin}
 use Rattle.netlist_store.specs.Numbering.{Stored, IsNumbered}
 use Rattle.netlist_store.specs.Linked.{IsLinked}
 use Rattle.pin_graph.specs.Graphs.{Graphed, IsGraph}

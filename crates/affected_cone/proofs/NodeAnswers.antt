@@ -13,9 +13,9 @@ use Rattle.timing_defs.specs.declared.faults.QueryFault.TheVariants.{UnknownPin}
 use Rattle.timing_defs.specs.declared.design.Design.{Design}
 use Rattle.timing_defs.specs.declared.constraints.Clock.{Clock}
 use Rattle.timing_defs.specs.Netlist.{Node}
-use Rattle.timing_defs.specs.Rows.{row, empty_row, outermost, clock_edges, launch_edges}
-use Rattle.timing_defs.specs.Required.{back_row, empty_back, slack_on, graph_slack}
-use Rattle.timing_defs.specs.Reports.{unknown_pin, at_node, IsAt}
+use Rattle.timing_rules.specs.Rows.{row, empty_row, outermost, clock_edges, launch_edges}
+use Rattle.timing_rules.specs.Required.{back_row, empty_back, slack_on, graph_slack}
+use Rattle.timing_rules.specs.Reports.{unknown_pin, at_node, IsAt}
 use Rattle.netlist_store.specs.Numbering.{Stored}
 use Rattle.pin_graph.specs.Nodes.{node_at, node_bound}
 use Rattle.pin_graph.specs.RowTables.{AreRows, AreBackRows}

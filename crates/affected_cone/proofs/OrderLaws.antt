@@ -19,7 +19,7 @@ use Rattle.std.proofs.lemmas.Map.Lookups.{exact_bytes}
 use Rattle.timing_defs.specs.declared.kinds.Kind.{Kind}
 use Rattle.timing_defs.specs.declared.design.Design.{Design}
 use Rattle.timing_defs.specs.declared.reports.EndRow.{EndRow}
-use Rattle.timing_defs.specs.Reports.{goes_before, AreInOrder, IsEndRow, AreWorst}
+use Rattle.timing_rules.specs.Reports.{goes_before, AreInOrder, IsEndRow, AreWorst}
 use Rattle.affected_cone.proofs.MapLaws.{none_in}
 use Rattle.itertools.specs.Extremes.{IsKLeast}
 

@@ -6,7 +6,7 @@ use Rattle.std.specs.List.{range_with_len}
 use Rattle.sta_units.specs.declared.units.Fs.{Fs}
 use Rattle.timing_defs.specs.declared.kinds.Kind.{Kind}
 use Rattle.timing_defs.specs.declared.kinds.Kind.TheVariants.{Setup, Hold}
-use Rattle.timing_defs.specs.Paths.{IsSlack}
+use Rattle.timing_rules.specs.Paths.{IsSlack}
 use Rattle.netlist_store.specs.Numbering.{Stored, name_at}
 use Rattle.level_workers.specs.Mapped.{IsMap}
 use Rattle.timing_defs.proofs.Members.{some_is, first_in, later_in, passes_in}

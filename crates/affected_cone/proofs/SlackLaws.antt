@@ -5,8 +5,8 @@ use Rattle.std.specs.Prelude.{◌≤ℤ◌, Contains}
 use Rattle.std.proofs.lemmas.Int.{ints}
 use Rattle.timing_defs.specs.declared.kinds.Kind.{Kind}
 use Rattle.timing_defs.specs.declared.design.Design.{Design}
-use Rattle.timing_defs.specs.Tests.{Test}
-use Rattle.timing_defs.specs.Paths.{Named, ends_at, path_slacks, IsSlack}
+use Rattle.timing_rules.specs.Tests.{Test}
+use Rattle.timing_rules.specs.Paths.{Named, ends_at, path_slacks, IsSlack}
 
 none_within : {X : Type 0} (xs : List X) (x : X) → xs ≡ [] → Contains xs x → ⊥
 none_within xs x e c = let low = c.1 in let z : [] ≡ [] = ap (λ ys. ys) (sym e ∙ e) in gone (subst (λ ys. Contains ys x) e c)

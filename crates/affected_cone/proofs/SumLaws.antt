@@ -7,8 +7,8 @@ use Rattle.std.proofs.lemmas.Bool.{cases_Bool, eqb-true, eq-eqb}
 use Rattle.std.proofs.lemmas.Int.{ints, clamps}
 use Rattle.std.proofs.lemmas.List.Sums.{sum_by-cons}
 use Rattle.timing_defs.specs.declared.kinds.Split.TheVariants.{Early}
-use Rattle.timing_defs.specs.Rows.{outer_some}
-use Rattle.timing_defs.specs.Reports.{least_slack, negative_part, negative_sum, total_slack}
+use Rattle.timing_rules.specs.Rows.{outer_some}
+use Rattle.timing_rules.specs.Reports.{least_slack, negative_part, negative_sum, total_slack}
 use Rattle.affected_cone.specs.Floors.{lowered, floored}
 use Rattle.level_workers.specs.Mapped.{IsMap}
 

@@ -14,8 +14,9 @@ use Rattle.timing_defs.specs.declared.constraints.Clock.{Clock}
 use Rattle.timing_defs.specs.declared.rows.NodeRow.{NodeRow}
 use Rattle.timing_defs.specs.declared.rows.BackRow.{BackRow}
 use Rattle.timing_defs.specs.Netlist.{same_tran}
-use Rattle.timing_defs.specs.Rows.{time_on, outermost, clock_edges}
-use Rattle.timing_defs.specs.Range.{within_some}
+use Rattle.timing_defs.specs.RowTimes.{time_on}
+use Rattle.timing_rules.specs.Rows.{outermost, clock_edges}
+use Rattle.timing_rules.specs.Range.{within_some}
 use Rattle.node_rows.specs.Evaluation.{is_row_within}
 use Rattle.required_engine.specs.Worked.{is_back_within}
 

@@ -11,9 +11,9 @@ use Rattle.timing_defs.specs.declared.kinds.Kind.{Kind}
 use Rattle.timing_defs.specs.declared.kinds.Kind.TheVariants.{Setup, Hold}
 use Rattle.timing_defs.specs.declared.scripts.Totals.{Totals}
 use Rattle.timing_defs.specs.Netlist.{Pin, name_of, pins, is_listed, are_distinct}
-use Rattle.timing_defs.specs.Tests.{is_endpoint}
-use Rattle.timing_defs.specs.Reports.{AreSlacks, IsWns, IsTns, AreTotals, least_slack}
-use Rattle.timing_defs.specs.Rows.{as_fs}
+use Rattle.timing_rules.specs.Tests.{is_endpoint}
+use Rattle.timing_rules.specs.Reports.{AreSlacks, IsWns, IsTns, AreTotals, least_slack}
+use Rattle.timing_rules.specs.Rows.{as_fs}
 use Rattle.timing_defs.proofs.ListLemmas.{bool_iff}
 use Rattle.netlist_store.specs.Linked.{IsLinked}
 use Rattle.netlist_store.specs.Numbering.{Stored, name_at, number_of, IsNumbered}

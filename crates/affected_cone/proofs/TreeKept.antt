@@ -12,11 +12,12 @@ use Rattle.timing_defs.specs.declared.kinds.Split.TheVariants.{Early, Late}
 use Rattle.timing_defs.specs.declared.kinds.Tran.{Tran}
 use Rattle.timing_defs.specs.declared.design.Design.{Design}
 use Rattle.timing_defs.specs.Netlist.{Node, name_of, same_tran, pins}
-use Rattle.timing_defs.specs.Clocking.{is_network, is_clock_port}
-use Rattle.timing_defs.specs.Rows.{arcs_in, arrival, is_clock_at}
-use Rattle.timing_defs.specs.Tests.{first_edge, edge_of_port}
-use Rattle.timing_defs.specs.Cones.{Touch, has_register_arc}
-use Rattle.timing_defs.specs.Paths.{Named, named, node_named}
+use Rattle.timing_rules.specs.Clocking.{is_network, is_clock_port}
+use Rattle.timing_rules.specs.Rows.{arcs_in, arrival, is_clock_at}
+use Rattle.timing_rules.specs.Tests.{first_edge, edge_of_port}
+use Rattle.timing_defs.specs.Touches.{Touch}
+use Rattle.timing_rules.specs.Cones.{has_register_arc}
+use Rattle.timing_rules.specs.Paths.{Named, named, node_named}
 use Rattle.timing_defs.proofs.Members.{some_is, none_in, first_in, any_in, any_back}
 use Rattle.netlist_store.specs.Linked.{IsLinked}
 use Rattle.netlist_store.specs.Numbering.{name_at, IsNumbered}

@@ -4,8 +4,8 @@ use Rattle.std.proofs.Common.{◌≡◌, ℕ, true, Some, refl, arith, ap, ◌�
 use Rattle.std.specs.Prelude.{Contains}
 use Rattle.timing_defs.specs.declared.rows.NodeRow.{NodeRow}
 use Rattle.timing_defs.specs.Netlist.{Pin, Node, pins, nodes, both_nodes}
-use Rattle.timing_defs.specs.Rows.{row}
-use Rattle.timing_defs.specs.Range.{NoOrigin}
+use Rattle.timing_rules.specs.Rows.{row}
+use Rattle.timing_rules.specs.Range.{NoOrigin}
 use Rattle.netlist_store.specs.Numbering.{Stored, IsNumbered}
 use Rattle.netlist_store.specs.Linked.{IsLinked}
 use Rattle.node_rows.specs.Evaluation.{is_row_within}

@@ -9,8 +9,8 @@ use Rattle.std.proofs.lemmas.List.{get_or_default}
 use Rattle.timing_defs.specs.Netlist.{name_of}
 use Rattle.timing_defs.specs.declared.kinds.Kind.{Kind}
 use Rattle.timing_defs.specs.declared.reports.EndRow.{EndRow}
-use Rattle.timing_defs.specs.Paths.{IsSlack}
-use Rattle.timing_defs.specs.Reports.{goes_before, IsEndRow, AreWorst}
+use Rattle.timing_rules.specs.Paths.{IsSlack}
+use Rattle.timing_rules.specs.Reports.{goes_before, IsEndRow, AreWorst}
 use Rattle.netlist_store.specs.Linked.{IsLinked}
 use Rattle.netlist_store.specs.Numbering.{Stored, name_at, is_number, IsNumbered}
 use Rattle.itertools.specs.Extremes.{IsKLeast}

@@ -7,10 +7,10 @@ use Rattle.timing_defs.specs.declared.kinds.Kind.{Kind}
 use Rattle.timing_defs.specs.declared.kinds.Kind.TheVariants.{Setup, Hold}
 use Rattle.timing_defs.specs.declared.rows.NodeRow.{NodeRow}
 use Rattle.timing_defs.specs.declared.rows.BackRow.{BackRow}
-use Rattle.timing_defs.specs.Checks.{IsSound}
-use Rattle.timing_defs.specs.Range.{NoOrigin}
-use Rattle.timing_defs.specs.Tests.{is_endpoint}
-use Rattle.timing_defs.specs.Paths.{IsSlack}
+use Rattle.timing_rules.specs.Checks.{IsSound}
+use Rattle.timing_rules.specs.Range.{NoOrigin}
+use Rattle.timing_rules.specs.Tests.{is_endpoint}
+use Rattle.timing_rules.specs.Paths.{IsSlack}
 use Rattle.netlist_store.specs.Numbering.{Stored, name_at, pin_numbered, IsNumbered}
 use Rattle.netlist_store.specs.Linked.{IsLinked}
 use Rattle.level_workers.specs.Mapped.{IsMap}

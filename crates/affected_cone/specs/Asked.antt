@@ -6,7 +6,7 @@ use Rattle.timing_defs.specs.declared.kinds.Kind.{Kind}
 use Rattle.timing_defs.specs.declared.faults.QueryFault.{QueryFault}
 use Rattle.timing_defs.specs.declared.faults.QueryFault.TheVariants.{Memory}
 use Rattle.timing_defs.specs.Netlist.{Pin, pin_named}
-use Rattle.timing_defs.specs.Reports.{unknown_pin, endpoint_fault}
+use Rattle.timing_rules.specs.Reports.{unknown_pin, endpoint_fault}
 use Rattle.netlist_store.specs.Numbering.{Stored, name_at}
 use Rattle.pin_graph.specs.Nodes.{node_at, node_bound}
 use Rattle.affected_cone.specs.Analysed.{is_end}

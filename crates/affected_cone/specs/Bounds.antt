@@ -3,11 +3,11 @@
 use Rattle.std.specs.Prelude.{ℕ, ◌≡◌, ◌+◌, ◌*◌, ◌<ℤ◌, ◌&&◌, ◌||◌, ℤ, nat_eq, not, Bool, true, false, IfSome, List, Option, Some}
 use Rattle.timing_defs.specs.declared.kinds.Kind.{Kind}
 use Rattle.timing_defs.specs.declared.kinds.Tran.{Tran}
-use Rattle.timing_defs.specs.Cones.{Touch}
-use Rattle.timing_defs.specs.Paths.{IsSlack}
+use Rattle.timing_defs.specs.Touches.{Touch}
+use Rattle.timing_rules.specs.Paths.{IsSlack}
 use Rattle.timing_defs.specs.declared.kinds.Split.{Split}
-use Rattle.timing_defs.specs.Rows.{slew_in, times_in}
-use Rattle.timing_defs.specs.Tests.{data_split}
+use Rattle.timing_defs.specs.RowTimes.{slew_in, times_in}
+use Rattle.timing_defs.specs.Kinds.{data_split}
 use Rattle.netlist_store.specs.Numbering.{Stored, name_at, owner_number}
 use Rattle.netlist_store.specs.Applying.{IsEditOf}
 use Rattle.pin_graph.specs.RowTables.{row_numbered}

@@ -2,7 +2,7 @@
 
 use Rattle.std.specs.Prelude.{◌-◌, ◌^◌, ℤ, negsuc, ◌+ℤ◌, List, [], ◌∷◌, Option}
 use Rattle.std.specs.Int.{int_max}
-use Rattle.timing_defs.specs.Reports.{negative_part}
+use Rattle.timing_rules.specs.Reports.{negative_part}
 
 abbrev pub lowered : ℤ → ℤ → ℤ
 lowered total part = int_max (negsuc (2 ^ 63 - 2)) (total +ℤ part)

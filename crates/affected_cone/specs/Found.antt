@@ -2,7 +2,7 @@
 
 use Rattle.std.specs.Prelude.{ℕ, ◌≡◌, true, List, slice_get, Some}
 use Rattle.timing_defs.specs.declared.rows.BackRow.{BackRow}
-use Rattle.timing_defs.specs.Range.{NoOrigin}
+use Rattle.timing_rules.specs.Range.{NoOrigin}
 use Rattle.netlist_store.specs.Numbering.{Stored}
 use Rattle.level_workers.specs.Mapped.{IsMap}
 use Rattle.pin_graph.specs.Graphs.{Graphed}

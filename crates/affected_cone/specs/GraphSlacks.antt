@@ -6,8 +6,8 @@ use Rattle.timing_defs.specs.declared.kinds.Split.TheVariants.{Early, Late}
 use Rattle.timing_defs.specs.declared.kinds.Tran.{Tran}
 use Rattle.timing_defs.specs.declared.rows.NodeRow.{NodeRow}
 use Rattle.timing_defs.specs.declared.rows.BackRow.{BackRow}
-use Rattle.timing_defs.specs.Rows.{time_on}
-use Rattle.timing_defs.specs.Required.{less_some}
+use Rattle.timing_defs.specs.RowTimes.{time_on}
+use Rattle.timing_rules.specs.Required.{less_some}
 
 -- on a launch edge: required less arrival, or arrival less required
 abbrev pub slack_between : Split → NodeRow → BackRow → ℕ × Tran → Option ℤ

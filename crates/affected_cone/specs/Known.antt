@@ -5,8 +5,8 @@ use Rattle.timing_defs.specs.declared.kinds.Split.{Split}
 use Rattle.timing_defs.specs.declared.rows.BackRow.{BackRow}
 use Rattle.timing_defs.specs.declared.reports.Report.{Report}
 use Rattle.timing_defs.specs.Netlist.{Node}
-use Rattle.timing_defs.specs.Required.{graph_slack}
-use Rattle.timing_defs.specs.Reports.{fs_value}
+use Rattle.timing_rules.specs.Required.{graph_slack}
+use Rattle.timing_rules.specs.Reports.{fs_value}
 use Rattle.pin_graph.specs.Nodes.{node_at, node_bound}
 use Rattle.arc_delays.specs.Delays.{AreDelays}
 use Rattle.arrival_engine.specs.Analysed.{AreTables}

@@ -2,7 +2,7 @@
 
 use Rattle.std.specs.Prelude.{ℕ, ◌≡◌, Bool, false, List, Some, is_some}
 use Rattle.std.specs.List.{list_any}
-use Rattle.timing_defs.specs.Cones.{Touch}
+use Rattle.timing_defs.specs.Touches.{Touch}
 use Rattle.netlist_store.specs.Numbering.{Stored}
 use Rattle.level_workers.specs.Mapped.{IsMap}
 use Rattle.pin_graph.specs.Graphs.{Graphed, place_at}

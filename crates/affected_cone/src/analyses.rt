@@ -1,10 +1,11 @@
 //! The analysis of a store.
 
 ghost use Rattle.std.specs.Prelude.{◌≡◌, ◌+◌, ◌≤◌, ◌⊎◌, true, Some, IfOk, IfErr, OnOk};
-ghost use Rattle.timing_defs.specs.Checks.{IsSound};
-ghost use Rattle.timing_defs.specs.Cones.{forward_count, backward_count};
-ghost use Rattle.timing_defs.specs.Reports.{AreTotals, is_plain};
-ghost use Rattle.timing_defs.specs.Questions.{Told, query_fault};
+ghost use Rattle.timing_rules.specs.Checks.{IsSound};
+ghost use Rattle.timing_rules.specs.Cones.{forward_count, backward_count};
+ghost use Rattle.timing_rules.specs.Reports.{AreTotals};
+ghost use Rattle.timing_defs.specs.Documents.{is_plain};
+ghost use Rattle.timing_rules.specs.Questions.{Told, query_fault};
 ghost use Rattle.netlist_store.specs.Applying.{IsEditOf};
 ghost use Rattle.pin_graph.specs.RowTables.{IsRangeFault};
 ghost use Rattle.affected_cone.specs.Analysed.{IsAnalysis, IsSearch};

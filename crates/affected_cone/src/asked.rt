@@ -1,7 +1,7 @@
 //! Nodes and endpoints by the names in questions.
 
 ghost use Rattle.std.specs.Prelude.{◌≡◌, true, Some, IfOk, IfErr};
-ghost use Rattle.timing_defs.specs.Reports.{unknown_pin, endpoint_fault};
+ghost use Rattle.timing_rules.specs.Reports.{unknown_pin, endpoint_fault};
 ghost use Rattle.netlist_store.specs.Numbering.{name_at};
 ghost use Rattle.affected_cone.specs.Asked.{IsRefusal, IsNode, IsAskedPin, IsAskedEnd};
 

@@ -1,8 +1,9 @@
 //! The answers to questions.
 
 ghost use Rattle.std.specs.Prelude.{◌≡◌, true, pos, map, Some, IfOk, IfErr};
-ghost use Rattle.timing_defs.specs.Reports.{fs_value, is_plain};
-ghost use Rattle.timing_defs.specs.Questions.{Told, query_fault};
+ghost use Rattle.timing_rules.specs.Reports.{fs_value};
+ghost use Rattle.timing_defs.specs.Documents.{is_plain};
+ghost use Rattle.timing_rules.specs.Questions.{Told, query_fault};
 ghost use Rattle.affected_cone.specs.Analysed.{slack_in};
 ghost use Rattle.affected_cone.specs.Asked.{IsRefusal};
 ghost use Rattle.affected_cone.specs.Floors.{floored};

@@ -2,7 +2,7 @@
 
 ghost use Rattle.std.specs.Prelude.{◌≡◌, ◌<◌, ◌<ℤ◌, ◌^◌, ℤ, true, All, Some, IfOk, IfSome, option_map};
 ghost use Rattle.std.specs.List.{list_any};
-ghost use Rattle.timing_defs.specs.Rows.{slew_in};
+ghost use Rattle.timing_defs.specs.RowTimes.{slew_in};
 ghost use Rattle.netlist_store.specs.Numbering.{is_number};
 ghost use Rattle.netlist_store.specs.Applying.{IsEditOf};
 ghost use Rattle.pin_graph.specs.Nodes.{node_bound, pin_under};

@@ -2,8 +2,8 @@
 //! endpoints.
 
 ghost use Rattle.std.specs.Prelude.{◌≡◌, ◌≤◌, IfOk, IfErr};
-ghost use Rattle.timing_defs.specs.Checks.{IsSound};
-ghost use Rattle.timing_defs.specs.Range.{NoOrigin};
+ghost use Rattle.timing_rules.specs.Checks.{IsSound};
+ghost use Rattle.timing_rules.specs.Range.{NoOrigin};
 ghost use Rattle.level_workers.specs.Mapped.{IsMap};
 ghost use Rattle.pin_graph.specs.RowTables.{AreRowsFine, IsRangeFault};
 ghost use Rattle.path_search.specs.Trees.{IsClockTree};

@@ -1,9 +1,9 @@
 //! The graph slack of a node: the least over the launch edges that have an arrival and a required time.
 
 ghost use Rattle.std.specs.Prelude.{◌≡◌, ◌≤◌, ◌∷◌, [], true, None, length};
-ghost use Rattle.timing_defs.specs.Rows.{outermost, clock_edges};
-ghost use Rattle.timing_defs.specs.Required.{less_some};
-ghost use Rattle.timing_defs.specs.Range.{within_some};
+ghost use Rattle.timing_rules.specs.Rows.{outermost, clock_edges};
+ghost use Rattle.timing_rules.specs.Required.{less_some};
+ghost use Rattle.timing_rules.specs.Range.{within_some};
 ghost use Rattle.node_rows.specs.Evaluation.{is_row_within};
 ghost use Rattle.required_engine.specs.Worked.{is_back_within};
 ghost use Rattle.affected_cone.specs.GraphSlacks.{slack_between};

@@ -3,7 +3,7 @@
 ghost use Rattle.std.specs.Prelude.{◌≡◌, true, All, map, option_map, IfOk};
 ghost use Rattle.std.specs.Vec.Iter.{into_iter_items};
 ghost use Rattle.itertools.specs.Extremes.{IsKLeast, by_cmp};
-ghost use Rattle.timing_defs.specs.Reports.{goes_before};
+ghost use Rattle.timing_rules.specs.Reports.{goes_before};
 ghost use Rattle.netlist_store.specs.Numbering.{is_number};
 ghost use Rattle.affected_cone.specs.Ranks.{end_row, row_of, rows_of};
 

@@ -1,8 +1,8 @@
 //! The least slack and the sum of the negative slacks of endpoints.
 
 ghost use Rattle.std.specs.Prelude.{◌≡◌, ◌≤ℤ◌, pos, None, map};
-ghost use Rattle.timing_defs.specs.Rows.{outer_some, as_fs};
-ghost use Rattle.timing_defs.specs.Reports.{least_slack, negative_part};
+ghost use Rattle.timing_rules.specs.Rows.{outer_some, as_fs};
+ghost use Rattle.timing_rules.specs.Reports.{least_slack, negative_part};
 ghost use Rattle.affected_cone.specs.Analysed.{slack_in};
 ghost use Rattle.affected_cone.specs.Floors.{lowered, floored};
 

@@ -2,9 +2,9 @@
 //! tree, then the slacks of endpoints.
 
 ghost use Rattle.std.specs.Prelude.{◌≡◌, ◌+◌, ◌≤◌, IfOk, IfErr, OnOk};
-ghost use Rattle.timing_defs.specs.Checks.{IsSound};
-ghost use Rattle.timing_defs.specs.Range.{NoOrigin};
-ghost use Rattle.timing_defs.specs.Cones.{row_differs, forward_count, backward_count};
+ghost use Rattle.timing_rules.specs.Checks.{IsSound};
+ghost use Rattle.timing_rules.specs.Range.{NoOrigin};
+ghost use Rattle.timing_rules.specs.Cones.{row_differs, forward_count, backward_count};
 ghost use Rattle.netlist_store.specs.Applying.{IsEditOf};
 ghost use Rattle.pin_graph.specs.RowTables.{AreRowsFine, IsRangeFault};
 ghost use Rattle.path_search.specs.Trees.{IsClockTree};

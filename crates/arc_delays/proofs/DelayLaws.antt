@@ -6,7 +6,7 @@ use Rattle.timing_defs.specs.declared.kinds.Split.{Split}
 use Rattle.timing_defs.specs.declared.kinds.Tran.{Tran}
 use Rattle.timing_defs.specs.declared.kinds.Tran.TheVariants.{Rise, Fall}
 use Rattle.timing_defs.specs.Netlist.{Pin, Node, nodes, pins, both_nodes}
-use Rattle.timing_defs.specs.Rows.{row}
+use Rattle.timing_rules.specs.Rows.{row}
 use Rattle.netlist_store.specs.Linked.{IsLinked}
 use Rattle.netlist_store.specs.Numbering.{IsNumbered}
 use Rattle.node_rows.specs.Evaluation.{is_wide_along}

@@ -21,10 +21,11 @@ use Rattle.timing_defs.specs.declared.design.Design.{Design}
 use Rattle.timing_defs.specs.Lookup.{look}
 use Rattle.timing_defs.specs.Netlist.{Pin, Node, name_of, pins, nodes, both_nodes, net_of, driver, is_driver, is_listed}
 use Rattle.timing_defs.specs.Wires.{net_load, rc_of, sum_of, res_of, wire_delay, wire_slew}
-use Rattle.timing_defs.specs.Clocking.{driver_on, is_network}
-use Rattle.timing_defs.specs.Rows.{arcs_in, all_arcs_in, net_arcs_in, cell_arcs_in, library_arcs, load_at, net_name, outermost, slew_in, slew_along, slew_of, arrival_of, launch_edges, edge_time, as_fs, step, row, port_slew}
-use Rattle.timing_defs.specs.Range.{within_some, either_split, wires_within, net_wires_within, is_large_rc, is_net_origin, is_loaded, looked_within, is_forward_origin, is_back_origin, is_node_origin, NoOrigin}
-use Rattle.timing_defs.proofs.RowLaws.{ArePlacedNodes, row_is}
+use Rattle.timing_rules.specs.Clocking.{driver_on, is_network}
+use Rattle.timing_rules.specs.Rows.{arcs_in, all_arcs_in, net_arcs_in, cell_arcs_in, library_arcs, load_at, net_name, outermost, slew_along, slew_of, arrival_of, launch_edges, edge_time, as_fs, step, row, port_slew}
+use Rattle.timing_defs.specs.RowTimes.{slew_in}
+use Rattle.timing_rules.specs.Range.{within_some, either_split, wires_within, net_wires_within, is_large_rc, is_net_origin, is_loaded, looked_within, is_forward_origin, is_back_origin, is_node_origin, NoOrigin}
+use Rattle.timing_rules.proofs.RowLaws.{ArePlacedNodes, row_is}
 use Rattle.netlist_store.specs.Linked.{IsLinked}
 use Rattle.netlist_store.specs.Numbering.{Stored, IsNumbered}
 use Rattle.node_rows.specs.declared.pin_wires.Wires.{Wires}

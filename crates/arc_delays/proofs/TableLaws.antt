@@ -13,8 +13,9 @@ use Rattle.timing_defs.specs.declared.rows.NodeRow.{NodeRow}
 use Rattle.timing_defs.specs.Lookup.{look}
 use Rattle.timing_defs.specs.Netlist.{Node, is_driver}
 use Rattle.timing_defs.specs.Wires.{wire_delay}
-use Rattle.timing_defs.specs.Rows.{row, delay, delay_from, delay_along, raw_delay, scaled, slew_in, net_name, load_at, outermost, library_arcs}
-use Rattle.timing_defs.specs.Range.{within_some}
+use Rattle.timing_rules.specs.Rows.{row, delay, delay_from, delay_along, raw_delay, scaled, net_name, load_at, outermost, library_arcs}
+use Rattle.timing_defs.specs.RowTimes.{slew_in}
+use Rattle.timing_rules.specs.Range.{within_some}
 use Rattle.netlist_store.specs.Linked.{IsLinked}
 use Rattle.netlist_store.specs.Numbering.{Stored, IsNumbered}
 use Rattle.node_rows.specs.Evaluation.{scaled_over, is_wide_looked, is_wide_scaled, is_wide_end, is_wide_along}

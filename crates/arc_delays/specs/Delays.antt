@@ -6,7 +6,7 @@ use Rattle.timing_defs.specs.declared.kinds.Split.{Split}
 use Rattle.timing_defs.specs.declared.kinds.Split.TheVariants.{Early, Late}
 use Rattle.timing_defs.specs.declared.design.Design.{Design}
 use Rattle.timing_defs.specs.Netlist.{Node, nodes}
-use Rattle.timing_defs.specs.Rows.{arcs_in, row, delay}
+use Rattle.timing_rules.specs.Rows.{arcs_in, row, delay}
 use Rattle.netlist_store.specs.Numbering.{Stored}
 use Rattle.node_rows.specs.Evaluation.{is_row_within, is_wide_along}
 use Rattle.pin_graph.specs.declared.arcs.GraphArc.{GraphArc}

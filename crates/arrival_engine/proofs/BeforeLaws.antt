@@ -16,11 +16,11 @@ use Rattle.timing_defs.specs.declared.kinds.Split.TheVariants.{Early, Late}
 use Rattle.timing_defs.specs.declared.kinds.Tran.{Tran}
 use Rattle.timing_defs.specs.declared.kinds.Tran.TheVariants.{Rise, Fall}
 use Rattle.timing_defs.specs.Netlist.{Pin, Node, name_of, pins, nodes, both_nodes}
-use Rattle.timing_defs.specs.Clocking.{is_network}
-use Rattle.timing_defs.specs.Rows.{arcs_in, row, delay, delay_from, empty_row}
-use Rattle.timing_defs.specs.Range.{is_origin}
-use Rattle.timing_defs.specs.Cones.{has_register_arc}
-use Rattle.timing_defs.proofs.RowLaws.{row_is}
+use Rattle.timing_rules.specs.Clocking.{is_network}
+use Rattle.timing_rules.specs.Rows.{arcs_in, row, delay, delay_from, empty_row}
+use Rattle.timing_rules.specs.Range.{is_origin}
+use Rattle.timing_rules.specs.Cones.{has_register_arc}
+use Rattle.timing_rules.proofs.RowLaws.{row_is}
 use Rattle.netlist_store.specs.Linked.{IsLinked}
 use Rattle.netlist_store.specs.Numbering.{Stored, name_at, is_number, pin_numbered, IsNumbered}
 use Rattle.level_workers.specs.Mapped.{IsMap}

@@ -5,8 +5,9 @@ use Rattle.std.specs.Prelude.{Contains, is_some, option_and_then}
 use Rattle.timing_defs.specs.declared.kinds.Split.{Split}
 use Rattle.timing_defs.specs.declared.design.Design.{Design}
 use Rattle.timing_defs.specs.Netlist.{Node, name_of, pins}
-use Rattle.timing_defs.specs.Rows.{arcs_in, delay}
-use Rattle.timing_defs.specs.Cones.{Touch, has_register_arc, is_forward}
+use Rattle.timing_rules.specs.Rows.{arcs_in, delay}
+use Rattle.timing_defs.specs.Touches.{Touch}
+use Rattle.timing_rules.specs.Cones.{has_register_arc, is_forward}
 use Rattle.netlist_store.specs.Linked.{IsLinked}
 use Rattle.netlist_store.specs.Numbering.{Stored, number_of, IsNumbered}
 use Rattle.netlist_store.specs.Applying.{IsEditOf}

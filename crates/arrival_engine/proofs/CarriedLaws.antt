@@ -10,9 +10,9 @@ use Rattle.timing_defs.specs.declared.kinds.Split.TheVariants.{Early, Late}
 use Rattle.timing_defs.specs.declared.parasitics.NetRc.{NetRc}
 use Rattle.timing_defs.specs.Netlist.{Pin, Node, pins, net_of, is_driver}
 use Rattle.timing_defs.specs.Wires.{net_load, load_of, rc_of, wire_delay}
-use Rattle.timing_defs.specs.Clocking.{driver_on, is_network}
-use Rattle.timing_defs.specs.Rows.{arcs_in, all_arcs_in, net_arcs_in, net_name}
-use Rattle.timing_defs.specs.Range.{either_split, wires_within, net_wires_within, is_large_rc, is_net_origin, is_loaded}
+use Rattle.timing_rules.specs.Clocking.{driver_on, is_network}
+use Rattle.timing_rules.specs.Rows.{arcs_in, all_arcs_in, net_arcs_in, net_name}
+use Rattle.timing_rules.specs.Range.{either_split, wires_within, net_wires_within, is_large_rc, is_net_origin, is_loaded}
 use Rattle.netlist_store.specs.Linked.{IsLinked}
 use Rattle.netlist_store.specs.Numbering.{Stored, name_at, number_of, IsNumbered}
 use Rattle.node_rows.specs.declared.pin_wires.Wires.{Wires}

@@ -14,9 +14,10 @@ use Rattle.timing_defs.specs.declared.rows.NodeRow.{NodeRow}
 use Rattle.timing_defs.specs.declared.faults.Place.TheVariants.{Pin as at_pin}
 use Rattle.timing_defs.specs.declared.design.Design.{Design}
 use Rattle.timing_defs.specs.Netlist.{Node, nodes, name_of}
-use Rattle.timing_defs.specs.Rows.{arcs_in, slew, arrival, arrival_of, time_on, times_in, launch_edges, edge_time, row}
-use Rattle.timing_defs.specs.Range.{within_some, slew_inputs, fine_slew, arrival_inputs, fine_arrival, is_forward_origin, is_back_origin, is_node_origin, is_origin}
-use Rattle.timing_defs.proofs.RowLaws.{ArePlacedNodes, row_is, first_in, later_in}
+use Rattle.timing_rules.specs.Rows.{arcs_in, slew, arrival, arrival_of, launch_edges, edge_time, row}
+use Rattle.timing_defs.specs.RowTimes.{time_on, times_in}
+use Rattle.timing_rules.specs.Range.{within_some, slew_inputs, fine_slew, arrival_inputs, fine_arrival, is_forward_origin, is_back_origin, is_node_origin, is_origin}
+use Rattle.timing_rules.proofs.RowLaws.{ArePlacedNodes, row_is, first_in, later_in}
 use Rattle.node_rows.specs.Evaluation.{is_wide_in, is_wide, is_row_within}
 use Rattle.node_rows.proofs.FineLaws.{time_told, fine_slew_is, fine_arrival_is, IsFine, IsCarried, fine_more, wide_is_origin, no_origin}
 use Rattle.timing_defs.proofs.Members.{any_in}

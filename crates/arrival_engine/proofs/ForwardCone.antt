@@ -8,9 +8,10 @@ use Rattle.std.proofs.lemmas.Bool.{cases_Bool, true≢false}
 use Rattle.std.proofs.lemmas.List.{get_or_default}
 use Rattle.timing_defs.specs.declared.rows.NodeRow.{NodeRow}
 use Rattle.timing_defs.specs.Netlist.{Node, name_of}
-use Rattle.timing_defs.specs.Rows.{arcs_in, row, empty_row}
-use Rattle.timing_defs.specs.Paths.{named}
-use Rattle.timing_defs.specs.Cones.{Touch, same_row, row_differs, is_seed, is_forward}
+use Rattle.timing_rules.specs.Rows.{arcs_in, row, empty_row}
+use Rattle.timing_rules.specs.Paths.{named}
+use Rattle.timing_defs.specs.Touches.{Touch}
+use Rattle.timing_rules.specs.Cones.{same_row, row_differs, is_seed, is_forward}
 use Rattle.netlist_store.specs.Linked.{IsLinked}
 use Rattle.netlist_store.specs.Numbering.{Stored, number_of, IsNumbered}
 use Rattle.netlist_store.specs.Applying.{IsEditOf}
@@ -23,7 +24,7 @@ use Rattle.calm_laws.proofs.Forward.{has_calm, row_kept}
 use Rattle.pin_graph.specs.declared.arcs.GraphArc.{GraphArc}
 use Rattle.pin_graph.specs.Nodes.{node_at, node_bound, node_number}
 use Rattle.pin_graph.specs.Graphs.{Graphed, IsGraph, IsArc, fan_at, level_at, of_node, kind_between}
-use Rattle.timing_defs.specs.Cones.{has_register_arc}
+use Rattle.timing_rules.specs.Cones.{has_register_arc}
 use Rattle.levelizer.specs.Levels.{greatest}
 use Rattle.pin_graph.specs.RowTables.{row_numbered}
 use Rattle.std.proofs.Math.Nat.{le-max_left, le-max_right}

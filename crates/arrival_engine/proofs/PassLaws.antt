@@ -14,7 +14,7 @@ use Rattle.timing_defs.specs.declared.faults.Fault.TheVariants as fault
 use Rattle.timing_defs.specs.declared.faults.Place.TheVariants.{Pin as at_pin, Net as at_net}
 use Rattle.timing_defs.specs.declared.rows.NodeRow.{NodeRow}
 use Rattle.timing_defs.specs.Netlist.{Pin, Node, pins, both_nodes}
-use Rattle.timing_defs.specs.Range.{is_net_origin}
+use Rattle.timing_rules.specs.Range.{is_net_origin}
 use Rattle.netlist_store.specs.Linked.{IsLinked}
 use Rattle.netlist_store.specs.Numbering.{Stored, number_of, IsNumbered}
 use Rattle.level_workers.specs.Mapped.{IsMap}

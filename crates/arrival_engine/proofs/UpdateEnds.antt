@@ -10,8 +10,9 @@ use Rattle.std.proofs.lemmas.List.FromFn.{length-range_with_len, get_or-range_wi
 use Rattle.std.proofs.Common.{zero-add}
 use Rattle.timing_defs.specs.declared.rows.NodeRow.{NodeRow}
 use Rattle.timing_defs.specs.Netlist.{Node, nodes}
-use Rattle.timing_defs.specs.Rows.{arcs_in, empty_row}
-use Rattle.timing_defs.specs.Cones.{Touch, row_differs, is_seed, is_forward, forward_count}
+use Rattle.timing_rules.specs.Rows.{arcs_in, empty_row}
+use Rattle.timing_defs.specs.Touches.{Touch}
+use Rattle.timing_rules.specs.Cones.{row_differs, is_seed, is_forward, forward_count}
 use Rattle.timing_defs.proofs.ListLemmas.{count_by_agree}
 use Rattle.netlist_store.specs.Linked.{IsLinked}
 use Rattle.netlist_store.specs.Numbering.{Stored, IsNumbered}

@@ -10,9 +10,10 @@ use Rattle.std.proofs.lemmas.List.Folds.{list_any_at}
 use Rattle.timing_defs.specs.declared.kinds.Tran.{Tran}
 use Rattle.timing_defs.specs.declared.rows.NodeRow.{NodeRow}
 use Rattle.timing_defs.specs.Netlist.{Pin, Node, name_of, pin_named}
-use Rattle.timing_defs.specs.Rows.{row, empty_row}
-use Rattle.timing_defs.specs.Paths.{named, node_named}
-use Rattle.timing_defs.specs.Cones.{Touch, same_row, row_differs, is_seed}
+use Rattle.timing_rules.specs.Rows.{row, empty_row}
+use Rattle.timing_rules.specs.Paths.{named, node_named}
+use Rattle.timing_defs.specs.Touches.{Touch}
+use Rattle.timing_rules.specs.Cones.{same_row, row_differs, is_seed}
 use Rattle.netlist_store.specs.Linked.{IsLinked}
 use Rattle.netlist_store.specs.Numbering.{Stored, name_at, number_of, is_number, pin_numbered, IsNumbered, KeepsNumbers}
 use Rattle.eco_laws.proofs.EditOf.{base_linked, edited_linked, numbers_kept}

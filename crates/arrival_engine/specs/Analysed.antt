@@ -11,8 +11,8 @@ use Rattle.timing_defs.specs.declared.faults.Fault.{Fault}
 use Rattle.timing_defs.specs.declared.faults.Fault.TheVariants.{OutOfRange, Memory as no_room}
 use Rattle.timing_defs.specs.declared.faults.Place.TheVariants.{Pin as at_pin}
 use Rattle.timing_defs.specs.Netlist.{Node}
-use Rattle.timing_defs.specs.Rows.{launch_edges, empty_row}
-use Rattle.timing_defs.specs.Range.{is_origin, fine_slew, fine_arrival, is_forward_origin}
+use Rattle.timing_rules.specs.Rows.{launch_edges, empty_row}
+use Rattle.timing_rules.specs.Range.{is_origin, fine_slew, fine_arrival, is_forward_origin}
 use Rattle.netlist_store.specs.Numbering.{Stored, name_at, is_number}
 use Rattle.node_rows.specs.declared.delays.BothDelays.{BothDelays}
 use Rattle.node_rows.specs.declared.settings.NodeAt.{NodeAt}

@@ -4,8 +4,9 @@ use Rattle.std.specs.Prelude.{ℕ, ◌≡◌, ◌<◌, ◌||◌, ◌&&◌, nat_l
 use Rattle.std.specs.Arc.{arc_value}
 use Rattle.timing_defs.specs.declared.rows.NodeRow.{NodeRow}
 use Rattle.timing_defs.specs.Netlist.{Node}
-use Rattle.timing_defs.specs.Rows.{empty_row}
-use Rattle.timing_defs.specs.Cones.{Touch, same_row, is_seed, row_differs}
+use Rattle.timing_rules.specs.Rows.{empty_row}
+use Rattle.timing_defs.specs.Touches.{Touch}
+use Rattle.timing_rules.specs.Cones.{same_row, is_seed, row_differs}
 use Rattle.netlist_store.specs.Numbering.{Stored, is_number}
 use Rattle.level_workers.specs.Mapped.{IsMap}
 use Rattle.level_cone.specs.Cone.{Cone, put_all}

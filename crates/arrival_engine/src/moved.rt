@@ -1,7 +1,7 @@
 //! The nodes whose row after an ECO is another than the base's.
 
 ghost use Rattle.std.specs.Prelude.{◌≡◌, ◌++◌, ◌<◌, length, filter, if◌then◌else◌, [], ◌∷◌, IfOk, OnOk};
-ghost use Rattle.timing_defs.specs.Cones.{row_differs};
+ghost use Rattle.timing_rules.specs.Cones.{row_differs};
 ghost use Rattle.netlist_store.specs.Applying.{IsEditOf};
 ghost use Rattle.pin_graph.specs.Graphs.{of_node};
 ghost use Rattle.pin_graph.specs.RowTables.{AreRows};

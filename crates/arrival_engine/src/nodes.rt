@@ -1,8 +1,8 @@
 //! The evaluation of one node.
 
 ghost use Rattle.std.specs.Prelude.{ℕ, ◌≡◌, ◌+◌, ◌<◌, [], true, false, All, length, IfOk, IfErr};
-ghost use Rattle.timing_defs.specs.Checks.{IsSound};
-ghost use Rattle.timing_defs.specs.Rows.{empty_row};
+ghost use Rattle.timing_rules.specs.Checks.{IsSound};
+ghost use Rattle.timing_rules.specs.Rows.{empty_row};
 ghost use Rattle.netlist_store.specs.Numbering.{is_number};
 ghost use Rattle.level_workers.specs.Mapped.{IsMap};
 ghost use Rattle.pin_graph.specs.Nodes.{node_bound, pin_under};

@@ -5,9 +5,9 @@ ghost use Rattle.std.specs.Prelude.{ℕ, ◌≡◌, ◌+◌, ◌<◌, ◌≤◌,
 ghost use Rattle.std.specs.List.{list_any};
 ghost use Rattle.std.specs.Arc.{arc_value};
 ghost use Rattle.std.specs.Cmp.Lexicographic.{pointwise};
-ghost use Rattle.timing_defs.specs.Cones.{same_row, same_time, forward_count};
-ghost use Rattle.timing_defs.specs.Checks.{IsSound};
-ghost use Rattle.timing_defs.specs.Rows.{empty_row};
+ghost use Rattle.timing_rules.specs.Cones.{same_row, same_time, forward_count};
+ghost use Rattle.timing_rules.specs.Checks.{IsSound};
+ghost use Rattle.timing_rules.specs.Rows.{empty_row};
 ghost use Rattle.netlist_store.specs.Applying.{IsEditOf};
 ghost use Rattle.netlist_store.specs.Numbering.{is_number};
 ghost use Rattle.level_workers.specs.Mapped.{IsMap};

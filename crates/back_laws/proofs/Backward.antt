@@ -12,14 +12,18 @@ use Rattle.timing_defs.specs.declared.rows.NodeRow.{NodeRow}
 use Rattle.timing_defs.specs.declared.rows.BackRow.{BackRow}
 use Rattle.timing_defs.specs.declared.design.Design.{Design}
 use Rattle.timing_defs.specs.Netlist.{Node, pins, nodes}
-use Rattle.timing_defs.specs.Rows.{launch_edges, time_on, times_in, row}
-use Rattle.timing_defs.specs.Checks.{clock_not_tree}
-use Rattle.timing_defs.specs.Tests.{tests_at, is_endpoint}
-use Rattle.timing_defs.specs.Required.{kind_of, arcs_out, back_times, back_row, required}
-use Rattle.timing_defs.specs.Range.{within_some, fine_delay, fine_test, required_inputs, fine_required_within, fine_required, fine_slew, is_required_origin, is_need_origin, is_back_origin}
-use Rattle.timing_defs.specs.Paths.{named, node_named}
-use Rattle.timing_defs.specs.Cones.{Touch, same_back, is_seed, row_differs, back_differs, leads_to_seed, has_changed_clock, is_backward}
-use Rattle.timing_defs.proofs.RowLaws.{back_is, stable}
+use Rattle.timing_rules.specs.Rows.{launch_edges, row}
+use Rattle.timing_defs.specs.RowTimes.{time_on, times_in}
+use Rattle.timing_rules.specs.Checks.{clock_not_tree}
+use Rattle.timing_rules.specs.Tests.{tests_at, is_endpoint}
+use Rattle.timing_defs.specs.Kinds.{kind_of}
+use Rattle.timing_rules.specs.Required.{arcs_out, back_row, required}
+use Rattle.timing_defs.specs.RowTimes.{back_times}
+use Rattle.timing_rules.specs.Range.{within_some, fine_delay, fine_test, required_inputs, fine_required_within, fine_required, fine_slew, is_required_origin, is_need_origin, is_back_origin}
+use Rattle.timing_rules.specs.Paths.{named, node_named}
+use Rattle.timing_defs.specs.Touches.{Touch}
+use Rattle.timing_rules.specs.Cones.{same_back, is_seed, row_differs, back_differs, leads_to_seed, has_changed_clock, is_backward}
+use Rattle.timing_rules.proofs.RowLaws.{back_is, stable}
 use Rattle.timing_defs.proofs.Members.{first_in, later_in, any_in}
 use Rattle.netlist_store.specs.Numbering.{Stored}
 use Rattle.netlist_store.specs.Applying.{IsEditOf}

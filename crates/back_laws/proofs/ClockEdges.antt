@@ -15,11 +15,12 @@ use Rattle.timing_defs.specs.declared.netlist.Inst.{Inst}
 use Rattle.timing_defs.specs.declared.rows.NodeRow.{NodeRow}
 use Rattle.timing_defs.specs.declared.design.Design.{Design}
 use Rattle.timing_defs.specs.Netlist.{Node, same_dir, same_tran, drives_as, is_driver, net_of, pins, nodes}
-use Rattle.timing_defs.specs.Clocking.{is_network, is_clock_port, port_has_clock, pins_before, comb_before, driver_on, from_clock, to_register}
-use Rattle.timing_defs.specs.Rows.{arcs_in, outermost, is_input_port, start_at, is_clock_at, input_delay, launch_edges, time_on, times_in, plus_some, delay_from, delay, arrival, arrival_of, arrivals_of, row, step}
-use Rattle.timing_defs.specs.Checks.{clock_not_tree}
-use Rattle.timing_defs.specs.Tests.{network_walk, first_edge}
-use Rattle.timing_defs.proofs.RowLaws.{ArePlacedNodes, row_is}
+use Rattle.timing_rules.specs.Clocking.{is_network, is_clock_port, port_has_clock, pins_before, comb_before, driver_on, from_clock, to_register}
+use Rattle.timing_rules.specs.Rows.{arcs_in, outermost, is_input_port, start_at, is_clock_at, input_delay, launch_edges, delay_from, delay, arrival, arrival_of, arrivals_of, row, step}
+use Rattle.timing_defs.specs.RowTimes.{time_on, times_in, plus_some}
+use Rattle.timing_rules.specs.Checks.{clock_not_tree}
+use Rattle.timing_rules.specs.Tests.{network_walk, first_edge}
+use Rattle.timing_rules.proofs.RowLaws.{ArePlacedNodes, row_is}
 use Rattle.timing_defs.proofs.Members.{first_in, later_in, none_in, in_cases, found_some}
 use Rattle.node_rows.proofs.FineLaws.{time_told}
 use Rattle.node_rows.proofs.MergeLaws.{outermost_same}

@@ -20,13 +20,16 @@ use Rattle.timing_defs.specs.declared.rows.NodeRow.{NodeRow}
 use Rattle.timing_defs.specs.declared.design.Design.{Design}
 use Rattle.timing_defs.specs.Lookup.{look}
 use Rattle.timing_defs.specs.Netlist.{Node, same_tran, same_split, port_pin, cell_of, cell_pin, cell_pins, inst_pins, pins, both_nodes, nodes, is_driver}
-use Rattle.timing_defs.specs.Clocking.{is_network, cell_tests}
-use Rattle.timing_defs.specs.Rows.{outermost, launch_edges, is_clock_at, slew, slew_in, arrival, time_on, times_in, row}
-use Rattle.timing_defs.specs.Checks.{clock_not_tree}
+use Rattle.timing_rules.specs.Clocking.{is_network, cell_tests}
+use Rattle.timing_rules.specs.Rows.{outermost, launch_edges, is_clock_at, slew, arrival, row}
+use Rattle.timing_defs.specs.RowTimes.{slew_in, time_on, times_in}
+use Rattle.timing_rules.specs.Checks.{clock_not_tree}
 use Rattle.timing_defs.specs.Edits.{same_test}
-use Rattle.timing_defs.specs.Tests.{Test, data_split, clock_split, same_kind, network_walk, first_edge, is_test_of, library_tests, need_at, test_on, test_along, register_tests, output_test, port_tests, tests_at, tests_pin, is_endpoint}
-use Rattle.timing_defs.specs.Range.{fine_slew, need_within, is_need_origin_at, is_need_origin}
-use Rattle.timing_defs.specs.Cones.{Touch, is_seed, row_differs, tests_by, is_tested_by, has_changed_clock}
+use Rattle.timing_rules.specs.Tests.{Test, network_walk, first_edge, is_test_of, library_tests, need_at, test_on, test_along, register_tests, output_test, port_tests, tests_at, tests_pin, is_endpoint}
+use Rattle.timing_defs.specs.Kinds.{data_split, clock_split, same_kind}
+use Rattle.timing_rules.specs.Range.{fine_slew, need_within, is_need_origin_at, is_need_origin}
+use Rattle.timing_defs.specs.Touches.{Touch}
+use Rattle.timing_rules.specs.Cones.{is_seed, row_differs, tests_by, is_tested_by, has_changed_clock}
 use Rattle.timing_defs.proofs.SameNames.{same_is, same_self}
 use Rattle.timing_defs.proofs.Members.{first_in, later_in, in_map, in_flat_map, passes_in, kept_in, any_in, any_back, all_in, found_in}
 use Rattle.netlist_store.specs.Numbering.{Stored}

@@ -9,8 +9,8 @@ use Rattle.timing_defs.specs.declared.kinds.Split.{Split}
 use Rattle.timing_defs.specs.declared.kinds.Split.TheVariants.{Early, Late}
 use Rattle.timing_defs.specs.declared.kinds.Tran.{Tran}
 use Rattle.timing_defs.specs.declared.design.Design.{Design}
-use Rattle.timing_defs.specs.Rows.{plus_some}
-use Rattle.timing_defs.specs.Paths.{Named, delay_between, walk_delay, last_of, start_of}
+use Rattle.timing_defs.specs.RowTimes.{plus_some}
+use Rattle.timing_rules.specs.Paths.{Named, delay_between, walk_delay, last_of, start_of}
 use Rattle.timing_defs.proofs.Members.{some_is}
 use Rattle.bounded_changes.specs.Agreed.{Steps, steps_agreed}
 use Rattle.bounded_changes.specs.Carried.{IsBeyond, arrival_named, AreArrivals, AreCarried}

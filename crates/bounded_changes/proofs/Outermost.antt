@@ -5,7 +5,7 @@ use Rattle.std.specs.List.{Contains}
 use Rattle.std.proofs.lemmas.Int.{ints, clamps}
 use Rattle.timing_defs.specs.declared.kinds.Split.{Split}
 use Rattle.timing_defs.specs.declared.kinds.Split.TheVariants.{Early, Late}
-use Rattle.timing_defs.specs.Rows.{outer_some, outermost}
+use Rattle.timing_rules.specs.Rows.{outer_some, outermost}
 use Rattle.timing_defs.proofs.Members.{none_in, in_cases}
 use Rattle.bounded_changes.specs.Carried.{IsBeyond}
 

@@ -14,10 +14,11 @@ use Rattle.timing_defs.specs.declared.kinds.Kind.{Kind}
 use Rattle.timing_defs.specs.declared.kinds.Kind.TheVariants.{Setup, Hold}
 use Rattle.timing_defs.specs.declared.design.Design.{Design}
 use Rattle.timing_defs.specs.Netlist.{same_tran}
-use Rattle.timing_defs.specs.Rows.{plus_some}
-use Rattle.timing_defs.specs.Rules.{is_tested}
-use Rattle.timing_defs.specs.Tests.{Test, data_split, uncertainty_on}
-use Rattle.timing_defs.specs.Paths.{Named, named, same_named, walk_delay, last_of, start_of, is_network_named, launch_node, launch_of, capture_of, owner_named, last_common, spread_at, credit, moved, slack_by, slack_of, tests_path, slacks_from, path_slacks, ends_at, IsSlack}
+use Rattle.timing_defs.specs.RowTimes.{plus_some}
+use Rattle.timing_rules.specs.Rules.{is_tested}
+use Rattle.timing_rules.specs.Tests.{Test, uncertainty_on}
+use Rattle.timing_defs.specs.Kinds.{data_split}
+use Rattle.timing_rules.specs.Paths.{Named, named, same_named, walk_delay, last_of, start_of, is_network_named, launch_node, launch_of, capture_of, owner_named, last_common, spread_at, credit, moved, slack_by, slack_of, tests_path, slacks_from, path_slacks, ends_at, IsSlack}
 use Rattle.timing_defs.proofs.SameNames.{same_is}
 use Rattle.timing_defs.proofs.Members.{none_in, in_cases, first_in, later_in, some_is}
 use Rattle.bounded_changes.specs.Agreed.{Steps, steps_agreed, AreAgreed, tests_of, IsKeptTest, AreKeptTests, IsKeptEnd, AreGreater}

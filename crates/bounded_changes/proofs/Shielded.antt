@@ -11,8 +11,9 @@ use Rattle.timing_defs.specs.declared.kinds.Kind.TheVariants.{Setup, Hold}
 use Rattle.timing_defs.specs.declared.rows.Launch.{Launch}
 use Rattle.timing_defs.specs.declared.rows.Capture.{Capture}
 use Rattle.timing_defs.specs.declared.design.Design.{Design}
-use Rattle.timing_defs.specs.Tests.{Test, data_split, uncertainty_on}
-use Rattle.timing_defs.specs.Paths.{Named, named, walk_delay, last_of, start_of, launch_of, capture_of, last_common, spread_at, credit, moved, slack_by, slack_of, tests_path, slacks_from, path_slacks, IsSlack}
+use Rattle.timing_rules.specs.Tests.{Test, uncertainty_on}
+use Rattle.timing_defs.specs.Kinds.{data_split}
+use Rattle.timing_rules.specs.Paths.{Named, named, walk_delay, last_of, start_of, launch_of, capture_of, last_common, spread_at, credit, moved, slack_by, slack_of, tests_path, slacks_from, path_slacks, IsSlack}
 use Rattle.timing_defs.proofs.SameNames.{same_is}
 use Rattle.timing_defs.proofs.Members.{none_in, in_cases, first_in, later_in, in_map_back, kept_in}
 use Rattle.bounded_changes.specs.Agreed.{Steps, AreAgreed, tests_of, IsKeptTest, AreKeptTests, IsKeptEnd, AreGreater}

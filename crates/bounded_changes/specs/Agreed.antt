@@ -6,8 +6,8 @@ use Rattle.timing_defs.specs.declared.kinds.Split.{Split}
 use Rattle.timing_defs.specs.declared.kinds.Tran.{Tran}
 use Rattle.timing_defs.specs.declared.kinds.Kind.{Kind}
 use Rattle.timing_defs.specs.declared.design.Design.{Design}
-use Rattle.timing_defs.specs.Tests.{Test, tests_at}
-use Rattle.timing_defs.specs.Paths.{Named, named, node_named, delay_between, start_of, is_network_named, owner_named, spread_at, ends_at, path_slacks}
+use Rattle.timing_rules.specs.Tests.{Test, tests_at}
+use Rattle.timing_rules.specs.Paths.{Named, named, node_named, delay_between, start_of, is_network_named, owner_named, spread_at, ends_at, path_slacks}
 
 -- whether a step is agreed on: from a node to the next, or from nothing to the node at which a path starts
 abbrev pub Steps : Type 0

@@ -9,9 +9,10 @@ use Rattle.timing_defs.specs.declared.kinds.Kind.TheVariants.{Setup, Hold}
 use Rattle.timing_defs.specs.declared.rows.Launch.{Launch}
 use Rattle.timing_defs.specs.declared.rows.Capture.{Capture}
 use Rattle.timing_defs.specs.declared.design.Design.{Design}
-use Rattle.timing_defs.specs.Rows.{arrival}
-use Rattle.timing_defs.specs.Tests.{Test, data_split, uncertainty_on}
-use Rattle.timing_defs.specs.Paths.{Named, named, node_named, delay_between, start_of, spread_at, moved, slack_by}
+use Rattle.timing_rules.specs.Rows.{arrival}
+use Rattle.timing_rules.specs.Tests.{Test, uncertainty_on}
+use Rattle.timing_defs.specs.Kinds.{data_split}
+use Rattle.timing_rules.specs.Paths.{Named, named, node_named, delay_between, start_of, spread_at, moved, slack_by}
 use Rattle.bounded_changes.specs.Agreed.{Steps, tests_of}
 
 -- a time is there, and beyond another: no less of late ones, no greater of early ones

@@ -9,7 +9,7 @@ use Rattle.sta_units.specs.Numbers.{Within}
 use Rattle.timing_defs.specs.declared.kinds.Tran.{Tran}
 use Rattle.timing_defs.specs.declared.edge_times.EdgeTime.{EdgeTime}
 use Rattle.timing_defs.specs.Netlist.{same_tran}
-use Rattle.timing_defs.specs.Rows.{time_on}
+use Rattle.timing_defs.specs.RowTimes.{time_on}
 use Rattle.worst_walks.specs.declared.cones.WalkArc.{WalkArc}
 use Rattle.bounded_slack.specs.Nets.{Net, arcs_into, lesser, IsAtMost, IsNet}
 use Rattle.bounded_slack.specs.Rows.{edge_in, room_on, least_room, IsAtLeast, IsLater, IsOffered, IsByRows}

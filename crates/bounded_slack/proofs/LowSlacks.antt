@@ -14,10 +14,10 @@ use Rattle.timing_defs.specs.declared.constraints.Clock.{Clock}
 use Rattle.timing_defs.specs.declared.design.Design.{Design}
 use Rattle.timing_defs.specs.declared.rows.Launch.{Launch}
 use Rattle.timing_defs.specs.declared.rows.Capture.{Capture}
-use Rattle.timing_defs.specs.Rows.{outer_some, outermost}
-use Rattle.timing_defs.specs.Tests.{Test, separation_on, uncertainty_on}
-use Rattle.timing_defs.specs.Rules.{cycles, with_cycles}
-use Rattle.timing_defs.specs.Paths.{moved, slack_by}
+use Rattle.timing_rules.specs.Rows.{outer_some, outermost}
+use Rattle.timing_rules.specs.Tests.{Test, separation_on, uncertainty_on}
+use Rattle.timing_rules.specs.Rules.{cycles, with_cycles}
+use Rattle.timing_rules.specs.Paths.{moved, slack_by}
 use Rattle.bounded_slack.specs.Nets.{IsAtMost}
 use Rattle.bounded_slack.specs.Rows.{signed}
 use Rattle.bounded_slack.specs.Lowest.{AreLow, ArePeriods, moved_by, low_slack}

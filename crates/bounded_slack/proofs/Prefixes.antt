@@ -7,7 +7,7 @@ use Rattle.std.proofs.lemmas.Int.{ints}
 use Rattle.std.proofs.lemmas.List.Elements.{All-head, All-tail}
 use Rattle.std.proofs.lemmas.Option.{none-some, same_Some}
 use Rattle.sta_units.specs.Numbers.{Within}
-use Rattle.timing_defs.specs.Rows.{plus_some}
+use Rattle.timing_defs.specs.RowTimes.{plus_some}
 use Rattle.worst_walks.specs.declared.cones.WalkArc.{WalkArc}
 use Rattle.worst_walks.specs.Walks.{delay_in}
 use Rattle.bounded_slack.specs.Nets.{Net, count_of, end_of, level_of, place_of, arcs_into, offer_of, bound_of, delay_between, sum_to, minus_some, lesser, walk_slack, IsAtMost, IsShape, IsNet}

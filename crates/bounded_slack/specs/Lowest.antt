@@ -7,9 +7,9 @@ use Rattle.timing_defs.specs.declared.kinds.Kind.TheVariants.{Setup, Hold}
 use Rattle.timing_defs.specs.declared.kinds.Tran.{Tran}
 use Rattle.timing_defs.specs.declared.constraints.Clock.{Clock}
 use Rattle.timing_defs.specs.declared.design.Design.{Design}
-use Rattle.timing_defs.specs.Tests.{Test, separation_on, uncertainty_on, on_clocks}
-use Rattle.timing_defs.specs.Rules.{with_cycles}
-use Rattle.timing_defs.specs.Paths.{slack_by}
+use Rattle.timing_rules.specs.Tests.{Test, separation_on, uncertainty_on, on_clocks}
+use Rattle.timing_rules.specs.Rules.{with_cycles}
+use Rattle.timing_rules.specs.Paths.{slack_by}
 
 -- cycles of setup and hold that give no greater slack than others: no more setup cycles for setup, no
 -- fewer setup and no more hold cycles for hold

@@ -6,7 +6,7 @@ use Rattle.timing_defs.specs.declared.kinds.Kind.{Kind}
 use Rattle.timing_defs.specs.declared.kinds.Kind.TheVariants.{Setup, Hold}
 use Rattle.timing_defs.specs.declared.kinds.Tran.{Tran}
 use Rattle.timing_defs.specs.declared.edge_times.EdgeTime.{EdgeTime}
-use Rattle.timing_defs.specs.Rows.{time_on}
+use Rattle.timing_defs.specs.RowTimes.{time_on}
 use Rattle.worst_walks.specs.declared.cones.WalkArc.{WalkArc}
 use Rattle.bounded_slack.specs.Nets.{Net, count_of, arcs_into, offer_of, bound_of, minus_some, lesser, IsShape}
 

@@ -18,8 +18,8 @@ use Rattle.timing_defs.specs.declared.constraints.PortSlew.{PortSlew}
 use Rattle.timing_defs.specs.declared.netlist.Inst.{Inst}
 use Rattle.timing_defs.specs.declared.design.Design.{Design}
 use Rattle.timing_defs.specs.Netlist.{Pin, Node, name_of, full_name, same_dir, same_split, same_tran, drives_as, is_driver, library_of, cell_of, cell_named}
-use Rattle.timing_defs.specs.Clocking.{port_has_clock, is_clock_port}
-use Rattle.timing_defs.specs.Rows.{is_input_port, port_slew, start_at, is_clock_at, launch_edges, clock_edges}
+use Rattle.timing_rules.specs.Clocking.{port_has_clock, is_clock_port}
+use Rattle.timing_rules.specs.Rows.{is_input_port, port_slew, start_at, is_clock_at, launch_edges, clock_edges}
 use Rattle.timing_defs.proofs.Members.{some_is}
 use Rattle.netlist_store.proofs.SeenPins.{Seen, seen_owner}
 use Rattle.netlist_store.proofs.Untouched.{IsFramed}

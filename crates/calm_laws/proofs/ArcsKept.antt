@@ -12,10 +12,11 @@ use Rattle.timing_defs.specs.declared.library.CellPin.{CellPin}
 use Rattle.timing_defs.specs.declared.netlist.Inst.{Inst}
 use Rattle.timing_defs.specs.declared.design.Design.{Design}
 use Rattle.timing_defs.specs.Netlist.{Pin, Node, same_tran, cell_of, cell_pins, net_of, driver, is_driver}
-use Rattle.timing_defs.specs.Clocking.{is_comb, driver_on}
-use Rattle.timing_defs.specs.Rows.{arcs_in, library_arcs}
-use Rattle.timing_defs.specs.Cones.{same_truth, has_comb_arc, has_register_arc, same_sort}
-use Rattle.timing_defs.specs.Paths.{named, same_named}
+use Rattle.timing_defs.specs.Kinds.{is_comb}
+use Rattle.timing_rules.specs.Clocking.{driver_on}
+use Rattle.timing_rules.specs.Rows.{arcs_in, library_arcs}
+use Rattle.timing_rules.specs.Cones.{same_truth, has_comb_arc, has_register_arc, same_sort}
+use Rattle.timing_rules.specs.Paths.{named, same_named}
 use Rattle.timing_defs.proofs.ListLemmas.{bool_iff}
 use Rattle.timing_defs.proofs.SameNames.{same_is}
 use Rattle.timing_defs.proofs.Members.{some_is, first_in, in_map, in_map_back, in_filter, passes_in, kept_in, any_back, all_in}

@@ -13,9 +13,13 @@ use Rattle.timing_defs.specs.declared.kinds.Kind.TheVariants.{Setup, Hold}
 use Rattle.timing_defs.specs.declared.design.Design.{Design}
 use Rattle.timing_defs.specs.declared.rows.BackRow.{BackRow}
 use Rattle.timing_defs.specs.Netlist.{Node}
-use Rattle.timing_defs.specs.Rows.{time_on, edge_time, delay, arrival}
-use Rattle.timing_defs.specs.Tests.{Test, tests_at, is_endpoint, separation, uncertainty, separation_on, uncertainty_on}
-use Rattle.timing_defs.specs.Required.{kind_of, other_split, arcs_out, limit_by, limit_of, back_times, less_some, required_of, required_times, back_step}
+use Rattle.timing_defs.specs.RowTimes.{time_on}
+use Rattle.timing_rules.specs.Rows.{edge_time, delay, arrival}
+use Rattle.timing_rules.specs.Tests.{Test, tests_at, is_endpoint, separation, separation_on, uncertainty_on}
+use Rattle.timing_defs.specs.Kinds.{uncertainty}
+use Rattle.timing_defs.specs.Kinds.{kind_of, other_split}
+use Rattle.timing_rules.specs.Required.{arcs_out, limit_by, limit_of, less_some, required_of, required_times, back_step}
+use Rattle.timing_defs.specs.RowTimes.{back_times}
 use Rattle.node_rows.proofs.MergeLaws.{AreMatched, outermost_same}
 use Rattle.netlist_store.proofs.Untouched.{IsFramed}
 use Rattle.calm_laws.proofs.Calm.{AreAlike}

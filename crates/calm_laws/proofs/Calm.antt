@@ -8,12 +8,12 @@ use Rattle.timing_defs.specs.declared.library.CellPin.{CellPin}
 use Rattle.timing_defs.specs.declared.netlist.Inst.{Inst}
 use Rattle.timing_defs.specs.declared.design.Design.{Design}
 use Rattle.timing_defs.specs.Netlist.{Pin, Node, name_of, net_of, driver, cell_of, cell_pins, are_distinct}
-use Rattle.timing_defs.specs.Clocking.{is_network, cell_arcs, cell_tests}
+use Rattle.timing_rules.specs.Clocking.{is_network, cell_arcs, cell_tests}
 use Rattle.timing_defs.specs.Wires.{net_load, wire_delay, wire_slew}
-use Rattle.timing_defs.specs.Rows.{arcs_in}
+use Rattle.timing_rules.specs.Rows.{arcs_in}
 use Rattle.timing_defs.specs.Edits.{same_arc, same_test}
-use Rattle.timing_defs.specs.Range.{net_wires_within}
-use Rattle.timing_defs.specs.Cones.{same_arcs, has_comb_arc, has_register_arc}
+use Rattle.timing_rules.specs.Range.{net_wires_within}
+use Rattle.timing_rules.specs.Cones.{same_arcs, has_comb_arc, has_register_arc}
 use Rattle.netlist_store.proofs.SeenPins.{seen}
 use Rattle.netlist_store.proofs.Untouched.{IsFramed}
 

@@ -13,9 +13,10 @@ use Rattle.timing_defs.specs.declared.design.Design.{Design}
 use Rattle.timing_defs.specs.declared.rows.NodeRow.{NodeRow}
 use Rattle.timing_defs.specs.Lookup.{look}
 use Rattle.timing_defs.specs.Netlist.{Pin, Node, net_of, is_driver}
-use Rattle.timing_defs.specs.Clocking.{driver_on}
+use Rattle.timing_rules.specs.Clocking.{driver_on}
 use Rattle.timing_defs.specs.Wires.{load_of, wire_delay, wire_slew}
-use Rattle.timing_defs.specs.Rows.{arcs_in, outermost, load_at, net_name, slew_along, raw_delay, factor_of, scaled, delay_along, slew_in, times_in, time_on, plus_some, slew_of, delay_from, arrival_of, arrivals_of, edge_time, as_fs, step}
+use Rattle.timing_rules.specs.Rows.{arcs_in, outermost, load_at, net_name, slew_along, raw_delay, factor_of, scaled, delay_along, slew_of, delay_from, arrival_of, arrivals_of, edge_time, as_fs, step}
+use Rattle.timing_defs.specs.RowTimes.{slew_in, times_in, time_on, plus_some}
 use Rattle.timing_defs.proofs.Members.{none_in}
 use Rattle.calm_laws.proofs.Calm.{IsArcPair, IsCalm}
 use Rattle.calm_laws.proofs.PairLaws.{pairs_so, outermost_pairs}

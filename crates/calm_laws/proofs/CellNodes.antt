@@ -14,8 +14,8 @@ use Rattle.timing_defs.specs.declared.library.CellPin.{CellPin}
 use Rattle.timing_defs.specs.declared.netlist.Inst.{Inst}
 use Rattle.timing_defs.specs.declared.design.Design.{Design}
 use Rattle.timing_defs.specs.Netlist.{Pin, Node, same_tran, cell_of, cell_pin, cell_pins, inst_pins, both_nodes, net_of, is_driver, are_distinct}
-use Rattle.timing_defs.specs.Clocking.{is_network, driver_on}
-use Rattle.timing_defs.specs.Rows.{arcs_in, cell_arcs_in, net_arcs_in, library_arcs}
+use Rattle.timing_rules.specs.Clocking.{is_network, driver_on}
+use Rattle.timing_rules.specs.Rows.{arcs_in, cell_arcs_in, net_arcs_in, library_arcs}
 use Rattle.timing_defs.proofs.Members.{some_is, first_in, later_in, in_cases, none_in, found_by}
 use Rattle.calm_laws.proofs.PairLaws.{filter_twice}
 

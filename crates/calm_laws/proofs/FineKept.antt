@@ -15,9 +15,10 @@ use Rattle.timing_defs.specs.declared.rows.NodeRow.{NodeRow}
 use Rattle.timing_defs.specs.Lookup.{look}
 use Rattle.timing_defs.specs.Netlist.{Node, net_of, is_driver}
 use Rattle.timing_defs.specs.Wires.{wire_delay}
-use Rattle.timing_defs.specs.Rows.{arcs_in, net_name, scaled, raw_delay, slew_in, slew_of, arrival_of, row}
-use Rattle.timing_defs.specs.Range.{within_some, looked_within, net_wires_within, is_forward_origin}
-use Rattle.timing_defs.proofs.RowLaws.{ArePlacedNodes}
+use Rattle.timing_rules.specs.Rows.{arcs_in, net_name, scaled, raw_delay, slew_of, arrival_of, row}
+use Rattle.timing_defs.specs.RowTimes.{slew_in}
+use Rattle.timing_rules.specs.Range.{within_some, looked_within, net_wires_within, is_forward_origin}
+use Rattle.timing_rules.proofs.RowLaws.{ArePlacedNodes}
 use Rattle.node_rows.specs.Evaluation.{is_wide_looked, is_wide_scaled, scaled_over, is_wide_in}
 use Rattle.node_rows.proofs.FineLaws.{IsFine, IsCarried, fine_more, wide_is_origin, no_origin}
 use Rattle.calm_laws.proofs.Calm.{IsArcPair, IsCalm}

@@ -10,11 +10,13 @@ use Rattle.timing_defs.specs.declared.kinds.Split.{Split}
 use Rattle.timing_defs.specs.declared.kinds.Tran.{Tran}
 use Rattle.timing_defs.specs.declared.design.Design.{Design}
 use Rattle.timing_defs.specs.Netlist.{Pin, Node, name_of, pins}
-use Rattle.timing_defs.specs.Rows.{arcs_in, slew_in, row, delay}
-use Rattle.timing_defs.specs.Range.{is_forward_origin}
-use Rattle.timing_defs.specs.Paths.{named, node_named}
-use Rattle.timing_defs.specs.Cones.{Touch, same_row, row_differs, is_seed, is_forward}
-use Rattle.timing_defs.proofs.RowLaws.{ArePlacedNodes, row_is}
+use Rattle.timing_rules.specs.Rows.{arcs_in, row, delay}
+use Rattle.timing_defs.specs.RowTimes.{slew_in}
+use Rattle.timing_rules.specs.Range.{is_forward_origin}
+use Rattle.timing_rules.specs.Paths.{named, node_named}
+use Rattle.timing_defs.specs.Touches.{Touch}
+use Rattle.timing_rules.specs.Cones.{same_row, row_differs, is_seed, is_forward}
+use Rattle.timing_rules.proofs.RowLaws.{ArePlacedNodes, row_is}
 use Rattle.timing_defs.proofs.SameNames.{same_is}
 use Rattle.timing_defs.proofs.Members.{any_in, found_passes}
 use Rattle.netlist_store.specs.Numbering.{Stored}

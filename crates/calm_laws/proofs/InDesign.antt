@@ -12,10 +12,10 @@ use Rattle.timing_defs.specs.declared.kinds.Tran.TheVariants.{Rise, Fall}
 use Rattle.timing_defs.specs.declared.netlist.Inst.{Inst}
 use Rattle.timing_defs.specs.declared.design.Design.{Design}
 use Rattle.timing_defs.specs.Netlist.{Pin, Node, name_of, same_node, same_pin, same_tran, port_pin, inst_pins, pins, both_nodes, nodes, net_of, is_on, is_driver, driver}
-use Rattle.timing_defs.specs.Clocking.{driver_on}
-use Rattle.timing_defs.specs.Rows.{arcs_in, all_arcs_in, cell_arcs_in, net_arcs_in}
-use Rattle.timing_defs.specs.Required.{arcs_out}
-use Rattle.timing_defs.proofs.RowLaws.{ArePlacedNodes, AreHighNodes}
+use Rattle.timing_rules.specs.Clocking.{driver_on}
+use Rattle.timing_rules.specs.Rows.{arcs_in, all_arcs_in, cell_arcs_in, net_arcs_in}
+use Rattle.timing_rules.specs.Required.{arcs_out}
+use Rattle.timing_rules.proofs.RowLaws.{ArePlacedNodes, AreHighNodes}
 use Rattle.timing_defs.proofs.SameNames.{same_is, same_self}
 use Rattle.timing_defs.proofs.Members.{some_is, none_in, in_map_back, in_flat_map, in_flat_map_back, in_filter, kept_in, passes_in, any_in, any_back, found_in, found_by}
 use Rattle.netlist_store.specs.Linked.{IsLinked}

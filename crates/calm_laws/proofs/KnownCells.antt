@@ -16,7 +16,7 @@ use Rattle.timing_defs.specs.declared.faults.Fault.{Fault}
 use Rattle.timing_defs.specs.declared.faults.Fault.TheVariants.{UnknownCell}
 use Rattle.timing_defs.specs.Netlist.{Pin, port_pin, cell_pin, cell_pins, cell_of, inst_pins, pins, are_distinct}
 use Rattle.timing_defs.specs.Wires.{first_some}
-use Rattle.timing_defs.specs.Clocking.{cell_arcs, cell_tests}
+use Rattle.timing_rules.specs.Clocking.{cell_arcs, cell_tests}
 use Rattle.timing_defs.specs.Edits.{link_inst, link_pin, link_net, first_fault, has_colon, cells_agree, same_set, same_cell_pin, same_arc, same_test}
 use Rattle.timing_defs.specs.Documents.{is_amount, is_cell, is_cell_arc, is_cell_test}
 use Rattle.timing_defs.proofs.Members.{some_is, none_in, in_cases, in_map_back, in_flat_map_back, found_in, all_in}

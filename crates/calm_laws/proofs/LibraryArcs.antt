@@ -13,8 +13,9 @@ use Rattle.timing_defs.specs.declared.library.CellArc.{CellArc}
 use Rattle.timing_defs.specs.declared.netlist.Inst.{Inst}
 use Rattle.timing_defs.specs.declared.design.Design.{Design}
 use Rattle.timing_defs.specs.Netlist.{Node, same_tran, cell_of, is_driver}
-use Rattle.timing_defs.specs.Clocking.{is_comb, cell_arcs, is_network}
-use Rattle.timing_defs.specs.Rows.{joins, library_arcs}
+use Rattle.timing_defs.specs.Kinds.{is_comb}
+use Rattle.timing_rules.specs.Clocking.{cell_arcs, is_network}
+use Rattle.timing_rules.specs.Rows.{joins, library_arcs}
 use Rattle.timing_defs.specs.Edits.{same_arc}
 use Rattle.timing_defs.proofs.ListLemmas.{list_any_filter}
 use Rattle.timing_defs.proofs.SameNames.{same_is}

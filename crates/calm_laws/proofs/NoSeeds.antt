@@ -7,9 +7,10 @@ use Rattle.std.proofs.lemmas.Bool.{true≢false}
 use Rattle.timing_defs.specs.declared.netlist.Inst.{Inst}
 use Rattle.timing_defs.specs.declared.design.Design.{Design}
 use Rattle.timing_defs.specs.Netlist.{Node, net_of, is_listed}
-use Rattle.timing_defs.specs.Clocking.{is_network}
-use Rattle.timing_defs.specs.Paths.{named, node_named}
-use Rattle.timing_defs.specs.Cones.{Touch, same_truth, differs_by, same_arcs, is_touched, is_seed}
+use Rattle.timing_rules.specs.Clocking.{is_network}
+use Rattle.timing_rules.specs.Paths.{named, node_named}
+use Rattle.timing_defs.specs.Touches.{Touch}
+use Rattle.timing_rules.specs.Cones.{same_truth, differs_by, same_arcs, is_touched, is_seed}
 use Rattle.calm_laws.proofs.ArcsKept.{truths}
 
 pub either_none : (a b : Bool) → (a || b) ≡ false → (a ≡ false) × (b ≡ false)

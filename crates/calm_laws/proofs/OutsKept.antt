@@ -12,11 +12,13 @@ use Rattle.timing_defs.specs.declared.library.CellPin.{CellPin}
 use Rattle.timing_defs.specs.declared.netlist.Inst.{Inst}
 use Rattle.timing_defs.specs.declared.design.Design.{Design}
 use Rattle.timing_defs.specs.Netlist.{Pin, Node, name_of, same_tran, port_pin, cell_pin, cell_pins, cell_of, inst_pins, pins, nodes, net_of, is_on, is_driver, driver}
-use Rattle.timing_defs.specs.Clocking.{driver_on}
-use Rattle.timing_defs.specs.Rows.{arcs_in, slew_in, row}
-use Rattle.timing_defs.specs.Required.{arcs_out}
-use Rattle.timing_defs.specs.Paths.{named, same_named}
-use Rattle.timing_defs.specs.Cones.{Touch, is_seed, led_to_before, leads_to_seed}
+use Rattle.timing_rules.specs.Clocking.{driver_on}
+use Rattle.timing_rules.specs.Rows.{arcs_in, row}
+use Rattle.timing_defs.specs.RowTimes.{slew_in}
+use Rattle.timing_rules.specs.Required.{arcs_out}
+use Rattle.timing_rules.specs.Paths.{named, same_named}
+use Rattle.timing_defs.specs.Touches.{Touch}
+use Rattle.timing_rules.specs.Cones.{is_seed, led_to_before, leads_to_seed}
 use Rattle.timing_defs.proofs.SameNames.{same_is, same_self}
 use Rattle.timing_defs.proofs.Members.{some_is, in_cases, none_in, in_map, in_map_back, in_flat_map, in_flat_map_back, in_filter, kept_in, any_in, found_passes}
 use Rattle.netlist_store.specs.Linked.{IsLinked}

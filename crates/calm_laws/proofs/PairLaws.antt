@@ -6,7 +6,7 @@ use Rattle.std.specs.List.{list_any, list_all}
 use Rattle.std.proofs.lemmas.Bool.{cases_Bool}
 use Rattle.timing_defs.specs.declared.kinds.Split.{Split}
 use Rattle.std.specs.Prelude.{ℤ}
-use Rattle.timing_defs.specs.Rows.{outermost, outer_some}
+use Rattle.timing_rules.specs.Rows.{outermost, outer_some}
 use Rattle.timing_defs.proofs.Members.{first_in, later_in, in_cases, none_in}
 use Rattle.calm_laws.specs.Pairs.{ArePairs}
 

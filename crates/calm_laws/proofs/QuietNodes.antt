@@ -14,10 +14,11 @@ use Rattle.timing_defs.specs.declared.rows.NodeRow.{NodeRow}
 use Rattle.timing_defs.specs.declared.design.Design.{Design}
 use Rattle.timing_defs.specs.Netlist.{Pin, Node, name_of, same_pin, same_tran, same_node, pins, pin_named}
 use Rattle.timing_defs.specs.Wires.{first_some}
-use Rattle.timing_defs.specs.Clocking.{is_network}
-use Rattle.timing_defs.specs.Rows.{arcs_in, row, step, slew_in, times_in, time_on, start_at, launch_edges, delay_from, delay, arrival}
-use Rattle.timing_defs.specs.Paths.{Named, named, node_named, arc_delay, delay_between, start_of, is_network_named, owner_named, spread_at}
-use Rattle.timing_defs.proofs.RowLaws.{ArePlacedNodes, row_is}
+use Rattle.timing_rules.specs.Clocking.{is_network}
+use Rattle.timing_rules.specs.Rows.{arcs_in, row, step, start_at, launch_edges, delay_from, delay, arrival}
+use Rattle.timing_defs.specs.RowTimes.{slew_in, times_in, time_on}
+use Rattle.timing_rules.specs.Paths.{Named, named, node_named, arc_delay, delay_between, start_of, is_network_named, owner_named, spread_at}
+use Rattle.timing_rules.proofs.RowLaws.{ArePlacedNodes, row_is}
 use Rattle.timing_defs.proofs.SameNames.{same_is, same_self}
 use Rattle.timing_defs.proofs.Members.{some_is, any_in, any_back, found_in, found_passes, found_by}
 use Rattle.store_pins.proofs.PinNames.{pins_apart}

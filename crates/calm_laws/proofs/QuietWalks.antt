@@ -13,11 +13,12 @@ use Rattle.timing_defs.specs.declared.kinds.Kind.{Kind}
 use Rattle.timing_defs.specs.declared.netlist.Inst.{Inst}
 use Rattle.timing_defs.specs.Netlist.{Pin, Node, nodes, pins, inst_pins, both_nodes, port_pin, is_driver, same_split, same_tran}
 use Rattle.timing_defs.specs.Wires.{first_some}
-use Rattle.timing_defs.specs.Clocking.{is_network, is_clock_port}
-use Rattle.timing_defs.specs.Rows.{arcs_in, arrival}
-use Rattle.timing_defs.specs.Tests.{Test, data_split, walk_within, network_walk, first_edge, library_tests, need_at, test_on, test_along, register_tests, output_test, port_tests, tests_at}
-use Rattle.timing_defs.specs.Paths.{Named, named}
-use Rattle.timing_defs.proofs.RowLaws.{ArePlacedNodes}
+use Rattle.timing_rules.specs.Clocking.{is_network, is_clock_port}
+use Rattle.timing_rules.specs.Rows.{arcs_in, arrival}
+use Rattle.timing_rules.specs.Tests.{Test, walk_within, network_walk, first_edge, library_tests, need_at, test_on, test_along, register_tests, output_test, port_tests, tests_at}
+use Rattle.timing_defs.specs.Kinds.{data_split}
+use Rattle.timing_rules.specs.Paths.{Named, named}
+use Rattle.timing_rules.proofs.RowLaws.{ArePlacedNodes}
 use Rattle.timing_defs.proofs.Members.{some_is, none_in, in_cases, first_in, later_in, in_map_back, in_flat_map, in_flat_map_back, in_filter_map_back, kept_in, passes_in}
 use Rattle.calm_laws.proofs.Calm.{IsArcPair}
 use Rattle.calm_laws.proofs.PairLaws.{pair_from}

@@ -11,7 +11,7 @@ use Rattle.timing_defs.specs.declared.edge_times.EdgeTime.{EdgeTime}
 use Rattle.timing_defs.specs.declared.rows.NodeRow.{NodeRow}
 use Rattle.timing_defs.specs.declared.rows.BackRow.{BackRow}
 use Rattle.timing_defs.specs.Netlist.{same_tran}
-use Rattle.timing_defs.specs.Cones.{same_option, same_fs, same_time, same_row, same_back}
+use Rattle.timing_rules.specs.Cones.{same_option, same_fs, same_time, same_row, same_back}
 use Rattle.calm_laws.proofs.CellNodes.{tran_is}
 use Rattle.calm_laws.proofs.InDesign.{self_tran}
 

@@ -22,11 +22,13 @@ use Rattle.timing_defs.specs.declared.design.Design.{Design}
 use Rattle.timing_defs.specs.Lookup.{look}
 use Rattle.timing_defs.specs.Netlist.{Pin, Node, name_of, same_tran, same_split, cell_of, cell_pin, cell_pins, inst_pins, both_nodes, port_pin, pins, nodes, is_driver}
 use Rattle.timing_defs.specs.Wires.{first_some}
-use Rattle.timing_defs.specs.Clocking.{cell_tests, is_network, is_clock_port}
-use Rattle.timing_defs.specs.Rows.{arcs_in, row, outermost, slew_in, slew, times_in, time_on, arrival, launch_edges, is_clock_at}
-use Rattle.timing_defs.specs.Tests.{Test, data_split, clock_split, same_kind, walk_within, network_walk, edge_of_port, first_edge, is_test_of, library_tests, need_at, test_on, test_along, register_tests, output_test, port_tests, tests_at}
-use Rattle.timing_defs.specs.Paths.{Named, named, node_named, is_network_named}
-use Rattle.timing_defs.proofs.RowLaws.{ArePlacedNodes, stable, first_in, later_in}
+use Rattle.timing_rules.specs.Clocking.{cell_tests, is_network, is_clock_port}
+use Rattle.timing_rules.specs.Rows.{arcs_in, row, outermost, slew, arrival, launch_edges, is_clock_at}
+use Rattle.timing_defs.specs.RowTimes.{slew_in, times_in, time_on}
+use Rattle.timing_rules.specs.Tests.{Test, walk_within, network_walk, edge_of_port, first_edge, is_test_of, library_tests, need_at, test_on, test_along, register_tests, output_test, port_tests, tests_at}
+use Rattle.timing_defs.specs.Kinds.{data_split, clock_split, same_kind}
+use Rattle.timing_rules.specs.Paths.{Named, named, node_named, is_network_named}
+use Rattle.timing_rules.proofs.RowLaws.{ArePlacedNodes, stable, first_in, later_in}
 use Rattle.timing_defs.proofs.Members.{some_is, in_map, in_cases, in_flat_map}
 use Rattle.netlist_store.specs.Linked.{IsLinked}
 use Rattle.calm_laws.specs.Pairs.{ArePairs}

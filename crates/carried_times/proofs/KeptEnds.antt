@@ -13,11 +13,13 @@ use Rattle.timing_defs.specs.declared.library.Cell.{Cell}
 use Rattle.timing_defs.specs.declared.netlist.Inst.{Inst}
 use Rattle.timing_defs.specs.declared.design.Design.{Design}
 use Rattle.timing_defs.specs.Netlist.{Pin, Node, name_of, cell_of, cell_pin, cell_pins, inst_pins, both_nodes, pins}
-use Rattle.timing_defs.specs.Clocking.{is_network}
-use Rattle.timing_defs.specs.Cones.{Touch, is_seed}
-use Rattle.timing_defs.specs.Paths.{Named, named, is_network_named}
-use Rattle.timing_defs.specs.Rows.{empty_row, row, slew_in}
-use Rattle.timing_defs.specs.Tests.{data_split}
+use Rattle.timing_rules.specs.Clocking.{is_network}
+use Rattle.timing_defs.specs.Touches.{Touch}
+use Rattle.timing_rules.specs.Cones.{is_seed}
+use Rattle.timing_rules.specs.Paths.{Named, named, is_network_named}
+use Rattle.timing_rules.specs.Rows.{empty_row, row}
+use Rattle.timing_defs.specs.RowTimes.{slew_in}
+use Rattle.timing_defs.specs.Kinds.{data_split}
 use Rattle.timing_defs.proofs.Members.{some_is, none_in, in_cases, in_map_back, in_flat_map_back}
 use Rattle.netlist_store.specs.Numbering.{number_of, pin_numbered, owner_number, IsNumbered}
 use Rattle.netlist_store.specs.Applying.{IsEditOf}

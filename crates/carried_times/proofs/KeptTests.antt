@@ -6,9 +6,11 @@ use Rattle.std.specs.Option.{option_map_or}
 use Rattle.timing_defs.specs.declared.kinds.Kind.{Kind}
 use Rattle.timing_defs.specs.declared.design.Design.{Design}
 use Rattle.timing_defs.specs.Netlist.{Node, nodes}
-use Rattle.timing_defs.specs.Rows.{row, slew_in}
-use Rattle.timing_defs.specs.Tests.{Test, data_split, tests_at}
-use Rattle.timing_defs.specs.Paths.{Named, named, node_named}
+use Rattle.timing_rules.specs.Rows.{row}
+use Rattle.timing_defs.specs.RowTimes.{slew_in}
+use Rattle.timing_rules.specs.Tests.{Test, tests_at}
+use Rattle.timing_defs.specs.Kinds.{data_split}
+use Rattle.timing_rules.specs.Paths.{Named, named, node_named}
 use Rattle.timing_defs.proofs.Members.{first_in, later_in}
 use Rattle.calm_laws.specs.Quiet.{AreSameTests, AreQuiet}
 use Rattle.calm_laws.proofs.Calm.{AreAlike}

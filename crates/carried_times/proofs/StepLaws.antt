@@ -5,7 +5,8 @@ use Rattle.std.specs.Prelude.{if◌then◌else◌}
 use Rattle.std.proofs.lemmas.Bool.{cases_Bool}
 use Rattle.timing_defs.specs.declared.edge_times.EdgeTime.{EdgeTime}
 use Rattle.timing_defs.specs.declared.kinds.Split.{Split}
-use Rattle.timing_defs.specs.Rows.{outer_some, plus_some, times_in}
+use Rattle.timing_rules.specs.Rows.{outer_some}
+use Rattle.timing_defs.specs.RowTimes.{plus_some, times_in}
 use Rattle.netlist_store.specs.Numbering.{Stored}
 use Rattle.pin_graph.specs.RowTables.{row_numbered}
 use Rattle.arc_delays.specs.Delays.{delay_numbered}

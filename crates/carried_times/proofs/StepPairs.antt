@@ -10,9 +10,11 @@ use Rattle.timing_defs.specs.declared.kinds.Split.{Split}
 use Rattle.timing_defs.specs.declared.kinds.Tran.{Tran}
 use Rattle.timing_defs.specs.declared.design.Design.{Design}
 use Rattle.timing_defs.specs.Netlist.{Node, name_of, pins, same_pin, same_tran, same_node}
-use Rattle.timing_defs.specs.Cones.{Touch, has_register_arc}
-use Rattle.timing_defs.specs.Rows.{arcs_in, row, times_in, time_on, delay, arrival}
-use Rattle.timing_defs.specs.Paths.{Named, named, node_named, arc_delay, delay_between}
+use Rattle.timing_defs.specs.Touches.{Touch}
+use Rattle.timing_rules.specs.Cones.{has_register_arc}
+use Rattle.timing_rules.specs.Rows.{arcs_in, row, delay, arrival}
+use Rattle.timing_defs.specs.RowTimes.{times_in, time_on}
+use Rattle.timing_rules.specs.Paths.{Named, named, node_named, arc_delay, delay_between}
 use Rattle.timing_defs.proofs.SameNames.{same_is}
 use Rattle.timing_defs.proofs.Members.{some_is, any_back, found_in}
 use Rattle.netlist_store.specs.Linked.{IsLinked}
@@ -24,7 +26,7 @@ use Rattle.pin_graph.specs.declared.arcs.GraphArc.{GraphArc}
 use Rattle.pin_graph.specs.Nodes.{node_number, node_at, number_at}
 use Rattle.pin_graph.specs.Graphs.{IsArc, kind_between}
 use Rattle.pin_graph.specs.RowTables.{row_numbered}
-use Rattle.timing_defs.specs.Rows.{empty_row}
+use Rattle.timing_rules.specs.Rows.{empty_row}
 use Rattle.pin_graph.proofs.JoinLaws.{then_back, mapped_back}
 use Rattle.pin_graph.proofs.NodeLaws.{HasNode, node_told, has_node, one_number as same_number}
 use Rattle.arc_delays.specs.Delays.{delay_numbered}

@@ -10,9 +10,10 @@ use Rattle.timing_defs.specs.declared.kinds.Split.{Split}
 use Rattle.timing_defs.specs.declared.kinds.Tran.{Tran}
 use Rattle.timing_defs.specs.declared.design.Design.{Design}
 use Rattle.timing_defs.specs.Netlist.{Node, same_tran}
-use Rattle.timing_defs.specs.Cones.{Touch}
-use Rattle.timing_defs.specs.Rows.{row, times_in, time_on, arrival}
-use Rattle.timing_defs.specs.Paths.{Named, node_named, delay_between}
+use Rattle.timing_defs.specs.Touches.{Touch}
+use Rattle.timing_rules.specs.Rows.{row, arrival}
+use Rattle.timing_defs.specs.RowTimes.{times_in, time_on}
+use Rattle.timing_rules.specs.Paths.{Named, node_named, delay_between}
 use Rattle.timing_defs.proofs.Members.{found_in}
 use Rattle.netlist_store.specs.Numbering.{IsNumbered}
 use Rattle.netlist_store.specs.Applying.{IsEditOf}

@@ -9,11 +9,12 @@ use Rattle.timing_defs.specs.declared.kinds.Split.{Split}
 use Rattle.timing_defs.specs.declared.netlist.Inst.{Inst}
 use Rattle.timing_defs.specs.declared.design.Design.{Design}
 use Rattle.timing_defs.specs.Netlist.{Pin, Node, name_of, pin_named}
-use Rattle.timing_defs.specs.Clocking.{is_network}
-use Rattle.timing_defs.specs.Cones.{Touch, is_seed}
-use Rattle.timing_defs.specs.Rows.{start_at, launch_edges}
+use Rattle.timing_rules.specs.Clocking.{is_network}
+use Rattle.timing_defs.specs.Touches.{Touch}
+use Rattle.timing_rules.specs.Cones.{is_seed}
+use Rattle.timing_rules.specs.Rows.{start_at, launch_edges}
 use Rattle.timing_defs.specs.Wires.{first_some}
-use Rattle.timing_defs.specs.Paths.{Named, named, node_named, delay_between, start_of, is_network_named, owner_named}
+use Rattle.timing_rules.specs.Paths.{Named, named, node_named, delay_between, start_of, is_network_named, owner_named}
 use Rattle.timing_defs.proofs.Members.{some_is}
 use Rattle.netlist_store.specs.Linked.{IsLinked}
 use Rattle.netlist_store.specs.Numbering.{Stored, number_of, IsNumbered}

@@ -15,8 +15,9 @@ use Rattle.timing_defs.specs.declared.kinds.Split.{Split}
 use Rattle.timing_defs.specs.declared.kinds.Split.TheVariants.{Early, Late}
 use Rattle.timing_defs.specs.declared.rows.NodeRow.{NodeRow}
 use Rattle.timing_defs.specs.Netlist.{Node}
-use Rattle.timing_defs.specs.Cones.{Touch}
-use Rattle.timing_defs.specs.Rows.{empty_row, row, times_in}
+use Rattle.timing_defs.specs.Touches.{Touch}
+use Rattle.timing_rules.specs.Rows.{empty_row, row}
+use Rattle.timing_defs.specs.RowTimes.{times_in}
 use Rattle.timing_defs.proofs.Members.{any_in}
 use Rattle.netlist_store.specs.Numbering.{Stored, IsNumbered}
 use Rattle.netlist_store.specs.Applying.{IsEditOf}

@@ -5,7 +5,8 @@ use Rattle.std.specs.Option.{option_map_or}
 use Rattle.timing_defs.specs.declared.kinds.Split.{Split}
 use Rattle.timing_defs.specs.declared.kinds.Split.TheVariants.{Early, Late}
 use Rattle.timing_defs.specs.declared.rows.NodeRow.{NodeRow}
-use Rattle.timing_defs.specs.Rows.{outer_some, plus_some}
+use Rattle.timing_rules.specs.Rows.{outer_some}
+use Rattle.timing_defs.specs.RowTimes.{plus_some}
 use Rattle.carried_times.specs.declared.carried.Carried.{Carried}
 use Rattle.carried_times.specs.Times.{outermost_time}
 use Rattle.carried_times.specs.Unseeded.{same_time}

@@ -3,7 +3,7 @@
 use Rattle.std.specs.Prelude.{ℕ, ◌≡◌, true, false, List, Some}
 use Rattle.timing_defs.specs.declared.kinds.Split.{Split}
 use Rattle.timing_defs.specs.declared.kinds.Tran.{Tran}
-use Rattle.timing_defs.specs.Rows.{slew_in}
+use Rattle.timing_defs.specs.RowTimes.{slew_in}
 use Rattle.netlist_store.specs.Numbering.{Stored, is_number, owner_number}
 use Rattle.pin_graph.specs.Nodes.{node_number, pin_under}
 use Rattle.pin_graph.specs.Graphs.{Graphed, network_at}

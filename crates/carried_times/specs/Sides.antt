@@ -6,7 +6,7 @@ use Rattle.sta_units.specs.declared.units.Memory.{Memory}
 use Rattle.timing_defs.specs.declared.kinds.Split.{Split}
 use Rattle.timing_defs.specs.declared.kinds.Split.TheVariants.{Early, Late}
 use Rattle.timing_defs.specs.declared.rows.NodeRow.{NodeRow}
-use Rattle.timing_defs.specs.Rows.{times_in}
+use Rattle.timing_defs.specs.RowTimes.{times_in}
 use Rattle.netlist_store.specs.Numbering.{Stored}
 use Rattle.pin_graph.specs.declared.arcs.GraphArc.{GraphArc}
 use Rattle.pin_graph.specs.Graphs.{Graphed, fan_at}

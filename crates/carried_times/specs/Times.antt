@@ -5,8 +5,9 @@ use Rattle.std.specs.Option.{option_map_or}
 use Rattle.timing_defs.specs.declared.edge_times.EdgeTime.{EdgeTime}
 use Rattle.timing_defs.specs.declared.kinds.Split.{Split}
 use Rattle.timing_defs.specs.declared.design.Design.{Design}
-use Rattle.timing_defs.specs.Paths.{Named, node_named}
-use Rattle.timing_defs.specs.Rows.{outermost, times_in, row}
+use Rattle.timing_rules.specs.Paths.{Named, node_named}
+use Rattle.timing_rules.specs.Rows.{outermost, row}
+use Rattle.timing_defs.specs.RowTimes.{times_in}
 use Rattle.netlist_store.specs.Numbering.{Stored}
 use Rattle.pin_graph.specs.declared.arcs.GraphArc.{GraphArc}
 use Rattle.pin_graph.specs.Nodes.{number_at}

@@ -1,7 +1,7 @@
 //! Times of both splits.
 
 ghost use Rattle.std.specs.Prelude.{◌≡◌, true, IfSome};
-ghost use Rattle.timing_defs.specs.Rows.{times_in, plus_some};
+ghost use Rattle.timing_defs.specs.RowTimes.{times_in, plus_some};
 ghost use Rattle.carried_times.specs.Unseeded.{same_time};
 ghost use Rattle.carried_times.specs.Times.{outermost_time};
 ghost use Rattle.carried_times.specs.Carry.{time_of, no_times, merged, arrivals_of, is_near};

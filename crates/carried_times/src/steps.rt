@@ -1,7 +1,8 @@
 //! Steps of paths along arcs, before and after an edit.
 
 ghost use Rattle.std.specs.Prelude.{◌≡◌, IfSome};
-ghost use Rattle.timing_defs.specs.Rows.{outer_some, plus_some};
+ghost use Rattle.timing_rules.specs.Rows.{outer_some};
+ghost use Rattle.timing_defs.specs.RowTimes.{plus_some};
 ghost use Rattle.carried_times.specs.Sides.{arrival_told, delay_by, whole_told, step_told, carried_step, sided, IsSided};
 
 use crate::carried::{Carried, arrival_in, later, same_time};

@@ -14,7 +14,8 @@ use Rattle.timing_defs.specs.declared.faults.Large.{Large}
 use Rattle.timing_defs.specs.declared.faults.Large.TheVariants.{Net as large_net}
 use Rattle.timing_defs.specs.Netlist.{is_listed}
 use Rattle.timing_defs.specs.Wires.{rc_of}
-use Rattle.timing_defs.specs.Checks.{is_large_net, nets_where, least, large, many_drivers, is_tree, pins_agree, dangling, dangling_exception, rc_not_tree, rc_pins_differ, clock_not_tree, first_of_two, net_fault, data_fault}
+use Rattle.timing_defs.specs.NetChecks.{is_large_net, nets_where, least, large, many_drivers, is_tree, pins_agree, first_of_two, net_fault}
+use Rattle.timing_rules.specs.Checks.{dangling, dangling_exception, rc_not_tree, rc_pins_differ, clock_not_tree, data_fault}
 use Rattle.netlist_store.specs.Linked.{IsLinked}
 use Rattle.netlist_store.specs.Numbering.{Stored, number_of, IsNumbered}
 use Rattle.netlist_store.proofs.Untouched.{IsLeft, left_by_eco, IsFramed, framed_by_eco}

@@ -11,7 +11,7 @@ use Rattle.std.proofs.lemmas.List.Elements.{filter-append, filter_map-append}
 use Rattle.std.proofs.lemmas.List.FromFn.{map-range_with_len_more, length-range_with_len, get_or-range_with_len}
 use Rattle.timing_defs.specs.declared.netlist.Inst.{Inst}
 use Rattle.timing_defs.specs.Netlist.{name_of, pins, is_listed, are_distinct}
-use Rattle.timing_defs.specs.Checks.{most}
+use Rattle.timing_defs.specs.NetChecks.{most}
 use Rattle.netlist_store.specs.Linked.{IsLinked}
 use Rattle.netlist_store.specs.Numbering.{Stored, name_at, number_of, is_number, AreNumbers, IsNumbered}
 use Rattle.design_link.specs.Counts.{names_below, with_name}

@@ -16,8 +16,9 @@ use Rattle.timing_defs.specs.declared.constraints.Object.TheVariants.{Clock as c
 use Rattle.timing_defs.specs.declared.netlist.Port.{Port}
 use Rattle.timing_defs.specs.declared.design.Design.{Design}
 use Rattle.timing_defs.specs.Netlist.{Pin, name_of, port_pin, cell_pin, cell_pins, cell_of, inst_pins, pin_named, same_dir}
-use Rattle.timing_defs.specs.Rules.{as_pin, is_clock_name}
-use Rattle.timing_defs.specs.Checks.{port_named, is_port, is_inst, is_pin, is_any, dangling_object}
+use Rattle.timing_defs.specs.Names.{as_pin}
+use Rattle.timing_rules.specs.Rules.{is_clock_name}
+use Rattle.timing_rules.specs.Checks.{port_named, is_port, is_inst, is_pin, is_any, dangling_object}
 use Rattle.netlist_store.specs.Numbering.{Stored, number_of, pin_numbered, IsNumbered}
 use Rattle.design_link.specs.Dangling.{is_there, word_of}
 use Rattle.timing_defs.proofs.Members.{some_is, in_flat_map_back, in_map_back, found_in}

@@ -15,7 +15,7 @@ use Rattle.timing_defs.specs.declared.faults.Large.TheVariants.{Net as large_net
 use Rattle.timing_defs.specs.Netlist.{pins, is_listed, are_distinct}
 use Rattle.timing_defs.specs.Edits.{first_fault, unless, link_inst, link_net}
 use Rattle.timing_defs.specs.Wires.{first_some, rc_of}
-use Rattle.timing_defs.specs.Checks.{most, is_large_net, is_tree, pins_agree, nets_where, least, large, many_drivers, first_of_two, net_fault}
+use Rattle.timing_defs.specs.NetChecks.{most, is_large_net, is_tree, pins_agree, nets_where, least, large, many_drivers, first_of_two, net_fault}
 use Rattle.netlist_store.specs.Linked.{IsLinked}
 use Rattle.timing_defs.specs.Documents.{is_net_rc}
 use Rattle.netlist_store.specs.Numbering.{Stored, IsNumbered}

@@ -11,7 +11,7 @@ use Rattle.timing_defs.specs.declared.parasitics.RcNode.TheVariants.{Pin as rc_p
 use Rattle.timing_defs.specs.declared.parasitics.NetRc.{NetRc}
 use Rattle.timing_defs.specs.Netlist.{Pin, name_of, pins, is_on, is_listed}
 use Rattle.timing_defs.specs.Wires.{rc_of, is_lumped, root_node}
-use Rattle.timing_defs.specs.Checks.{nodes_of_rc, different}
+use Rattle.timing_defs.specs.NetChecks.{nodes_of_rc, different}
 use Rattle.netlist_store.specs.Linked.{IsLinked}
 use Rattle.netlist_store.specs.Numbering.{Stored, name_at, pin_numbered, IsNumbered}
 use Rattle.design_link.specs.Failing.{IsRcOf, rc_that}

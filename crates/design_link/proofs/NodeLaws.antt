@@ -13,7 +13,7 @@ use Rattle.timing_defs.specs.declared.parasitics.RcNode.TheVariants.{Pin as rc_p
 use Rattle.timing_defs.specs.declared.parasitics.RcRes.{RcRes}
 use Rattle.timing_defs.specs.declared.parasitics.NetRc.{NetRc}
 use Rattle.timing_defs.specs.Wires.{same_rc}
-use Rattle.timing_defs.specs.Checks.{named_nodes, different}
+use Rattle.timing_defs.specs.NetChecks.{named_nodes, different}
 use Rattle.timing_defs.specs.Documents.{differ}
 use Rattle.rc_tree.specs.Numbering.{node_at, AreApart}
 use Rattle.rc_tree.proofs.Listing.{joined, pin_added, inner_added, apart}

@@ -15,7 +15,7 @@ use Rattle.std.proofs.lemmas.Cmp.{upto}
 use Rattle.std.proofs.lemmas.List.{get_or_default}
 use Rattle.std.proofs.lemmas.List.Elements.{Contains-get_or}
 use Rattle.timing_defs.specs.Netlist.{is_listed}
-use Rattle.timing_defs.specs.Checks.{is_before, least_from, least}
+use Rattle.timing_defs.specs.NetChecks.{is_before, least_from, least}
 use Rattle.timing_defs.proofs.SameNames.{same_is, same_self}
 use Rattle.timing_defs.proofs.Members.{first_in, later_in, in_cases, none_in, any_in, any_back}
 use Rattle.store_pins.proofs.DriverLaws.{none_least}

@@ -16,7 +16,7 @@ use Rattle.timing_defs.specs.declared.parasitics.NetRc.{NetRc}
 use Rattle.timing_defs.specs.declared.design.Design.{Design}
 use Rattle.timing_defs.specs.Netlist.{Pin, pins, pin_named, net_of, is_on}
 use Rattle.timing_defs.specs.Wires.{same_rc, is_lumped, root_node, touches}
-use Rattle.timing_defs.specs.Checks.{named_nodes, is_pin_of, has_resistor, pins_agree}
+use Rattle.timing_defs.specs.NetChecks.{named_nodes, is_pin_of, has_resistor, pins_agree}
 use Rattle.netlist_store.specs.Linked.{IsLinked}
 use Rattle.netlist_store.specs.Numbering.{Stored, name_at, number_of, is_named, pin_numbered, is_on_number, IsNumbered}
 use Rattle.design_link.specs.Nodes.{is_node, HaveSameNodes}

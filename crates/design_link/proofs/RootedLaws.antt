@@ -15,7 +15,7 @@ use Rattle.timing_defs.specs.declared.parasitics.RcRes.{RcRes}
 use Rattle.timing_defs.specs.declared.parasitics.NetRc.{NetRc}
 use Rattle.timing_defs.specs.declared.rows.PinCap.{PinCap}
 use Rattle.timing_defs.specs.Wires.{same_rc, path_between, is_lumped}
-use Rattle.timing_defs.specs.Checks.{named_nodes, has_cycle}
+use Rattle.timing_defs.specs.NetChecks.{named_nodes, has_cycle}
 use Rattle.timing_defs.specs.Documents.{is_amount as is_told_amount, is_net_rc}
 use Rattle.rc_tree.specs.declared.faults.RcFault.{RcFault}
 use Rattle.rc_tree.specs.declared.faults.RcFault.TheVariants.{Loop, Unreached, TooLarge, OutOfRange}

@@ -9,7 +9,7 @@ use Rattle.std.proofs.lemmas.Bool.{and_parts}
 use Rattle.timing_defs.specs.declared.parasitics.NetRc.{NetRc}
 use Rattle.timing_defs.specs.Netlist.{Pin, name_of, pins, pin_named, driver, are_distinct}
 use Rattle.timing_defs.specs.Wires.{is_lumped}
-use Rattle.timing_defs.specs.Checks.{has_cycle, reaches_all, is_tree}
+use Rattle.timing_defs.specs.NetChecks.{has_cycle, reaches_all, is_tree}
 use Rattle.netlist_store.specs.Linked.{IsLinked}
 use Rattle.timing_defs.specs.Documents.{is_net_rc}
 use Rattle.netlist_store.specs.Numbering.{Stored, name_at, pin_numbered, IsNumbered}

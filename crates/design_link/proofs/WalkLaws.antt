@@ -13,7 +13,7 @@ use Rattle.timing_defs.specs.declared.parasitics.RcRes.{RcRes}
 use Rattle.timing_defs.specs.declared.parasitics.RcCap.{RcCap}
 use Rattle.timing_defs.specs.declared.parasitics.NetRc.{NetRc}
 use Rattle.timing_defs.specs.Wires.{same_rc, touches, path_between, is_lumped, each_with_rest}
-use Rattle.timing_defs.specs.Checks.{named_nodes, has_cycle}
+use Rattle.timing_defs.specs.NetChecks.{named_nodes, has_cycle}
 use Rattle.timing_defs.proofs.Members.{some_is, any_in}
 use Rattle.store_pins.proofs.PinLaws.{there}
 use Rattle.rc_tree.proofs.Routes.{same_rc_is, same_rc_self}

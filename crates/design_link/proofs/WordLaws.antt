@@ -6,7 +6,7 @@ use Rattle.std.proofs.lemmas.Bool.{cases_Bool, cases_lt, and_parts, and_from, ne
 use Rattle.std.proofs.lemmas.List.{set_past}
 use Rattle.std.proofs.lemmas.List.Folds.{list_any_at}
 use Rattle.timing_defs.specs.Names.{is_graphic, is_name}
-use Rattle.timing_defs.specs.Rules.{is_split, as_pin}
+use Rattle.timing_defs.specs.Names.{is_split, as_pin}
 use Rattle.design_link.specs.Words.{IsLastSplit}
 
 -- no mark at all

@@ -8,8 +8,9 @@ use Rattle.timing_defs.specs.declared.faults.Fault.{Fault}
 use Rattle.timing_defs.specs.declared.faults.Fault.TheVariants.{TooLarge, ManyDrivers, ConstraintDangling, RcNotTree, RcPinsDiffer}
 use Rattle.timing_defs.specs.declared.faults.Large.TheVariants.{Net as large_net}
 use Rattle.timing_defs.specs.Edits.{edited}
-use Rattle.timing_defs.specs.Cones.{touched_list}
-use Rattle.timing_defs.specs.Checks.{least, dangling, dangling_exception, rc_not_tree, rc_pins_differ, first_of_two}
+use Rattle.timing_defs.specs.Touches.{touched_list}
+use Rattle.timing_defs.specs.NetChecks.{least, first_of_two}
+use Rattle.timing_rules.specs.Checks.{dangling, dangling_exception, rc_not_tree, rc_pins_differ}
 use Rattle.netlist_store.specs.Linked.{IsLinked}
 use Rattle.timing_defs.specs.Documents.{is_eco}
 use Rattle.design_link.specs.declared.net_tests.NetTest.TheVariants.{TooManyNodes, TooManyDrivers, NoTree, OtherPins}

@@ -6,7 +6,7 @@ use Rattle.timing_defs.specs.declared.design.Design.{Design}
 use Rattle.timing_defs.specs.declared.faults.Large.{Large}
 use Rattle.timing_defs.specs.declared.faults.Large.TheVariants.{Pins, Insts, Nets}
 use Rattle.timing_defs.specs.Netlist.{pins}
-use Rattle.timing_defs.specs.Checks.{most}
+use Rattle.timing_defs.specs.NetChecks.{most}
 use Rattle.netlist_store.specs.Numbering.{name_at}
 
 -- the names of the numbers below a bound, in the order of the numbers

@@ -8,7 +8,7 @@ use Rattle.timing_defs.specs.declared.constraints.Object.{Object}
 use Rattle.timing_defs.specs.declared.constraints.Object.TheVariants.{Clock as clock_object, Port as port_object, Pin as pin_object, Cell as cell_object, Any}
 use Rattle.timing_defs.specs.declared.design.Design.{Design}
 use Rattle.timing_defs.specs.Edits.{has_colon}
-use Rattle.timing_defs.specs.Checks.{port_named, is_port, is_inst, is_pin, is_any, not_ports, dangling_exception}
+use Rattle.timing_rules.specs.Checks.{port_named, is_port, is_inst, is_pin, is_any, not_ports, dangling_exception}
 
 -- whether what an object stands for is there; a clock always is
 abbrev pub is_there : Design → Dir → Object → Bool

@@ -6,7 +6,8 @@ use Rattle.timing_defs.specs.declared.parasitics.NetRc.{NetRc}
 use Rattle.timing_defs.specs.declared.design.Design.{Design}
 use Rattle.timing_defs.specs.Netlist.{drivers, is_listed}
 use Rattle.timing_defs.specs.Wires.{rc_of}
-use Rattle.timing_defs.specs.Checks.{is_large_net, nets_where, least, many_drivers, is_tree, rc_not_tree, pins_agree, rc_pins_differ, net_fault}
+use Rattle.timing_defs.specs.NetChecks.{is_large_net, nets_where, least, many_drivers, is_tree, pins_agree, net_fault}
+use Rattle.timing_rules.specs.Checks.{rc_not_tree, rc_pins_differ}
 use Rattle.netlist_store.specs.Numbering.{Stored, name_at}
 use Rattle.design_link.specs.declared.net_tests.NetTest.{NetTest}
 use Rattle.design_link.specs.declared.net_tests.NetTest.TheVariants.{TooManyNodes, TooManyDrivers, NoTree, OtherPins}

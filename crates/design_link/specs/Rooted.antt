@@ -7,7 +7,7 @@ use Rattle.timing_defs.specs.declared.parasitics.RcNode.TheVariants.{Pin as rc_p
 use Rattle.timing_defs.specs.declared.parasitics.NetRc.{NetRc}
 use Rattle.timing_defs.specs.declared.rows.PinCap.{PinCap}
 use Rattle.timing_defs.specs.Wires.{path_between, is_lumped}
-use Rattle.timing_defs.specs.Checks.{named_nodes, has_cycle}
+use Rattle.timing_defs.specs.NetChecks.{named_nodes, has_cycle}
 use Rattle.rc_tree.specs.declared.faults.RcFault.{RcFault}
 use Rattle.rc_tree.specs.declared.faults.RcFault.TheVariants.{Loop, Unreached, TooLarge, OutOfRange, Memory}
 

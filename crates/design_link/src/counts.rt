@@ -1,7 +1,7 @@
 //! How many pins, instances and nets a design has.
 
 ghost use Rattle.std.specs.Prelude.{◌≡◌, ◌≤◌, nat_lt, length, if◌then◌else◌};
-ghost use Rattle.timing_defs.specs.Checks.{most};
+ghost use Rattle.timing_defs.specs.NetChecks.{most};
 ghost use Rattle.timing_defs.specs.Netlist.{pins};
 ghost use Rattle.design_link.specs.Counts.{large_count};
 

@@ -4,7 +4,8 @@ ghost use Rattle.std.specs.Prelude.{◌≡◌, ◌++◌, ◌∷◌, [], is_none,
 ghost use Rattle.std.specs.List.{filter_map, flat_map};
 ghost use Rattle.std.specs.Option.{option_copied};
 ghost use Rattle.timing_defs.specs.declared.kinds.Dir.TheVariants.{Input as input, Output as output};
-ghost use Rattle.timing_defs.specs.Checks.{port_named, not_ports, dangling_exception, least};
+ghost use Rattle.timing_rules.specs.Checks.{port_named, not_ports, dangling_exception};
+ghost use Rattle.timing_defs.specs.NetChecks.{least};
 ghost use Rattle.design_link.specs.Dangling.{dangling_ports, dangling_names};
 ghost use Rattle.design_link.specs.After.{dangling_among};
 

@@ -1,7 +1,7 @@
 //! The least name by bytes.
 
 ghost use Rattle.std.specs.Prelude.{◌≡◌, ◌<◌, ℕ, [], false, length, slice_index_or, if◌then◌else◌, IfOk};
-ghost use Rattle.timing_defs.specs.Checks.{is_before, least};
+ghost use Rattle.timing_defs.specs.NetChecks.{is_before, least};
 
 use sta_units::Memory;
 use std::alloc::Global;

@@ -3,7 +3,7 @@
 ghost use Rattle.std.specs.Prelude.{◌≡◌, ◌≤◌, [], ℕ, List, true, Some, map, filter, if◌then◌else◌, IfOk};
 ghost use Rattle.timing_defs.specs.Netlist.{pins, is_on};
 ghost use Rattle.timing_defs.specs.Wires.{is_lumped, root_node};
-ghost use Rattle.timing_defs.specs.Checks.{nodes_of_rc, different, is_large_net};
+ghost use Rattle.timing_defs.specs.NetChecks.{nodes_of_rc, different, is_large_net};
 ghost use Rattle.netlist_store.specs.Numbering.{name_at, is_number};
 ghost use Rattle.design_link.specs.Failing.{IsRcOf};
 ghost use Rattle.design_link.specs.Nodes.{nodes_in, HaveSameNodes};

@@ -2,7 +2,7 @@
 
 ghost use Rattle.std.specs.Prelude.{◌≡◌, ◌++◌, ◌∷◌, [], None, true, not, filter, length, IfOk, OnOk};
 ghost use Rattle.std.specs.Option.{option_copied};
-ghost use Rattle.timing_defs.specs.Checks.{is_tree, pins_agree, net_fault, least};
+ghost use Rattle.timing_defs.specs.NetChecks.{is_tree, pins_agree, net_fault, least};
 ghost use Rattle.netlist_store.specs.Numbering.{name_at, is_number};
 ghost use Rattle.design_link.specs.Counts.{names_below, with_name};
 ghost use Rattle.design_link.specs.Failing.{IsRcOf, IsReadyFor, fails, fails_at, fails_here, least_among};

@@ -3,7 +3,7 @@
 ghost use Rattle.std.specs.Prelude.{◌≡◌, ◌∷◌, ◌++◌, [], ℕ, map, length, IfOk};
 ghost use Rattle.std.specs.List.{flat_map};
 ghost use Rattle.timing_defs.specs.declared.parasitics.RcNode.TheVariants.{Pin as rc_pin, Inner as rc_inner};
-ghost use Rattle.timing_defs.specs.Checks.{different};
+ghost use Rattle.timing_defs.specs.NetChecks.{different};
 ghost use Rattle.design_link.specs.Nodes.{is_node, nodes_in, HaveSameNodes};
 
 use indexmap::IndexSet;

@@ -3,8 +3,9 @@
 ghost use Rattle.std.specs.Prelude.{◌≡◌, ◌++◌, ◌∷◌, ◌&&◌, ◌||◌, [], ℕ, List, Some, true, option_map, if◌then◌else◌, IfOk, OnOk};
 ghost use Rattle.std.specs.List.{filter_map};
 ghost use Rattle.timing_defs.specs.Edits.{has_colon};
-ghost use Rattle.timing_defs.specs.Rules.{is_clock_name, as_pin};
-ghost use Rattle.timing_defs.specs.Checks.{port_named, is_port, is_inst, is_pin, is_any, dangling_object, dangling_objects};
+ghost use Rattle.timing_rules.specs.Rules.{is_clock_name};
+ghost use Rattle.timing_defs.specs.Names.{as_pin};
+ghost use Rattle.timing_rules.specs.Checks.{port_named, is_port, is_inst, is_pin, is_any, dangling_object, dangling_objects};
 ghost use Rattle.netlist_store.specs.Numbering.{number_of, is_number};
 ghost use Rattle.design_link.specs.Dangling.{is_there, word_of};
 

@@ -2,7 +2,7 @@
 
 ghost use Rattle.std.specs.Prelude.{◌≡◌, set, IsTrue, IfOk};
 ghost use Rattle.timing_defs.specs.Names.{is_name};
-ghost use Rattle.timing_defs.specs.Rules.{is_split, as_pin};
+ghost use Rattle.timing_defs.specs.Names.{is_split, as_pin};
 ghost use Rattle.design_link.specs.Words.{IsLastSplit};
 
 use sta_units::Memory;

@@ -4,7 +4,7 @@ ghost use Rattle.std.specs.Prelude.{◌≡◌, ◌&&◌, ℕ, List, All, Some, t
 ghost use Rattle.std.specs.List.{list_all, list_any};
 ghost use Rattle.timing_defs.specs.Netlist.{pins, is_on};
 ghost use Rattle.timing_defs.specs.Wires.{same_rc, root_node, touches};
-ghost use Rattle.timing_defs.specs.Checks.{is_pin_of, has_resistor, named_nodes, pins_agree};
+ghost use Rattle.timing_defs.specs.NetChecks.{is_pin_of, has_resistor, named_nodes, pins_agree};
 ghost use Rattle.netlist_store.specs.Numbering.{name_at, is_named, is_number, is_on_number};
 ghost use Rattle.design_link.specs.Failing.{IsRcOf};
 ghost use Rattle.design_link.specs.Nodes.{is_node, nodes_in};

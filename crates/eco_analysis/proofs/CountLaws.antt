@@ -8,9 +8,10 @@ use Rattle.timing_defs.specs.declared.edits.Eco.{Eco}
 use Rattle.timing_defs.specs.declared.faults.Fault.{Fault}
 use Rattle.timing_defs.specs.declared.faults.Fault.TheVariants.{Memory as no_room}
 use Rattle.timing_defs.specs.Edits.{edited}
-use Rattle.timing_defs.specs.Cones.{Touch, touched_list, forward_count, backward_count, MakesSound, IsCounted}
-use Rattle.timing_defs.specs.Checks.{Accepts, IsSound}
-use Rattle.timing_defs.proofs.LongerJournals.{not_both}
+use Rattle.timing_defs.specs.Touches.{Touch, touched_list}
+use Rattle.timing_rules.specs.Cones.{forward_count, backward_count, MakesSound, IsCounted}
+use Rattle.timing_rules.specs.Checks.{Accepts, IsSound}
+use Rattle.timing_rules.proofs.LongerJournals.{not_both}
 use Rattle.netlist_store.specs.Applying.{IsApplied, IsRefused}
 use Rattle.netlist_store.specs.Numbering.{Stored}
 use Rattle.eco_analysis.specs.Counting.{tells, is_told}

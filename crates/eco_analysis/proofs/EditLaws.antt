@@ -3,8 +3,8 @@
 use Rattle.std.proofs.Common.{◌≡◌, ℕ, List, sym, subst}
 use Rattle.timing_defs.specs.declared.design.Design.{Design}
 use Rattle.timing_defs.specs.declared.edits.Eco.{Eco}
-use Rattle.timing_defs.specs.Checks.{Accepts, IsSound}
-use Rattle.timing_defs.specs.Cones.{Touch}
+use Rattle.timing_rules.specs.Checks.{Accepts, IsSound}
+use Rattle.timing_defs.specs.Touches.{Touch}
 use Rattle.netlist_store.specs.Applying.{IsApplied, IsEditOf}
 use Rattle.netlist_store.specs.Numbering.{Stored}
 use Rattle.netlist_store.specs.Linked.{IsSized}

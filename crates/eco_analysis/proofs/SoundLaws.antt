@@ -14,9 +14,10 @@ use Rattle.timing_defs.specs.declared.faults.Large.{Large}
 use Rattle.timing_defs.specs.declared.faults.Large.TheVariants.{Pins, Insts, Nets, Net as large_net}
 use Rattle.timing_defs.specs.declared.faults.Fault.TheVariants.{ManyDrivers, ConstraintDangling, RcNotTree, RcPinsDiffer, Loop, OutOfRange, TooLarge, Memory}
 use Rattle.timing_defs.specs.Edits.{edited}
-use Rattle.timing_defs.specs.Cones.{Touch}
-use Rattle.timing_defs.specs.Range.{NoOrigin}
-use Rattle.timing_defs.specs.Checks.{most, least, nets_where, is_large_net, many_drivers, net_fault, data_fault, clock_not_tree, dangling, rc_not_tree, rc_pins_differ, first_of_two, Standing, IsGraphFault, HasNoLoop, IsSound, Faulty}
+use Rattle.timing_defs.specs.Touches.{Touch}
+use Rattle.timing_rules.specs.Range.{NoOrigin}
+use Rattle.timing_defs.specs.NetChecks.{most, least, nets_where, is_large_net, many_drivers, net_fault, first_of_two}
+use Rattle.timing_rules.specs.Checks.{data_fault, clock_not_tree, dangling, rc_not_tree, rc_pins_differ, Standing, IsGraphFault, HasNoLoop, IsSound, Faulty}
 use Rattle.pin_graph.specs.RowTables.{IsRangeFault}
 use Rattle.design_link.specs.After.{IsMadeOf, link_data_fault}
 use Rattle.eco_analysis.specs.Soundness.{IsUnsound, IsFaultless, IsSoundEdit, IsRefusal}

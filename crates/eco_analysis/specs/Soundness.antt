@@ -5,7 +5,7 @@ use Rattle.timing_defs.specs.declared.design.Design.{Design}
 use Rattle.timing_defs.specs.declared.edits.Eco.{Eco}
 use Rattle.timing_defs.specs.declared.faults.Fault.{Fault}
 use Rattle.timing_defs.specs.declared.faults.Fault.TheVariants.{Memory as no_room}
-use Rattle.timing_defs.specs.Checks.{Faulty, IsSound, Refuses}
+use Rattle.timing_rules.specs.Checks.{Faulty, IsSound, Refuses}
 use Rattle.design_link.specs.After.{IsMadeOf}
 
 -- a fault stands in the design, or memory is wanting

@@ -2,8 +2,8 @@
 
 ghost use Rattle.std.specs.Prelude.{◌≡◌, ◌+◌, ◌≤◌, IfOk, IfErr, OnOk};
 ghost use Rattle.std.specs.Arc.{arc_value};
-ghost use Rattle.timing_defs.specs.Checks.{IsSound};
-ghost use Rattle.timing_defs.specs.Cones.{forward_count, backward_count};
+ghost use Rattle.timing_rules.specs.Checks.{IsSound};
+ghost use Rattle.timing_rules.specs.Cones.{forward_count, backward_count};
 ghost use Rattle.netlist_store.specs.Applying.{IsEditOf};
 ghost use Rattle.eco_analysis.specs.Soundness.{IsUnsound, IsSoundEdit};
 

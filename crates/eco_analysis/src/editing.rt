@@ -5,8 +5,8 @@ ghost use Rattle.std.specs.Arc.{arc_value};
 ghost use Rattle.timing_defs.specs.Documents.{is_eco};
 ghost use Rattle.timing_defs.specs.declared.design.Design.{Design};
 ghost use Rattle.timing_defs.specs.declared.faults.Fault.{Fault};
-ghost use Rattle.timing_defs.specs.Checks.{Accepts, Refuses, IsSound};
-ghost use Rattle.timing_defs.specs.Cones.{forward_count, backward_count, IsCounted};
+ghost use Rattle.timing_rules.specs.Checks.{Accepts, Refuses, IsSound};
+ghost use Rattle.timing_rules.specs.Cones.{forward_count, backward_count, IsCounted};
 ghost use Rattle.netlist_store.specs.Applying.{IsApplied, IsRefused};
 ghost use Rattle.design_link.specs.After.{IsMadeOf};
 ghost use Rattle.affected_cone.specs.Analysed.{IsAnalysis};
@@ -126,7 +126,7 @@ fn prepared<H: Threads + Sync, G: Gate, L>(
 
 /// An ECO is accepted with one design, and what is accepted is not refused, told to the proofs of callers;
 /// the call does nothing.
-#[tactic(auto, using(timing_defs::proofs::LongerJournals::accepted_once, timing_defs::proofs::LongerJournals::not_both))]
+#[tactic(auto, using(timing_rules::proofs::LongerJournals::accepted_once, timing_rules::proofs::LongerJournals::not_both))]
 pub fn exclusion(eco: &Eco)
     ensures once { (d : Design) → (a : Design) → (b : Design) → Accepts d eco.now a → Accepts d eco.now b → a ≡ b }
     ensures apart { (d : Design) → (a : Design) → Accepts d eco.now a → (x : Fault) → Refuses d eco.now x → ⊥ }

@@ -1,7 +1,8 @@
 //! The checks of a whole design, in the order of their codes; and the same after an ECO.
 
 ghost use Rattle.std.specs.Prelude.{◌≡◌, None, IfOk, IfErr, OnOk};
-ghost use Rattle.timing_defs.specs.Checks.{IsSound, net_fault, clock_not_tree, HasNoLoop};
+ghost use Rattle.timing_rules.specs.Checks.{IsSound, clock_not_tree, HasNoLoop};
+ghost use Rattle.timing_defs.specs.NetChecks.{net_fault};
 ghost use Rattle.netlist_store.specs.Linked.{IsSized};
 ghost use Rattle.netlist_store.specs.Applying.{IsChecked, IsEditOf};
 ghost use Rattle.pin_graph.specs.Refusals.{IsGraphRefused};

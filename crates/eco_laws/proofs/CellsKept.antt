@@ -14,9 +14,10 @@ use Rattle.timing_defs.specs.declared.netlist.Inst.{Inst}
 use Rattle.timing_defs.specs.declared.design.Design.{Design}
 use Rattle.timing_defs.specs.Netlist.{Pin, cell_of, cell_named, cell_pin, cell_pins, inst_pins, pin_at, same_dir}
 use Rattle.timing_defs.specs.Wires.{pin_cap}
-use Rattle.timing_defs.specs.Clocking.{is_comb, cell_arcs, cell_tests, port_has_clock, is_clock_port, clocks_cell, is_clock_pin}
-use Rattle.timing_defs.specs.Rows.{is_input_port}
-use Rattle.timing_defs.specs.Tests.{tests_pin, is_endpoint}
+use Rattle.timing_defs.specs.Kinds.{is_comb}
+use Rattle.timing_rules.specs.Clocking.{cell_arcs, cell_tests, port_has_clock, is_clock_port, clocks_cell, is_clock_pin}
+use Rattle.timing_rules.specs.Rows.{is_input_port}
+use Rattle.timing_rules.specs.Tests.{tests_pin, is_endpoint}
 use Rattle.netlist_store.proofs.SeenPins.{Seen, seen, seen_owner}
 use Rattle.netlist_store.proofs.Untouched.{IsFramed}
 use Rattle.eco_laws.specs.Seen.{cap_seen}

@@ -15,7 +15,7 @@ use Rattle.timing_defs.specs.declared.faults.Fault.{Fault}
 use Rattle.timing_defs.specs.declared.faults.Fault.TheVariants.{PinsDiffer, NotConnected}
 use Rattle.timing_defs.specs.Netlist.{conn_net, is_listed}
 use Rattle.timing_defs.specs.Edits.{inst_named, before_last, after_last, on_inst, with_conns, connected, word_net, moved_sinks, buffer_inst, cell_for, changed, edit_by, edited, edited_list, edit_faults, first_fault, unless, need_net, need_cell, need_pin_inst, need_sink, free_inst, free_net, is_buffer, sink_faults}
-use Rattle.timing_defs.specs.Cones.{touched_by, touched_list}
+use Rattle.timing_defs.specs.Touches.{touched_by, touched_list}
 use Rattle.timing_defs.proofs.SameNames.{same_is, same_self}
 use Rattle.timing_defs.proofs.Members.{found_passes}
 use Rattle.netlist_store.proofs.SeenPins.{word_in}

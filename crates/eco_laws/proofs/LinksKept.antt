@@ -15,8 +15,8 @@ use Rattle.timing_defs.specs.declared.library.CellArc.{CellArc}
 use Rattle.timing_defs.specs.declared.library.CellTest.{CellTest}
 use Rattle.timing_defs.specs.declared.netlist.Inst.{Inst}
 use Rattle.timing_defs.specs.Netlist.{Pin, name_of, net_of, is_driver, driver, pins, cell_of, is_listed, same_dir}
-use Rattle.timing_defs.specs.Clocking.{cell_arcs, cell_tests}
-use Rattle.timing_defs.specs.Cones.{Touch}
+use Rattle.timing_rules.specs.Clocking.{cell_arcs, cell_tests}
+use Rattle.timing_defs.specs.Touches.{Touch}
 use Rattle.timing_defs.specs.Documents.{is_cell_arc, is_cell_test, is_pin_of, has_pin}
 use Rattle.timing_defs.specs.Lookup.{is_well_formed}
 use Rattle.timing_defs.specs.Edits.{inst_named, has_colon, before_last}

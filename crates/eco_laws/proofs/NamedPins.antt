@@ -7,7 +7,7 @@ use Rattle.std.specs.Str.{bytes_eq}
 use Rattle.std.proofs.lemmas.Bool.{false≢true}
 use Rattle.timing_defs.specs.declared.netlist.Inst.{Inst}
 use Rattle.timing_defs.specs.Netlist.{Pin, name_of, net_of, is_on, pin_named, pins, is_listed}
-use Rattle.timing_defs.specs.Cones.{Touch}
+use Rattle.timing_defs.specs.Touches.{Touch}
 use Rattle.timing_defs.proofs.SameNames.{same_is, same_self}
 use Rattle.timing_defs.proofs.Members.{found_in, in_map, in_map_back, in_filter, kept_in, passes_in}
 use Rattle.netlist_store.specs.Applying.{IsEditOf}

@@ -5,7 +5,7 @@ use Rattle.std.specs.Prelude.{Contains, nat_eq, option_and_then, is_some}
 use Rattle.std.specs.Option.{option_map_or}
 use Rattle.std.proofs.lemmas.Bool.{false≢true, eqb-true, eq-eqb}
 use Rattle.timing_defs.specs.Netlist.{Pin, name_of, net_of, pins, sinks, is_listed}
-use Rattle.timing_defs.specs.Cones.{Touch}
+use Rattle.timing_defs.specs.Touches.{Touch}
 use Rattle.timing_defs.proofs.ListLemmas.{bool_iff}
 use Rattle.timing_defs.proofs.Members.{some_is, first_in, later_in, kept_in}
 use Rattle.netlist_store.specs.Applying.{IsEditOf}

@@ -16,7 +16,7 @@ use Rattle.timing_defs.specs.declared.design.Design.{Design}
 use Rattle.timing_defs.specs.declared.faults.Place.TheVariants.{Net as at_net}
 use Rattle.timing_defs.specs.Netlist.{Pin, name_of, driver, drivers, sinks, library_of}
 use Rattle.timing_defs.specs.Wires.{sum_of, res_of, pin_cap, rc_of, charges, rc_load, net_load, is_lumped, impulse, elmore, root_node, wire_delay, wire_slew}
-use Rattle.timing_defs.specs.Range.{rc_nodes, wires_within, net_wires_within, is_large_rc, is_net_origin, is_origin}
+use Rattle.timing_rules.specs.Range.{rc_nodes, wires_within, net_wires_within, is_large_rc, is_net_origin, is_origin}
 use Rattle.timing_defs.proofs.SameNames.{same_is}
 use Rattle.timing_defs.proofs.Members.{found_passes}
 use Rattle.netlist_store.proofs.SeenPins.{seen, seen_on}

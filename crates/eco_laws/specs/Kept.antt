@@ -6,7 +6,7 @@ use Rattle.timing_defs.specs.declared.netlist.Inst.{Inst}
 use Rattle.timing_defs.specs.declared.design.Design.{Design}
 use Rattle.timing_defs.specs.Netlist.{Pin, name_of, pins, pin_named, conn_net, net_of, is_listed}
 use Rattle.timing_defs.specs.Edits.{has_colon, before_last}
-use Rattle.timing_defs.specs.Cones.{Touch}
+use Rattle.timing_defs.specs.Touches.{Touch}
 use Rattle.netlist_store.specs.Numbering.{Stored, inst_numbered, pin_numbered}
 use Rattle.netlist_store.proofs.SeenPins.{seen}
 

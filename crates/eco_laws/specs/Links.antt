@@ -8,7 +8,7 @@ use Rattle.timing_defs.specs.declared.library.CellArc.{CellArc}
 use Rattle.timing_defs.specs.declared.library.CellTest.{CellTest}
 use Rattle.timing_defs.specs.declared.netlist.Inst.{Inst}
 use Rattle.timing_defs.specs.Netlist.{Pin, name_of, full_name, net_of, is_driver, driver, cell_of}
-use Rattle.timing_defs.specs.Clocking.{cell_arcs, cell_tests}
+use Rattle.timing_rules.specs.Clocking.{cell_arcs, cell_tests}
 use Rattle.netlist_store.specs.Numbering.{Stored, number_of, inst_numbered, pin_numbered}
 
 -- the number of a pin of an instance, by its name in the cell

@@ -16,8 +16,8 @@ use Rattle.timing_defs.specs.declared.library.CellPin.{CellPin}
 use Rattle.timing_defs.specs.declared.library.CellTest.{CellTest}
 use Rattle.timing_defs.specs.declared.netlist.Inst.{Inst}
 use Rattle.timing_defs.specs.Netlist.{Pin, name_of, pin_named, is_driver, cell_of, cell_pins}
-use Rattle.timing_defs.specs.Clocking.{cell_tests}
-use Rattle.timing_defs.specs.Tests.{tests_pin, is_endpoint}
+use Rattle.timing_rules.specs.Clocking.{cell_tests}
+use Rattle.timing_rules.specs.Tests.{tests_pin, is_endpoint}
 use Rattle.timing_defs.specs.Edits.{inst_named}
 use Rattle.netlist_store.specs.Linked.{IsLinked}
 use Rattle.netlist_store.specs.Numbering.{Stored, name_at, number_of, is_number, pin_numbered, inst_numbered, owner_number, IsNumbered}

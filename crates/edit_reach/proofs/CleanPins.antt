@@ -14,9 +14,10 @@ use Rattle.timing_defs.specs.declared.library.Cell.{Cell}
 use Rattle.timing_defs.specs.declared.netlist.Inst.{Inst}
 use Rattle.timing_defs.specs.declared.design.Design.{Design}
 use Rattle.timing_defs.specs.Netlist.{Pin, Node, name_of, cell_of, cell_pin, cell_pins, inst_pins, both_nodes, pins}
-use Rattle.timing_defs.specs.Cones.{Touch, is_seed}
-use Rattle.timing_defs.specs.Paths.{Named, named, IsSlack}
-use Rattle.timing_defs.specs.Tests.{is_endpoint}
+use Rattle.timing_defs.specs.Touches.{Touch}
+use Rattle.timing_rules.specs.Cones.{is_seed}
+use Rattle.timing_rules.specs.Paths.{Named, named, IsSlack}
+use Rattle.timing_rules.specs.Tests.{is_endpoint}
 use Rattle.netlist_store.specs.Numbering.{number_of, name_at, is_number, pin_numbered, owner_number, IsNumbered}
 use Rattle.netlist_store.specs.Applying.{IsEditOf}
 use Rattle.eco_laws.proofs.EditOf.{framed_of, numbers_kept}

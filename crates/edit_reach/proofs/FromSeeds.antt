@@ -2,7 +2,8 @@
 
 use Rattle.std.proofs.Common.{false, List, ℕ, ap, ◌∙◌}
 use Rattle.std.specs.Option.{option_map_or}
-use Rattle.timing_defs.specs.Cones.{Touch, is_seed}
+use Rattle.timing_defs.specs.Touches.{Touch}
+use Rattle.timing_rules.specs.Cones.{is_seed}
 use Rattle.netlist_store.specs.Numbering.{Stored}
 use Rattle.pin_graph.specs.Seeds.{AreSeeds}
 use Rattle.edit_reach.specs.Reach.{HasSeeds}

@@ -7,10 +7,11 @@ use Rattle.std.proofs.lemmas.Bool.{cases_Bool, false≢true}
 use Rattle.std.proofs.lemmas.List.Elements.{All-contains}
 use Rattle.timing_defs.specs.declared.design.Design.{Design}
 use Rattle.timing_defs.specs.Netlist.{Node, name_of, nodes}
-use Rattle.timing_defs.specs.Cones.{Touch, is_seed, has_register_arc}
-use Rattle.timing_defs.specs.Rows.{arcs_in}
-use Rattle.timing_defs.specs.Paths.{Named, named, node_named}
-use Rattle.timing_defs.proofs.RowLaws.{ArePlacedNodes}
+use Rattle.timing_defs.specs.Touches.{Touch}
+use Rattle.timing_rules.specs.Cones.{is_seed, has_register_arc}
+use Rattle.timing_rules.specs.Rows.{arcs_in}
+use Rattle.timing_rules.specs.Paths.{Named, named, node_named}
+use Rattle.timing_rules.proofs.RowLaws.{ArePlacedNodes}
 use Rattle.netlist_store.specs.Linked.{IsLinked}
 use Rattle.netlist_store.specs.Numbering.{number_of, IsNumbered}
 use Rattle.netlist_store.specs.Applying.{IsEditOf}

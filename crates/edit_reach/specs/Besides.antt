@@ -8,7 +8,7 @@ use Rattle.timing_defs.specs.declared.library.CellPin.{CellPin}
 use Rattle.timing_defs.specs.declared.netlist.Inst.{Inst}
 use Rattle.timing_defs.specs.declared.library.CellTest.{CellTest}
 use Rattle.timing_defs.specs.Netlist.{cell_of, cell_pins}
-use Rattle.timing_defs.specs.Clocking.{cell_tests}
+use Rattle.timing_rules.specs.Clocking.{cell_tests}
 use Rattle.netlist_store.specs.Numbering.{Stored, inst_numbered, owner_number}
 use Rattle.pin_graph.specs.Joins.{own_number}
 use Rattle.pin_graph.specs.Nodes.{pin_under}

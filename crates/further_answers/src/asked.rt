@@ -2,7 +2,7 @@
 
 ghost use Rattle.std.specs.Prelude.{◌≡◌, None, IfErr, OnOk, drop};
 ghost use Rattle.timing_defs.specs.Wires.{first_some};
-ghost use Rattle.timing_defs.specs.Reports.{unknown_pin};
+ghost use Rattle.timing_rules.specs.Reports.{unknown_pin};
 ghost use Rattle.affected_cone.specs.Asked.{IsRefusal};
 
 use affected_cone::pin_there;

@@ -6,8 +6,8 @@ ghost use Rattle.timing_defs.specs.declared.reports.Report.{Drafted};
 ghost use Rattle.timing_defs.specs.declared.reports.TrialRow.{TrialRow};
 ghost use Rattle.timing_defs.specs.declared.reports.Advice.{Advice};
 ghost use Rattle.timing_defs.specs.Documents.{is_trial};
-ghost use Rattle.timing_defs.specs.Drafts.{AreTrials};
-ghost use Rattle.timing_defs.specs.Advice.{IsAdvice};
+ghost use Rattle.timing_rules.specs.Drafts.{AreTrials};
+ghost use Rattle.timing_rules.specs.Advice.{IsAdvice};
 
 use affected_cone::Analysis;
 use netlist_store::Store;

@@ -1,7 +1,7 @@
 //! The answers to questions about paths.
 
 ghost use Rattle.std.specs.Prelude.{IfOk, IfErr};
-ghost use Rattle.timing_defs.specs.Questions.{Told, query_fault};
+ghost use Rattle.timing_rules.specs.Questions.{Told, query_fault};
 ghost use Rattle.affected_cone.specs.Analysed.{IsSearch};
 ghost use Rattle.affected_cone.specs.Asked.{IsRefusal};
 

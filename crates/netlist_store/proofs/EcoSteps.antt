@@ -12,7 +12,7 @@ use Rattle.timing_defs.specs.declared.faults.Fault.{Fault}
 use Rattle.timing_defs.specs.declared.faults.Fault.TheVariants.{Memory}
 use Rattle.timing_defs.specs.Edits.{edit, edit_by, edit_faults, first_fault, changed, edited_list}
 use Rattle.timing_defs.specs.Documents.{is_edit, is_eco}
-use Rattle.timing_defs.specs.Cones.{Touch, touched_list}
+use Rattle.timing_defs.specs.Touches.{Touch, touched_list}
 use Rattle.netlist_store.specs.declared.touched.Touched.{Touched}
 use Rattle.netlist_store.specs.Touching.{touched_with}
 use Rattle.netlist_store.proofs.BufferSteps.{all_at, drop_end}

@@ -16,7 +16,7 @@ use Rattle.timing_defs.specs.declared.parasitics.NetRc.{NetRc}
 use Rattle.timing_defs.specs.declared.design.Design.{Design}
 use Rattle.timing_defs.specs.Netlist.{Pin, name_of, full_name, is_on, is_driver, drives_as, drivers, driver, same_dir, pins, is_listed, are_distinct}
 use Rattle.timing_defs.specs.Wires.{same_rc, is_lumped, root_node, path_between}
-use Rattle.timing_defs.specs.Checks.{named_nodes, is_large_net, different, has_cycle, reaches_all, is_tree, is_pin_of, has_resistor, pins_agree}
+use Rattle.timing_defs.specs.NetChecks.{named_nodes, is_large_net, different, has_cycle, reaches_all, is_tree, is_pin_of, has_resistor, pins_agree}
 use Rattle.netlist_store.specs.Linked.{IsLinked}
 use Rattle.netlist_store.proofs.ShardLaws.{same_is}
 use Rattle.netlist_store.proofs.ListLaws.{apart_sym}

@@ -14,7 +14,7 @@ use Rattle.timing_defs.specs.declared.edits.Edit.TheVariants.{Repower, Connect, 
 use Rattle.timing_defs.specs.declared.faults.Fault.TheVariants.{UnknownInstance, UnknownPin, PinsDiffer, AlreadyConnected, NotConnected}
 use Rattle.timing_defs.specs.Netlist.{cell_named}
 use Rattle.timing_defs.specs.Edits.{inst_named, has_colon, before_last, after_last, word_direction, word_net, direction_in, edit_faults, first_fault, need_inst, need_cell, need_pin_inst, need_net, need_pin, fits_cell, unless, changed}
-use Rattle.timing_defs.specs.Cones.{Touch, touched_by, touched_list}
+use Rattle.timing_defs.specs.Touches.{Touch, touched_by, touched_list}
 use Rattle.netlist_store.specs.declared.touched.Touched.{Touched}
 use Rattle.netlist_store.specs.Touching.{IsWord, touched_with}
 use Rattle.netlist_store.proofs.ShardLaws.{same_is}

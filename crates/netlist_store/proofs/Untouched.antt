@@ -21,7 +21,7 @@ use Rattle.timing_defs.specs.declared.faults.Fault.TheVariants.{PinsDiffer, Alre
 use Rattle.timing_defs.specs.Netlist.{port_pin, is_on, is_listed, are_distinct}
 use Rattle.timing_defs.specs.Wires.{rc_of}
 use Rattle.timing_defs.specs.Edits.{inst_named, before_last, after_last, on_inst, with_conns, connected, is_conn_of, is_open, word_net, moved_sinks, buffer_inst, first_pin, cell_for, without_rc, with_rc, changed, edit, edit_by, edited, edited_list, edit_faults, first_fault, unless, need_net, need_cell, need_pin_inst, need_pin, need_sink, free_inst, free_net, is_buffer, sink_faults}
-use Rattle.timing_defs.specs.Cones.{nets_of_inst, touched_by, touched_list}
+use Rattle.timing_defs.specs.Touches.{nets_of_inst, touched_by, touched_list}
 use Rattle.netlist_store.specs.Linked.{IsLinked}
 use Rattle.timing_defs.specs.Documents.{is_edit, is_eco}
 use Rattle.netlist_store.proofs.ShardLaws.{same_is}

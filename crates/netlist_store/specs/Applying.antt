@@ -7,7 +7,7 @@ use Rattle.timing_defs.specs.declared.faults.Fault.{Fault}
 use Rattle.timing_defs.specs.declared.faults.Fault.TheVariants.{Memory}
 use Rattle.timing_defs.specs.Edits.{edited}
 use Rattle.timing_defs.specs.Documents.{is_eco}
-use Rattle.timing_defs.specs.Cones.{Touch, touched_list}
+use Rattle.timing_defs.specs.Touches.{Touch, touched_list}
 use Rattle.netlist_store.specs.Numbering.{Stored, KeepsNumbers}
 use Rattle.netlist_store.specs.Linked.{IsLinked}
 

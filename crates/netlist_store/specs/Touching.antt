@@ -4,7 +4,7 @@ use Rattle.std.specs.Prelude.{ℕ, ◌≡◌, true, List, is_some}
 use Rattle.timing_defs.specs.declared.design.Design.{Design}
 use Rattle.timing_defs.specs.declared.edits.Edit.{Edit}
 use Rattle.timing_defs.specs.Edits.{inst_named, has_colon, before_last}
-use Rattle.timing_defs.specs.Cones.{Touch, both_touches, touched_list}
+use Rattle.timing_defs.specs.Touches.{Touch, both_touches, touched_list}
 use Rattle.netlist_store.specs.declared.touched.Touched.{Touched}
 
 -- the word of a pin whose instance is there

@@ -3,8 +3,8 @@
 ghost use Rattle.std.specs.Prelude.{◌≡◌, ◌&&◌, ◌||◌, not, false, slice_get};
 ghost use Rattle.std.specs.List.{list_all, list_any};
 ghost use Rattle.std.specs.Option.{option_map_or};
-ghost use Rattle.timing_defs.specs.Clocking.{comb_kind};
-ghost use Rattle.timing_defs.specs.Tests.{same_kind};
+ghost use Rattle.timing_defs.specs.Kinds.{comb_kind};
+ghost use Rattle.timing_defs.specs.Kinds.{same_kind};
 ghost use Rattle.timing_defs.specs.Edits.{same_cell_pin, same_arc, same_test, same_set, cells_agree};
 
 use timing_defs::{ArcKind, Cell, CellArc, CellPin, CellTest, Kind};

@@ -3,7 +3,7 @@
 ghost use Rattle.std.specs.Prelude.{◌≡◌, ◌∷◌, List, true, Ok, Err, IfOk, IfErr, OnOk};
 ghost use Rattle.timing_defs.specs.declared.edits.Edit.{Edit};
 ghost use Rattle.timing_defs.specs.Edits.{edit, edited, edit_faults, first_fault, changed};
-ghost use Rattle.timing_defs.specs.Cones.{touched_list};
+ghost use Rattle.timing_defs.specs.Touches.{touched_list};
 ghost use Rattle.netlist_store.specs.Touching.{touched_with};
 ghost use Rattle.netlist_store.specs.Numbering.{KeepsNumbers};
 ghost use Rattle.netlist_store.specs.Linked.{IsSized};

@@ -7,7 +7,7 @@ ghost use Rattle.std.specs.Option.{option_to_list};
 ghost use Rattle.timing_defs.specs.declared.design.Design.{Design};
 ghost use Rattle.timing_defs.specs.declared.edits.Edit.{Edit};
 ghost use Rattle.timing_defs.specs.Edits.{inst_named, word_net, before_last, edit_faults, first_fault, changed};
-ghost use Rattle.timing_defs.specs.Cones.{nets_of_inst, touched_by, touched_list};
+ghost use Rattle.timing_defs.specs.Touches.{nets_of_inst, touched_by, touched_list};
 ghost use Rattle.netlist_store.specs.Touching.{IsWord, touched_with};
 
 use crate::pin_words::word_net;

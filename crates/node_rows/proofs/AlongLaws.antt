@@ -14,9 +14,10 @@ use Rattle.timing_defs.specs.declared.design.Design.{Design}
 use Rattle.timing_defs.specs.Lookup.{look}
 use Rattle.timing_defs.specs.Netlist.{Pin, Node, is_driver, net_of, cell_of}
 use Rattle.timing_defs.specs.Wires.{wire_delay, wire_slew}
-use Rattle.timing_defs.specs.Clocking.{is_network, driver_on, cell_arcs}
-use Rattle.timing_defs.specs.Rows.{arcs_in, all_arcs_in, net_arcs_in, cell_arcs_in, outermost, joins, library_arcs, load_at, net_name, slew_in, slew_along, delay_along, factor_of}
-use Rattle.timing_defs.specs.Range.{within_some}
+use Rattle.timing_rules.specs.Clocking.{is_network, driver_on, cell_arcs}
+use Rattle.timing_rules.specs.Rows.{arcs_in, all_arcs_in, net_arcs_in, cell_arcs_in, outermost, joins, library_arcs, load_at, net_name, slew_along, delay_along, factor_of}
+use Rattle.timing_defs.specs.RowTimes.{slew_in}
+use Rattle.timing_rules.specs.Range.{within_some}
 use Rattle.netlist_store.specs.Numbering.{Stored, pin_numbered}
 use Rattle.node_rows.specs.declared.arcs.ArcEnds.{ArcEnds}
 use Rattle.node_rows.specs.declared.arcs.ArcValues.{ArcValues}

@@ -10,8 +10,8 @@ use Rattle.timing_defs.specs.declared.kinds.Split.{Split}
 use Rattle.timing_defs.specs.declared.kinds.Split.TheVariants.{Early, Late}
 use Rattle.timing_defs.specs.declared.library.CellArc.{CellArc}
 use Rattle.timing_defs.specs.Lookup.{look}
-use Rattle.timing_defs.specs.Rows.{outer, outer_some}
-use Rattle.timing_defs.specs.Range.{within_some}
+use Rattle.timing_rules.specs.Rows.{outer, outer_some}
+use Rattle.timing_rules.specs.Range.{within_some}
 use Rattle.node_rows.specs.declared.arcs.ArcEnds.{ArcEnds}
 use Rattle.node_rows.specs.declared.arcs.ArcValues.{ArcValues}
 use Rattle.node_rows.specs.Between.{is_between, is_looked, outer_values, are_within}

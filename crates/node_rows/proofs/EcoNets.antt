@@ -4,9 +4,9 @@ use Rattle.std.proofs.Common.{◌≡◌, ℕ, true, false, List, [], filter, len
 use Rattle.std.specs.Prelude.{is_some, option_map, Contains}
 use Rattle.std.specs.Option.{option_map_or, option_to_list}
 use Rattle.std.specs.Str.{bytes_eq}
-use Rattle.timing_defs.specs.Cones.{Touch}
+use Rattle.timing_defs.specs.Touches.{Touch}
 use Rattle.timing_defs.specs.Netlist.{Pin, name_of, pins, net_of, is_on, is_listed, driver}
-use Rattle.timing_defs.specs.Clocking.{driver_on}
+use Rattle.timing_rules.specs.Clocking.{driver_on}
 use Rattle.netlist_store.specs.Linked.{IsLinked}
 use Rattle.netlist_store.specs.Numbering.{Stored, name_at, number_of, pin_numbered, IsNumbered}
 use Rattle.netlist_store.specs.Applying.{IsApplied, IsEditOf}

@@ -14,10 +14,11 @@ use Rattle.timing_defs.specs.declared.kinds.Tran.TheVariants.{Rise, Fall}
 use Rattle.timing_defs.specs.declared.design.Design.{Design}
 use Rattle.timing_defs.specs.Netlist.{Node, nodes, net_of, is_driver, same_tran}
 use Rattle.timing_defs.specs.Wires.{wire_delay}
-use Rattle.timing_defs.specs.Rows.{arcs_in, net_name, slew, slew_in, slew_of, arrival, arrival_of, time_on, times_in, launch_edges, edge_time, step, row, as_fs}
-use Rattle.timing_defs.specs.Range.{within_some, looked_within, is_loaded, net_wires_within, slew_parts, slew_inputs, fine_slew_within, fine_slew, has_raw_delay, scaled_delay, fine_delay, arrival_inputs, fine_arrival_within, fine_arrival, is_looked_origin, is_scaled_origin, is_slew_origin, is_arrival_origin, is_forward_origin}
+use Rattle.timing_rules.specs.Rows.{arcs_in, net_name, slew, slew_of, arrival, arrival_of, launch_edges, edge_time, step, row, as_fs}
+use Rattle.timing_defs.specs.RowTimes.{slew_in, time_on, times_in}
+use Rattle.timing_rules.specs.Range.{within_some, looked_within, is_loaded, net_wires_within, slew_parts, slew_inputs, fine_slew_within, fine_slew, has_raw_delay, scaled_delay, fine_delay, arrival_inputs, fine_arrival_within, fine_arrival, is_looked_origin, is_scaled_origin, is_slew_origin, is_arrival_origin, is_forward_origin}
 use Rattle.node_rows.specs.Evaluation.{is_wide_looked, is_wide_scaled, is_wide_in}
-use Rattle.timing_defs.proofs.RowLaws.{stable, ArePlacedNodes, row_is, first_in, later_in}
+use Rattle.timing_rules.proofs.RowLaws.{stable, ArePlacedNodes, row_is, first_in, later_in}
 
 -- tests over lists
 all_agree : {X : Type 0} (f g : X → Bool) (xs : List X) → ((x : X) → Contains xs x → f x ≡ g x) → list_all f xs ≡ list_all g xs

@@ -11,7 +11,7 @@ use Rattle.sta_units.specs.Numbers.{is_within}
 use Rattle.timing_defs.specs.declared.kinds.Split.TheVariants.{Early, Late}
 use Rattle.timing_defs.specs.declared.parasitics.NetRc.{NetRc}
 use Rattle.timing_defs.specs.Wires.{net_load, rc_of, is_lumped}
-use Rattle.timing_defs.specs.Range.{is_net_origin}
+use Rattle.timing_rules.specs.Range.{is_net_origin}
 use Rattle.netlist_store.specs.Linked.{IsLinked}
 use Rattle.netlist_store.specs.Numbering.{Stored, name_at, is_number, IsNumbered}
 use Rattle.level_workers.specs.Mapped.{IsMap}

@@ -15,9 +15,10 @@ use Rattle.timing_defs.specs.declared.rows.NodeRow.{NodeRow}
 use Rattle.timing_defs.specs.declared.edge_times.EdgeTime.{EdgeTime}
 use Rattle.timing_defs.specs.Lookup.{is_well_formed}
 use Rattle.timing_defs.specs.Netlist.{Pin, Node, pin_named, same_tran, cell_of, library_of}
-use Rattle.timing_defs.specs.Clocking.{is_network}
-use Rattle.timing_defs.specs.Rows.{library_arcs, slew_in, times_in, time_on}
-use Rattle.timing_defs.specs.Range.{within_some}
+use Rattle.timing_rules.specs.Clocking.{is_network}
+use Rattle.timing_rules.specs.Rows.{library_arcs}
+use Rattle.timing_defs.specs.RowTimes.{slew_in, times_in, time_on}
+use Rattle.timing_rules.specs.Range.{within_some}
 use Rattle.netlist_store.specs.Linked.{IsLinked}
 use Rattle.timing_defs.specs.Documents.{is_cell_arc, is_pin_of, has_pin, is_library}
 use Rattle.netlist_store.specs.Numbering.{Stored, name_at, is_number, inst_numbered, pin_numbered, owner_number, IsNumbered}

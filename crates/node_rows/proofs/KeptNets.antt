@@ -7,9 +7,9 @@ use Rattle.std.specs.Option.{option_map_or, unwrap_or}
 use Rattle.timing_defs.specs.declared.kinds.Split.{Split}
 use Rattle.timing_defs.specs.Netlist.{Pin, net_of, is_driver, is_listed}
 use Rattle.timing_defs.specs.Wires.{net_load, wire_delay, wire_slew}
-use Rattle.timing_defs.specs.Clocking.{driver_on}
-use Rattle.timing_defs.specs.Range.{is_net_origin}
-use Rattle.timing_defs.specs.Rows.{net_name}
+use Rattle.timing_rules.specs.Clocking.{driver_on}
+use Rattle.timing_rules.specs.Range.{is_net_origin}
+use Rattle.timing_rules.specs.Rows.{net_name}
 use Rattle.sta_units.specs.Numbers.{is_within}
 use Rattle.netlist_store.specs.Linked.{IsLinked}
 use Rattle.netlist_store.specs.Numbering.{Stored, name_at, pin_numbered, IsNumbered}

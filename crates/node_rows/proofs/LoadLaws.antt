@@ -7,7 +7,7 @@ use Rattle.sta_units.specs.Numbers.{limit, is_within}
 use Rattle.timing_defs.specs.declared.kinds.Split.{Split}
 use Rattle.timing_defs.specs.Netlist.{net_of}
 use Rattle.timing_defs.specs.Wires.{net_load, load_of}
-use Rattle.timing_defs.specs.Rows.{load_at}
+use Rattle.timing_rules.specs.Rows.{load_at}
 use Rattle.netlist_store.specs.Linked.{IsLinked}
 use Rattle.netlist_store.specs.Numbering.{Stored, name_at, is_number, pin_numbered, net_number, IsNumbered}
 use Rattle.node_rows.specs.declared.pin_wires.Wires.{Wires}

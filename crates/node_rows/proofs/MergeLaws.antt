@@ -8,8 +8,8 @@ use Rattle.std.proofs.lemmas.Int.{ints, clamps}
 use Rattle.std.specs.Int.{int_max, int_min}
 use Rattle.timing_defs.specs.declared.kinds.Split.{Split}
 use Rattle.timing_defs.specs.declared.kinds.Split.TheVariants.{Early, Late}
-use Rattle.timing_defs.specs.Rows.{outer_some, outermost}
-use Rattle.timing_defs.specs.Range.{within_some}
+use Rattle.timing_rules.specs.Rows.{outer_some, outermost}
+use Rattle.timing_rules.specs.Range.{within_some}
 use Rattle.timing_defs.proofs.ListLemmas.{bool_iff}
 use Rattle.timing_defs.proofs.Members.{in_cases, none_in, any_in, any_back, first_in, later_in}
 use Rattle.node_rows.proofs.ArcLaws.{outer_some_within}

@@ -13,7 +13,8 @@ use Rattle.timing_defs.specs.declared.faults.Fault.TheVariants.{TooLarge, ManyDr
 use Rattle.timing_defs.specs.declared.faults.Large.TheVariants.{Pins, Insts, Nets, Net as large_net}
 use Rattle.timing_defs.specs.Netlist.{Pin, pins, is_on, driver}
 use Rattle.timing_defs.specs.Wires.{is_lumped, path_between, root_node}
-use Rattle.timing_defs.specs.Checks.{least, most, nets_where, large, is_large_net, many_drivers, clock_not_tree, dangling, has_cycle, reaches_all, is_tree, rc_not_tree, named_nodes, is_pin_of, has_resistor, pins_agree, rc_pins_differ, first_of_two, net_fault, data_fault}
+use Rattle.timing_defs.specs.NetChecks.{least, most, nets_where, large, is_large_net, many_drivers, has_cycle, reaches_all, is_tree, named_nodes, is_pin_of, has_resistor, pins_agree, first_of_two, net_fault}
+use Rattle.timing_rules.specs.Checks.{clock_not_tree, dangling, rc_not_tree, rc_pins_differ, data_fault}
 use Rattle.timing_defs.proofs.Members.{none_in, in_map, in_filter}
 use Rattle.store_pins.proofs.DriverLaws.{none_least}
 

@@ -14,7 +14,7 @@ use Rattle.timing_defs.specs.declared.parasitics.NetRc.{NetRc}
 use Rattle.timing_defs.specs.declared.design.Design.{Design}
 use Rattle.timing_defs.specs.Netlist.{Pin, net_of}
 use Rattle.timing_defs.specs.Wires.{sum_of, res_of, elmore, charges, root_node, net_load, rc_of, is_lumped}
-use Rattle.timing_defs.specs.Range.{rc_nodes, root_of_net, wires_within, is_large_rc, is_net_origin}
+use Rattle.timing_rules.specs.Range.{rc_nodes, root_of_net, wires_within, is_large_rc, is_net_origin}
 use Rattle.netlist_store.specs.Numbering.{Stored, name_at, is_number}
 use Rattle.node_rows.specs.declared.pin_wires.NetLoad.{NetLoad}
 use Rattle.node_rows.specs.declared.pin_wires.PinWire.{PinWire}

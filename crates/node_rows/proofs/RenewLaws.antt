@@ -10,7 +10,7 @@ use Rattle.std.proofs.lemmas.List.{drop_more, take_more}
 use Rattle.std.proofs.lemmas.Option.{slice_get_within, get_or_from_slice_get}
 use Rattle.timing_defs.specs.declared.kinds.Split.{Split}
 use Rattle.timing_defs.specs.Netlist.{is_listed}
-use Rattle.timing_defs.specs.Range.{is_net_origin}
+use Rattle.timing_rules.specs.Range.{is_net_origin}
 use Rattle.netlist_store.specs.Linked.{IsLinked}
 use Rattle.netlist_store.specs.Numbering.{Stored, name_at, number_of, is_number, net_number, is_on_number, IsNumbered}
 use Rattle.node_rows.specs.declared.pin_wires.PinWire.{PinWire}

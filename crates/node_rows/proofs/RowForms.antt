@@ -18,9 +18,10 @@ use Rattle.timing_defs.specs.Lookup.{look}
 use Rattle.timing_defs.specs.Netlist.{Pin, Node, is_driver, net_of, driver, same_split, same_tran}
 use Rattle.std.specs.Str.{bytes_eq}
 use Rattle.timing_defs.specs.Wires.{wire_slew}
-use Rattle.timing_defs.specs.Clocking.{is_network, driver_on}
-use Rattle.timing_defs.specs.Rows.{arcs_in, all_arcs_in, net_arcs_in, cell_arcs_in, outer_some, outermost, library_arcs, load_at, net_name, slew_in, slew_along, slew_of, arrival_of, arrivals_of, delay_from, start_at, launch_edges, times_in, time_on, plus_some, edge_time, is_input_port, port_slew, as_fs}
-use Rattle.timing_defs.specs.Range.{within_some, looked_within}
+use Rattle.timing_rules.specs.Clocking.{is_network, driver_on}
+use Rattle.timing_rules.specs.Rows.{arcs_in, all_arcs_in, net_arcs_in, cell_arcs_in, outer_some, outermost, library_arcs, load_at, net_name, slew_along, slew_of, arrival_of, arrivals_of, delay_from, start_at, launch_edges, edge_time, is_input_port, port_slew, as_fs}
+use Rattle.timing_defs.specs.RowTimes.{slew_in, times_in, time_on, plus_some}
+use Rattle.timing_rules.specs.Range.{within_some, looked_within}
 use Rattle.timing_defs.proofs.ListLemmas.{list_any_either}
 use Rattle.timing_defs.specs.Documents.{is_amount, are_constraints}
 use Rattle.netlist_store.specs.Numbering.{Stored}

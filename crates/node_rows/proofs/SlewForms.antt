@@ -14,9 +14,9 @@ use Rattle.timing_defs.specs.declared.constraints.Constraints.{Constraints}
 use Rattle.timing_defs.specs.declared.constraints.PortSlew.{PortSlew}
 use Rattle.timing_defs.specs.declared.netlist.Inst.{Inst}
 use Rattle.timing_defs.specs.Netlist.{Pin, Node, full_name, drives_as, is_driver, same_dir, same_tran}
-use Rattle.timing_defs.specs.Clocking.{port_has_clock, is_clock_port}
-use Rattle.timing_defs.specs.Rows.{is_input_port, port_slew, outermost, is_clock_at, input_delay, start_at}
-use Rattle.timing_defs.specs.Range.{within_some}
+use Rattle.timing_rules.specs.Clocking.{port_has_clock, is_clock_port}
+use Rattle.timing_rules.specs.Rows.{is_input_port, port_slew, outermost, is_clock_at, input_delay, start_at}
+use Rattle.timing_rules.specs.Range.{within_some}
 use Rattle.netlist_store.specs.Linked.{IsLinked}
 use Rattle.timing_defs.specs.Documents.{is_amount, are_constraints}
 use Rattle.netlist_store.specs.Numbering.{Stored, name_at, is_number, pin_numbered, IsNumbered}

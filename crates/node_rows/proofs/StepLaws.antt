@@ -11,8 +11,9 @@ use Rattle.timing_defs.specs.declared.kinds.Tran.{Tran}
 use Rattle.timing_defs.specs.declared.kinds.Tran.TheVariants.{Rise, Fall}
 use Rattle.timing_defs.specs.declared.constraints.Clock.{Clock}
 use Rattle.timing_defs.specs.declared.edge_times.EdgeTime.{EdgeTime}
-use Rattle.timing_defs.specs.Rows.{outer_some, outermost, clock_edges, edge_time, plus_some, time_on, times_in}
-use Rattle.timing_defs.specs.Range.{within_some}
+use Rattle.timing_rules.specs.Rows.{outer_some, outermost, clock_edges, edge_time}
+use Rattle.timing_defs.specs.RowTimes.{plus_some, time_on, times_in}
+use Rattle.timing_rules.specs.Range.{within_some}
 use Rattle.netlist_store.specs.Numbering.{Stored}
 use Rattle.node_rows.specs.declared.arcs.ArcValues.{ArcValues}
 use Rattle.node_rows.specs.declared.settings.NodeAt.{NodeAt}

@@ -4,7 +4,7 @@ use Rattle.std.proofs.Common.{◌≡◌, ◌⊎◌, ℕ, List, Bool, true, false
 use Rattle.std.proofs.lemmas.Bool.{false≢true}
 use Rattle.timing_defs.specs.declared.parasitics.NetRc.{NetRc}
 use Rattle.timing_defs.specs.declared.rows.PinCap.{PinCap}
-use Rattle.timing_defs.specs.Checks.{has_cycle}
+use Rattle.timing_defs.specs.NetChecks.{has_cycle}
 use Rattle.rc_tree.specs.declared.faults.RcFault.{RcFault}
 use Rattle.rc_tree.specs.declared.faults.RcFault.TheVariants.{Loop, Unreached, TooLarge, OutOfRange, Memory}
 use Rattle.rc_tree.specs.Trees.{is_unreached, is_too_large, is_out_of_range, rc_fault, IsFaultOf}

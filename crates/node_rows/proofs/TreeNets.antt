@@ -19,10 +19,10 @@ use Rattle.timing_defs.specs.declared.rows.PinCap.{PinCap}
 use Rattle.timing_defs.specs.declared.design.Design.{Design}
 use Rattle.timing_defs.specs.Netlist.{Pin, name_of, pins, pin_named, net_of, is_on, is_driver, driver, sinks, is_listed, are_distinct}
 use Rattle.timing_defs.specs.Wires.{sum_of, same_rc, res_of, elmore, impulse, charges, rc_of, rc_load, net_load, pin_cap, is_lumped, root_node, path_between, wire_delay, wire_slew}
-use Rattle.timing_defs.specs.Clocking.{driver_on}
-use Rattle.timing_defs.specs.Rows.{net_name}
-use Rattle.timing_defs.specs.Checks.{named_nodes, different, is_pin_of, has_resistor}
-use Rattle.timing_defs.specs.Range.{rc_nodes, wires_within, is_large_rc, is_net_origin}
+use Rattle.timing_rules.specs.Clocking.{driver_on}
+use Rattle.timing_rules.specs.Rows.{net_name}
+use Rattle.timing_defs.specs.NetChecks.{named_nodes, different, is_pin_of, has_resistor}
+use Rattle.timing_rules.specs.Range.{rc_nodes, wires_within, is_large_rc, is_net_origin}
 use Rattle.timing_defs.proofs.ListLemmas.{bool_iff}
 use Rattle.netlist_store.specs.Linked.{IsLinked}
 use Rattle.timing_defs.specs.Documents.{is_amount, is_net_rc}

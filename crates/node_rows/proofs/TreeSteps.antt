@@ -14,9 +14,9 @@ use Rattle.timing_defs.specs.declared.parasitics.NetRc.{NetRc}
 use Rattle.timing_defs.specs.declared.design.Design.{Design}
 use Rattle.timing_defs.specs.Netlist.{Pin, name_of, pins, net_of, is_on, is_driver}
 use Rattle.timing_defs.specs.Wires.{same_rc, net_load, rc_of, is_lumped, root_node}
-use Rattle.timing_defs.specs.Clocking.{driver_on}
-use Rattle.timing_defs.specs.Checks.{named_nodes}
-use Rattle.timing_defs.specs.Range.{is_large_rc, is_net_origin}
+use Rattle.timing_rules.specs.Clocking.{driver_on}
+use Rattle.timing_defs.specs.NetChecks.{named_nodes}
+use Rattle.timing_rules.specs.Range.{is_large_rc, is_net_origin}
 use Rattle.netlist_store.specs.Linked.{IsLinked}
 use Rattle.netlist_store.specs.Numbering.{Stored, name_at, pin_numbered, net_number, is_on_number, IsNumbered}
 use Rattle.rc_tree.specs.Trees.{Told, is_node, is_out_of_range, IsTreeOf}

@@ -7,7 +7,7 @@ use Rattle.std.proofs.lemmas.List.Elements.{All-from_get_or, Contains-get_or}
 use Rattle.timing_defs.specs.declared.kinds.Split.{Split}
 use Rattle.timing_defs.specs.declared.parasitics.NetRc.{NetRc}
 use Rattle.timing_defs.specs.declared.rows.PinCap.{PinCap}
-use Rattle.timing_defs.specs.Checks.{has_cycle}
+use Rattle.timing_defs.specs.NetChecks.{has_cycle}
 use Rattle.netlist_store.specs.Linked.{IsLinked}
 use Rattle.netlist_store.specs.Numbering.{Stored, name_at, is_number, IsNumbered}
 use Rattle.rc_tree.specs.Trees.{Told, is_unreached, is_too_large, is_out_of_range, IsMeasured, IsTreeOf}

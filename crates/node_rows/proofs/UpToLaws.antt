@@ -8,8 +8,8 @@ use Rattle.sta_units.specs.Numbers.{is_within}
 use Rattle.timing_defs.specs.declared.kinds.Split.{Split}
 use Rattle.timing_defs.specs.Netlist.{Pin, net_of, is_driver}
 use Rattle.timing_defs.specs.Wires.{net_load}
-use Rattle.timing_defs.specs.Clocking.{driver_on}
-use Rattle.timing_defs.specs.Range.{is_net_origin}
+use Rattle.timing_rules.specs.Clocking.{driver_on}
+use Rattle.timing_rules.specs.Range.{is_net_origin}
 use Rattle.netlist_store.specs.Linked.{IsLinked}
 use Rattle.netlist_store.specs.Numbering.{Stored, name_at, number_of, pin_numbered, net_number, IsNumbered}
 use Rattle.node_rows.specs.declared.pin_wires.NetLoad.{NetLoad}

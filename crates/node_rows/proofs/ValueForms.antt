@@ -9,8 +9,9 @@ use Rattle.timing_defs.specs.declared.kinds.Split.{Split}
 use Rattle.timing_defs.specs.declared.library.Cell.{Cell}
 use Rattle.timing_defs.specs.declared.library.CellArc.{CellArc}
 use Rattle.timing_defs.specs.Netlist.{Pin, is_driver, cell_of}
-use Rattle.timing_defs.specs.Rows.{library_arcs, load_at, slew_in, factor_of}
-use Rattle.timing_defs.specs.Range.{within_some}
+use Rattle.timing_rules.specs.Rows.{library_arcs, load_at, factor_of}
+use Rattle.timing_defs.specs.RowTimes.{slew_in}
+use Rattle.timing_rules.specs.Range.{within_some}
 use Rattle.netlist_store.specs.Linked.{IsLinked}
 use Rattle.netlist_store.specs.Numbering.{Stored, inst_numbered, pin_numbered, owner_number, IsNumbered}
 use Rattle.node_rows.specs.declared.arcs.ArcEnds.{ArcEnds}

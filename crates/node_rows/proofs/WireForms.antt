@@ -14,7 +14,7 @@ use Rattle.timing_defs.specs.declared.parasitics.NetRc.{NetRc}
 use Rattle.timing_defs.specs.declared.design.Design.{Design}
 use Rattle.timing_defs.specs.Netlist.{Pin, name_of, pins, net_of, is_on, is_driver, sinks}
 use Rattle.timing_defs.specs.Wires.{sum_of, same_rc, common_resistance, shared_resistance, elmore, charges, rc_of, rc_load, net_load, pin_cap, is_lumped, root_node, wire_delay, wire_slew, impulse}
-use Rattle.timing_defs.specs.Rows.{net_name}
+use Rattle.timing_rules.specs.Rows.{net_name}
 use Rattle.netlist_store.specs.Linked.{IsLinked}
 use Rattle.netlist_store.specs.Numbering.{Stored, name_at, pin_numbered, IsNumbered}
 use Rattle.node_rows.specs.WireTables.{IsWire}

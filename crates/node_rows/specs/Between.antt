@@ -9,9 +9,9 @@ use Rattle.timing_defs.specs.declared.kinds.Tran.{Tran}
 use Rattle.timing_defs.specs.declared.library.CellArc.{CellArc}
 use Rattle.timing_defs.specs.Lookup.{look, is_well_formed}
 use Rattle.timing_defs.specs.Netlist.{same_tran}
-use Rattle.timing_defs.specs.Clocking.{is_comb}
-use Rattle.timing_defs.specs.Rows.{outermost}
-use Rattle.timing_defs.specs.Range.{within_some}
+use Rattle.timing_defs.specs.Kinds.{is_comb}
+use Rattle.timing_rules.specs.Rows.{outermost}
+use Rattle.timing_rules.specs.Range.{within_some}
 use Rattle.node_rows.specs.declared.arcs.ArcEnds.{ArcEnds}
 use Rattle.node_rows.specs.declared.arcs.ArcValues.{ArcValues}
 

@@ -6,7 +6,7 @@ use Rattle.sta_units.specs.Numbers.{limit}
 use Rattle.timing_defs.specs.declared.kinds.Split.{Split}
 use Rattle.timing_defs.specs.declared.library.Cell.{Cell}
 use Rattle.timing_defs.specs.Netlist.{Pin, is_driver, cell_of}
-use Rattle.timing_defs.specs.Rows.{load_at, factor_of}
+use Rattle.timing_rules.specs.Rows.{load_at, factor_of}
 use Rattle.netlist_store.specs.Numbering.{Stored, inst_numbered, pin_numbered, owner_number}
 use Rattle.node_rows.specs.declared.entries.DrivingCell.{DrivingCell}
 use Rattle.node_rows.specs.declared.entries.Entry.{Entry}

@@ -18,9 +18,10 @@ use Rattle.timing_defs.specs.declared.rows.NodeRow.{NodeRow}
 use Rattle.timing_defs.specs.declared.edge_times.EdgeTime.{EdgeTime}
 use Rattle.timing_defs.specs.Netlist.{Node, name_of, is_driver}
 use Rattle.timing_defs.specs.Wires.{wire_delay}
-use Rattle.timing_defs.specs.Clocking.{is_network}
-use Rattle.timing_defs.specs.Rows.{arcs_in, net_name, slew_along, raw_delay, scaled, delay_from, slew_in, slew_of, arrival_of, launch_edges, outer_some, plus_some, time_on, times_in, edge_time, start_at, step, is_input_port, port_slew, outermost, as_fs}
-use Rattle.timing_defs.specs.Range.{within_some, looked_within, either_split}
+use Rattle.timing_rules.specs.Clocking.{is_network}
+use Rattle.timing_rules.specs.Rows.{arcs_in, net_name, slew_along, raw_delay, scaled, delay_from, slew_of, arrival_of, launch_edges, outer_some, edge_time, start_at, step, is_input_port, port_slew, outermost, as_fs}
+use Rattle.timing_defs.specs.RowTimes.{slew_in, plus_some, time_on, times_in}
+use Rattle.timing_rules.specs.Range.{within_some, looked_within, either_split}
 use Rattle.netlist_store.specs.Numbering.{Stored, pin_numbered}
 use Rattle.node_rows.specs.declared.arcs.ArcValues.{ArcValues}
 use Rattle.node_rows.specs.declared.delays.BothDelays.{BothDelays}

@@ -9,7 +9,7 @@ use Rattle.timing_defs.specs.declared.parasitics.NetRc.{NetRc}
 use Rattle.timing_defs.specs.declared.rows.PinCap.{PinCap}
 use Rattle.timing_defs.specs.Netlist.{Pin, net_of, is_driver}
 use Rattle.timing_defs.specs.Wires.{net_load}
-use Rattle.timing_defs.specs.Clocking.{driver_on}
+use Rattle.timing_rules.specs.Clocking.{driver_on}
 use Rattle.netlist_store.specs.Numbering.{Stored, name_at, pin_numbered, net_number}
 use Rattle.rc_tree.specs.Trees.{IsTreeOf}
 use Rattle.node_rows.specs.declared.pin_wires.PinWire.{PinWire}

@@ -15,9 +15,10 @@ use Rattle.timing_defs.specs.declared.faults.Place.TheVariants.{Net as at_net}
 use Rattle.timing_defs.specs.declared.kinds.Split.TheVariants.{Early, Late}
 use Rattle.timing_defs.specs.Netlist.{Pin, net_of, is_driver}
 use Rattle.timing_defs.specs.Wires.{net_load, rc_of, is_lumped}
-use Rattle.timing_defs.specs.Clocking.{driver_on}
-use Rattle.timing_defs.specs.Checks.{net_fault, data_fault}
-use Rattle.timing_defs.specs.Range.{is_origin, is_net_origin}
+use Rattle.timing_rules.specs.Clocking.{driver_on}
+use Rattle.timing_defs.specs.NetChecks.{net_fault}
+use Rattle.timing_rules.specs.Checks.{data_fault}
+use Rattle.timing_rules.specs.Range.{is_origin, is_net_origin}
 use Rattle.netlist_store.specs.Numbering.{Stored, name_at, pin_numbered, net_number}
 use Rattle.rc_tree.specs.Trees.{Told, delay_of, impulse_of, is_out_of_range, IsTreeOf}
 use Rattle.node_rows.specs.declared.pin_wires.SinkWire.{SinkWire}

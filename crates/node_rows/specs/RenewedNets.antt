@@ -5,7 +5,7 @@ use Rattle.sta_units.specs.Numbers.{is_within}
 use Rattle.timing_defs.specs.declared.kinds.Split.{Split}
 use Rattle.timing_defs.specs.Netlist.{Pin, net_of, is_driver, is_listed}
 use Rattle.timing_defs.specs.Wires.{net_load}
-use Rattle.timing_defs.specs.Clocking.{driver_on}
+use Rattle.timing_rules.specs.Clocking.{driver_on}
 use Rattle.netlist_store.specs.Numbering.{Stored, name_at, pin_numbered, net_number}
 use Rattle.node_rows.specs.declared.pin_wires.NetLoad.{NetLoad}
 use Rattle.node_rows.specs.declared.pin_wires.PinWire.{PinWire}

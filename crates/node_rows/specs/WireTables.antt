@@ -7,8 +7,8 @@ use Rattle.timing_defs.specs.declared.kinds.Split.TheVariants.{Early, Late}
 use Rattle.timing_defs.specs.declared.design.Design.{Design}
 use Rattle.timing_defs.specs.Netlist.{Pin, net_of, is_driver}
 use Rattle.timing_defs.specs.Wires.{net_load, wire_delay, wire_slew}
-use Rattle.timing_defs.specs.Clocking.{driver_on}
-use Rattle.timing_defs.specs.Rows.{net_name}
+use Rattle.timing_rules.specs.Clocking.{driver_on}
+use Rattle.timing_rules.specs.Rows.{net_name}
 use Rattle.netlist_store.specs.Numbering.{Stored, name_at, pin_numbered}
 use Rattle.node_rows.specs.declared.pin_wires.NetLoad.{NetLoad}
 use Rattle.node_rows.specs.declared.pin_wires.SinkWire.{SinkWire}

@@ -3,8 +3,8 @@
 ghost use Rattle.std.specs.Prelude.{◌≡◌, ◌≤◌, [], ◌∷◌, true, false, Some, filter, unsigned_abs, IfOk, IfErr};
 ghost use Rattle.std.specs.List.{list_all};
 ghost use Rattle.sta_units.specs.Numbers.{limit};
-ghost use Rattle.timing_defs.specs.Clocking.{is_comb};
-ghost use Rattle.timing_defs.specs.Rows.{outer, outer_some};
+ghost use Rattle.timing_defs.specs.Kinds.{is_comb};
+ghost use Rattle.timing_rules.specs.Rows.{outer, outer_some};
 ghost use Rattle.timing_defs.specs.Lookup.{look};
 ghost use Rattle.node_rows.specs.Between.{is_between, has_tables, is_looked, outer_values, no_values, are_within};
 

@@ -2,7 +2,7 @@
 
 ghost use Rattle.std.specs.Prelude.{◌≡◌, ◌≤◌, true, Some, option_map, unsigned_abs};
 ghost use Rattle.sta_units.specs.Numbers.{limit};
-ghost use Rattle.timing_defs.specs.Rows.{load_at};
+ghost use Rattle.timing_rules.specs.Rows.{load_at};
 ghost use Rattle.netlist_store.specs.Numbering.{is_number, pin_numbered, owner_number};
 ghost use Rattle.node_rows.specs.Evaluation.{IsSetting};
 ghost use Rattle.node_rows.specs.Entries.{IsDrivingCell, IsEntry};

@@ -4,9 +4,10 @@ ghost use Rattle.std.specs.Prelude.{◌≡◌, ◌+◌, ◌++◌, ◌≤◌, ◌
 ghost use Rattle.std.specs.List.{list_any, list_all};
 ghost use Rattle.std.specs.Option.{option_to_list};
 ghost use Rattle.timing_defs.specs.Netlist.{same_tran};
-ghost use Rattle.timing_defs.specs.Rows.{outermost, times_in, time_on, plus_some, edge_time, start_at, launch_edges, is_input_port, is_clock_at};
-ghost use Rattle.timing_defs.specs.Clocking.{is_clock_port};
-ghost use Rattle.timing_defs.specs.Range.{within_some};
+ghost use Rattle.timing_rules.specs.Rows.{outermost, edge_time, start_at, launch_edges, is_input_port, is_clock_at};
+ghost use Rattle.timing_defs.specs.RowTimes.{times_in, time_on, plus_some};
+ghost use Rattle.timing_rules.specs.Clocking.{is_clock_port};
+ghost use Rattle.timing_rules.specs.Range.{within_some};
 ghost use Rattle.netlist_store.specs.Numbering.{is_number, pin_numbered};
 ghost use Rattle.node_rows.specs.Between.{are_within};
 ghost use Rattle.node_rows.specs.Evaluation.{IsSetting, AreBefore, told_values, told_wide, is_row_within, node_of, IsUnfit, merged_over, arrival_over, times_on, are_wide_times, has_clock};

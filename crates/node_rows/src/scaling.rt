@@ -2,7 +2,7 @@
 
 ghost use Rattle.std.specs.Prelude.{◌≡◌, ◌≤◌, ◌*◌, ◌^◌, pos, ◌*ℤ◌, true, false, unsigned_abs, IfOk, IfErr};
 ghost use Rattle.sta_units.specs.Numbers.{limit, rounded, is_within};
-ghost use Rattle.timing_defs.specs.Rows.{factor_of};
+ghost use Rattle.timing_rules.specs.Rows.{factor_of};
 ghost use Rattle.timing_defs.specs.Documents.{are_derates};
 
 use nldm_lookup::OutOfRange;

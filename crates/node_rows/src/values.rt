@@ -3,8 +3,9 @@
 ghost use Rattle.std.specs.Prelude.{◌≡◌, ◌≤◌, ◌*ℤ◌, ◌^◌, ◌&&◌, pos, not, true, false, Some, unsigned_abs, option_map, option_and_then, MatchResult, IfOk, IfErr};
 ghost use Rattle.sta_units.specs.Numbers.{limit, rounded, is_within};
 ghost use Rattle.timing_defs.specs.Netlist.{is_driver};
-ghost use Rattle.timing_defs.specs.Rows.{slew_in, factor_of};
-ghost use Rattle.timing_defs.specs.Range.{within_some};
+ghost use Rattle.timing_defs.specs.RowTimes.{slew_in};
+ghost use Rattle.timing_rules.specs.Rows.{factor_of};
+ghost use Rattle.timing_rules.specs.Range.{within_some};
 ghost use Rattle.netlist_store.specs.Numbering.{is_number, pin_numbered};
 ghost use Rattle.node_rows.specs.Between.{no_values, are_within};
 ghost use Rattle.node_rows.specs.Entries.{IsDrivingCell, IsEntry};

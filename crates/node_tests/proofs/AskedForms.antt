@@ -15,10 +15,11 @@ use Rattle.timing_defs.specs.declared.netlist.Inst.{Inst}
 use Rattle.timing_defs.specs.declared.rows.NodeRow.{NodeRow}
 use Rattle.timing_defs.specs.Lookup.{is_well_formed}
 use Rattle.timing_defs.specs.Netlist.{Node, pins, cell_of, cell_pin, cell_pins, library_of}
-use Rattle.timing_defs.specs.Clocking.{is_network}
-use Rattle.timing_defs.specs.Rows.{slew_in, row, empty_row}
-use Rattle.timing_defs.specs.Tests.{data_split, clock_split}
-use Rattle.timing_defs.specs.Range.{within_some}
+use Rattle.timing_rules.specs.Clocking.{is_network}
+use Rattle.timing_defs.specs.RowTimes.{slew_in}
+use Rattle.timing_rules.specs.Rows.{row, empty_row}
+use Rattle.timing_defs.specs.Kinds.{data_split, clock_split}
+use Rattle.timing_rules.specs.Range.{within_some}
 use Rattle.timing_defs.specs.Documents.{is_cell_test, has_pin, is_pin_of, is_library}
 use Rattle.timing_defs.specs.declared.kinds.Dir.TheVariants.{Input}
 use Rattle.netlist_store.specs.Numbering.{Stored, inst_numbered, pin_numbered, IsNumbered}

@@ -15,10 +15,12 @@ use Rattle.timing_defs.specs.declared.design.Design.{Design}
 use Rattle.timing_defs.specs.declared.rows.NodeRow.{NodeRow}
 use Rattle.timing_defs.specs.Lookup.{look}
 use Rattle.timing_defs.specs.Netlist.{Node, pins, name_of, same_tran, cell_of}
-use Rattle.timing_defs.specs.Clocking.{is_network, cell_tests}
-use Rattle.timing_defs.specs.Rows.{slew, slew_in, row}
-use Rattle.timing_defs.specs.Tests.{Test, data_split, clock_split, same_kind, is_test_of, library_tests, need_at, network_walk, test_along}
-use Rattle.timing_defs.specs.Range.{within_some, need_within, fine_slew}
+use Rattle.timing_rules.specs.Clocking.{is_network, cell_tests}
+use Rattle.timing_rules.specs.Rows.{slew, row}
+use Rattle.timing_defs.specs.RowTimes.{slew_in}
+use Rattle.timing_rules.specs.Tests.{Test, is_test_of, library_tests, need_at, network_walk, test_along}
+use Rattle.timing_defs.specs.Kinds.{data_split, clock_split, same_kind}
+use Rattle.timing_rules.specs.Range.{within_some, need_within, fine_slew}
 use Rattle.netlist_store.specs.Numbering.{name_at, is_number, inst_numbered, IsNumbered}
 use Rattle.netlist_store.specs.Linked.{IsLinked}
 use Rattle.pin_graph.specs.Nodes.{pin_under}

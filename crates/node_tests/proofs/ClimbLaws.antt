@@ -10,10 +10,10 @@ use Rattle.timing_defs.specs.declared.kinds.Tran.{Tran}
 use Rattle.timing_defs.specs.declared.constraints.Clock.{Clock}
 use Rattle.timing_defs.specs.declared.netlist.Inst.{Inst}
 use Rattle.timing_defs.specs.Netlist.{Pin, Node, pins, nodes, pin_named, name_of, full_name, same_dir}
-use Rattle.timing_defs.specs.Clocking.{is_network, is_clock_port, port_has_clock}
-use Rattle.timing_defs.specs.Rows.{arcs_in}
-use Rattle.timing_defs.specs.Cones.{has_register_arc}
-use Rattle.timing_defs.specs.Tests.{network_walk, edge_of_port}
+use Rattle.timing_rules.specs.Clocking.{is_network, is_clock_port, port_has_clock}
+use Rattle.timing_rules.specs.Rows.{arcs_in}
+use Rattle.timing_rules.specs.Cones.{has_register_arc}
+use Rattle.timing_rules.specs.Tests.{network_walk, edge_of_port}
 use Rattle.netlist_store.specs.Numbering.{Stored, name_at, is_number, pin_numbered, IsNumbered}
 use Rattle.netlist_store.specs.Linked.{IsLinked}
 use Rattle.pin_graph.specs.declared.arcs.GraphArc.{GraphArc}

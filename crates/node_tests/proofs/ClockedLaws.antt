@@ -15,8 +15,9 @@ use Rattle.timing_defs.specs.declared.library.CellTest.{CellTest}
 use Rattle.timing_defs.specs.declared.netlist.Inst.{Inst}
 use Rattle.timing_defs.specs.declared.design.Design.{Design}
 use Rattle.timing_defs.specs.Netlist.{Pin, cell_of, cell_pin, cell_pins}
-use Rattle.timing_defs.specs.Clocking.{is_network, cell_tests}
-use Rattle.timing_defs.specs.Tests.{same_kind, clocked_cell, is_clocked}
+use Rattle.timing_rules.specs.Clocking.{is_network, cell_tests}
+use Rattle.timing_defs.specs.Kinds.{same_kind}
+use Rattle.timing_rules.specs.Tests.{clocked_cell, is_clocked}
 use Rattle.netlist_store.specs.Numbering.{Stored, is_number, inst_numbered, pin_numbered, owner_number, IsNumbered}
 use Rattle.netlist_store.specs.Linked.{IsLinked}
 use Rattle.pin_graph.specs.Nodes.{node_at, node_bound, pin_under}

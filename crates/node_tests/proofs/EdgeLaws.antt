@@ -10,8 +10,8 @@ use Rattle.timing_defs.specs.declared.kinds.Tran.TheVariants.{Rise, Fall}
 use Rattle.timing_defs.specs.declared.constraints.Clock.{Clock}
 use Rattle.timing_defs.specs.declared.design.Design.{Design}
 use Rattle.timing_defs.specs.Netlist.{Node, same_tran}
-use Rattle.timing_defs.specs.Rows.{clock_edges, is_clock_at}
-use Rattle.timing_defs.specs.Tests.{edge_of_port}
+use Rattle.timing_rules.specs.Rows.{clock_edges, is_clock_at}
+use Rattle.timing_rules.specs.Tests.{edge_of_port}
 use Rattle.node_tests.specs.Walks.{has_clock}
 
 -- the first place in a list

@@ -12,8 +12,8 @@ use Rattle.timing_defs.specs.declared.library.CellTest.{CellTest}
 use Rattle.timing_defs.specs.declared.netlist.Inst.{Inst}
 use Rattle.timing_defs.specs.declared.design.Design.{Design}
 use Rattle.timing_defs.specs.Netlist.{Pin, cell_of, is_driver}
-use Rattle.timing_defs.specs.Clocking.{cell_tests}
-use Rattle.timing_defs.specs.Tests.{tests_pin, is_endpoint}
+use Rattle.timing_rules.specs.Clocking.{cell_tests}
+use Rattle.timing_rules.specs.Tests.{tests_pin, is_endpoint}
 use Rattle.netlist_store.specs.Numbering.{Stored, is_number, inst_numbered, pin_numbered, owner_number, IsNumbered}
 use Rattle.netlist_store.specs.Linked.{IsLinked}
 use Rattle.timing_defs.proofs.Members.{some_is}

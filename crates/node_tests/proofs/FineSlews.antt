@@ -8,9 +8,9 @@ use Rattle.std.proofs.lemmas.Bool.{cases_Bool, true≢false, and_from, and_parts
 use Rattle.timing_defs.specs.declared.kinds.Split.{Split}
 use Rattle.timing_defs.specs.declared.design.Design.{Design}
 use Rattle.timing_defs.specs.Netlist.{Node, net_of, is_driver}
-use Rattle.timing_defs.specs.Rows.{arcs_in, slew, launch_edges}
-use Rattle.timing_defs.specs.Range.{within_some, looked_within, is_loaded, net_wires_within, slew_parts, slew_inputs, fine_slew, is_looked_origin, is_scaled_origin, is_slew_origin, is_arrival_origin, is_forward_origin}
-use Rattle.timing_defs.proofs.RowLaws.{ArePlacedNodes, first_in, later_in}
+use Rattle.timing_rules.specs.Rows.{arcs_in, slew, launch_edges}
+use Rattle.timing_rules.specs.Range.{within_some, looked_within, is_loaded, net_wires_within, slew_parts, slew_inputs, fine_slew, is_looked_origin, is_scaled_origin, is_slew_origin, is_arrival_origin, is_forward_origin}
+use Rattle.timing_rules.proofs.RowLaws.{ArePlacedNodes, first_in, later_in}
 
 all_from : {X : Type 0} (f : X → Bool) (xs : List X) → ((x : X) → Contains xs x → f x ≡ true) → list_all f xs ≡ true
 all_from f [] each = refl

@@ -9,7 +9,7 @@ use Rattle.sta_units.specs.Numbers.{limit, is_within}
 use Rattle.timing_defs.specs.declared.kinds.Split.TheVariants.{Late}
 use Rattle.timing_defs.specs.declared.library.CellTest.{CellTest}
 use Rattle.timing_defs.specs.Lookup.{look}
-use Rattle.timing_defs.specs.Rows.{outer_some}
+use Rattle.timing_rules.specs.Rows.{outer_some}
 use Rattle.node_tests.specs.declared.needs.TestEnds.{TestEnds}
 use Rattle.node_tests.specs.Needs.{is_test_between, is_need_in, greatest_need}
 

@@ -13,8 +13,8 @@ use Rattle.timing_defs.specs.declared.parasitics.NetRc.{NetRc}
 use Rattle.timing_defs.specs.declared.design.Design.{Design}
 use Rattle.timing_defs.specs.Netlist.{Pin, Node, pins, nodes, both_nodes, net_of}
 use Rattle.timing_defs.specs.Wires.{net_load, rc_of, sum_of, res_of}
-use Rattle.timing_defs.specs.Rows.{slew}
-use Rattle.timing_defs.specs.Range.{within_some, either_split, wires_within, net_wires_within, is_large_rc, is_net_origin, is_loaded, fine_slew}
+use Rattle.timing_rules.specs.Rows.{slew}
+use Rattle.timing_rules.specs.Range.{within_some, either_split, wires_within, net_wires_within, is_large_rc, is_net_origin, is_loaded, fine_slew}
 use Rattle.netlist_store.specs.Numbering.{Stored, IsNumbered}
 use Rattle.netlist_store.specs.Linked.{IsLinked}
 use Rattle.pin_graph.specs.Nodes.{node_number}

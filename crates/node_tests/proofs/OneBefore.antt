@@ -15,9 +15,11 @@ use Rattle.timing_defs.specs.declared.library.CellArc.{CellArc}
 use Rattle.timing_defs.specs.declared.netlist.Inst.{Inst}
 use Rattle.timing_defs.specs.declared.design.Design.{Design}
 use Rattle.timing_defs.specs.Netlist.{Pin, Node, name_of, pins, net_of, driver, cell_of, inst_pins, both_nodes, is_driver, drives_as, same_tran, same_dir}
-use Rattle.timing_defs.specs.Clocking.{is_network, is_clock_port, port_has_clock, cell_arcs, is_comb, comb_joins, has_comb, comb_before, driver_on, pins_before}
-use Rattle.timing_defs.specs.Rows.{arcs_in, all_arcs_in, net_arcs_in, cell_arcs_in, library_arcs, joins, stands}
-use Rattle.timing_defs.specs.Checks.{is_before, least_from, least, clock_not_tree, breaks_network, enters_well, network_before, arcs_between, one_sense, keeps}
+use Rattle.timing_rules.specs.Clocking.{is_network, is_clock_port, port_has_clock, cell_arcs, comb_joins, has_comb, comb_before, driver_on, pins_before}
+use Rattle.timing_defs.specs.Kinds.{is_comb}
+use Rattle.timing_rules.specs.Rows.{arcs_in, all_arcs_in, net_arcs_in, cell_arcs_in, library_arcs, joins, stands}
+use Rattle.timing_defs.specs.NetChecks.{is_before, least_from, least}
+use Rattle.timing_rules.specs.Checks.{clock_not_tree, breaks_network, enters_well, network_before, arcs_between, one_sense, keeps}
 use Rattle.timing_defs.proofs.Members.{none_in, in_cases, first_in, in_map, in_map_back, in_flat_map_back, in_filter, passes_in, kept_in, any_in, all_in}
 
 -- a list with a least name has a name

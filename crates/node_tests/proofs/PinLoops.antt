@@ -13,7 +13,7 @@ use Rattle.timing_defs.specs.declared.faults.Fault.{Fault}
 use Rattle.timing_defs.specs.declared.faults.Fault.TheVariants.{UnknownInstance, UnknownNet, UnknownCell, UnknownPin, NameTaken, PinsDiffer, AlreadyConnected, NotConnected, InUse, ManyDrivers, Loop, ClockNotTree, ConstraintDangling, RcNotTree, RcPinsDiffer, OutOfRange, TooLarge, Memory as no_room}
 use Rattle.timing_defs.specs.declared.library.Cell.{Cell}
 use Rattle.timing_defs.specs.Netlist.{cell_of, cell_pins}
-use Rattle.timing_defs.specs.Tests.{Test}
+use Rattle.timing_rules.specs.Tests.{Test}
 use Rattle.netlist_store.specs.Numbering.{Stored, inst_numbered}
 use Rattle.node_rows.specs.Evaluation.{IsPlaced}
 use Rattle.node_tests.specs.declared.node_test.NodeTest.{NodeTest}

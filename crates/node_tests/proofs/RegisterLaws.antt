@@ -12,10 +12,11 @@ use Rattle.timing_defs.specs.declared.netlist.Inst.{Inst}
 use Rattle.timing_defs.specs.declared.design.Design.{Design}
 use Rattle.timing_defs.specs.Lookup.{look}
 use Rattle.timing_defs.specs.Netlist.{Node, cell_pin, cell_pins, cell_of, inst_pins, both_nodes}
-use Rattle.timing_defs.specs.Clocking.{is_network}
-use Rattle.timing_defs.specs.Rows.{arrival, outermost, outer_some, slew}
-use Rattle.timing_defs.specs.Tests.{data_split, clock_split, network_walk, first_edge, test_on, library_tests, need_at, test_along, register_tests}
-use Rattle.timing_defs.specs.Range.{need_within, fine_slew, is_need_origin_at}
+use Rattle.timing_rules.specs.Clocking.{is_network}
+use Rattle.timing_rules.specs.Rows.{arrival, outermost, outer_some, slew}
+use Rattle.timing_defs.specs.Kinds.{data_split, clock_split}
+use Rattle.timing_rules.specs.Tests.{network_walk, first_edge, test_on, library_tests, need_at, test_along, register_tests}
+use Rattle.timing_rules.specs.Range.{need_within, fine_slew, is_need_origin_at}
 use Rattle.node_tests.specs.Registers.{captured, test_at, clock_nodes, tests_by, is_wide_by}
 
 off : {X Y : Type 0} (o : Option X) → option_and_then {U = Y} (λ x. None) o ≡ None

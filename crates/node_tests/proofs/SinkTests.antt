@@ -19,8 +19,9 @@ use Rattle.timing_defs.specs.declared.netlist.Inst.{Inst}
 use Rattle.timing_defs.specs.declared.design.Design.{Design}
 use Rattle.timing_defs.specs.Lookup.{is_well_formed}
 use Rattle.timing_defs.specs.Netlist.{Node, cell_of, same_dir, same_tran, are_distinct}
-use Rattle.timing_defs.specs.Clocking.{cell_tests}
-use Rattle.timing_defs.specs.Tests.{data_split, same_kind, is_test_of, library_tests}
+use Rattle.timing_rules.specs.Clocking.{cell_tests}
+use Rattle.timing_defs.specs.Kinds.{data_split, same_kind}
+use Rattle.timing_rules.specs.Tests.{is_test_of, library_tests}
 use Rattle.timing_defs.specs.Edits.{cells_agree, same_set, same_cell_pin, same_arc, same_test}
 use Rattle.timing_defs.specs.Documents.{is_cell_test, has_pin, is_pin_of}
 use Rattle.timing_defs.proofs.Members.{first_in, later_in, all_in, any_back, found_by}

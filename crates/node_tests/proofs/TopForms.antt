@@ -13,8 +13,8 @@ use Rattle.timing_defs.specs.declared.constraints.PortDelay.{PortDelay}
 use Rattle.timing_defs.specs.declared.netlist.Inst.{Inst}
 use Rattle.timing_defs.specs.declared.rows.NodeRow.{NodeRow}
 use Rattle.timing_defs.specs.Netlist.{Pin, Node, is_driver, full_name, are_distinct}
-use Rattle.timing_defs.specs.Rows.{row, empty_row}
-use Rattle.timing_defs.specs.Tests.{data_split}
+use Rattle.timing_rules.specs.Rows.{row, empty_row}
+use Rattle.timing_defs.specs.Kinds.{data_split}
 use Rattle.timing_defs.specs.Documents.{is_amount, is_clock, differ, is_port_delay, same_delay, same_slew, same_load, is_effect, are_derates, are_constraints}
 use Rattle.netlist_store.specs.Numbering.{Stored, name_at, is_number, inst_numbered, pin_numbered, owner_number, IsNumbered}
 use Rattle.netlist_store.specs.Linked.{IsLinked}

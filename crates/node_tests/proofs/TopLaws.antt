@@ -21,10 +21,11 @@ use Rattle.timing_defs.specs.Lookup.{look}
 use Rattle.sta_units.specs.Numbers.{is_within}
 use Rattle.timing_defs.specs.Netlist.{Pin, Node, cell_of, cell_pin, cell_pins, inst_pins, both_nodes, is_driver, drives_as, same_dir, are_distinct}
 use Rattle.timing_defs.specs.Wires.{first_some}
-use Rattle.timing_defs.specs.Clocking.{is_network}
-use Rattle.timing_defs.specs.Rows.{slew}
-use Rattle.timing_defs.specs.Tests.{Test, data_split, clock_split, tests_at, register_tests, port_tests, output_test}
-use Rattle.timing_defs.specs.Range.{fine_slew, is_need_origin, is_need_origin_at}
+use Rattle.timing_rules.specs.Clocking.{is_network}
+use Rattle.timing_rules.specs.Rows.{slew}
+use Rattle.timing_rules.specs.Tests.{Test, tests_at, register_tests, port_tests, output_test}
+use Rattle.timing_defs.specs.Kinds.{data_split, clock_split}
+use Rattle.timing_rules.specs.Range.{fine_slew, is_need_origin, is_need_origin_at}
 use Rattle.timing_defs.specs.Edits.{link_inst, link_pin, link_net, first_fault, cells_agree}
 use Rattle.timing_defs.specs.Documents.{is_cell_test}
 use Rattle.netlist_store.specs.Numbering.{Stored, is_number, pin_numbered, IsNumbered}

@@ -6,11 +6,11 @@ use Rattle.std.specs.Option.{option_map_or}
 use Rattle.timing_defs.specs.declared.design.Design.{Design}
 use Rattle.timing_defs.specs.Netlist.{Node, nodes}
 use Rattle.timing_defs.specs.Wires.{first_some}
-use Rattle.timing_defs.specs.Clocking.{is_network, is_clock_port}
-use Rattle.timing_defs.specs.Rows.{arcs_in}
-use Rattle.timing_defs.specs.Tests.{walk_within, network_walk}
+use Rattle.timing_rules.specs.Clocking.{is_network, is_clock_port}
+use Rattle.timing_rules.specs.Rows.{arcs_in}
+use Rattle.timing_rules.specs.Tests.{walk_within, network_walk}
 use Rattle.node_tests.specs.Walks.{IsBehind}
-use Rattle.timing_defs.proofs.RowLaws.{first_in, later_in, stable, ArePlacedNodes}
+use Rattle.timing_rules.proofs.RowLaws.{first_in, later_in, stable, ArePlacedNodes}
 
 -- the first value over a list looks at its items alone
 first_agree : {X Y : Type 0} (f g : X → Option Y) (xs : List X) → ((x : X) → Contains xs x → f x ≡ g x) → first_some f xs ≡ first_some g xs

@@ -8,8 +8,8 @@ use Rattle.timing_defs.specs.declared.kinds.Kind.{Kind}
 use Rattle.timing_defs.specs.declared.library.CellPin.{CellPin}
 use Rattle.timing_defs.specs.declared.library.CellTest.{CellTest}
 use Rattle.timing_defs.specs.Netlist.{cell_pin}
-use Rattle.timing_defs.specs.Clocking.{is_network}
-use Rattle.timing_defs.specs.Tests.{same_kind}
+use Rattle.timing_rules.specs.Clocking.{is_network}
+use Rattle.timing_defs.specs.Kinds.{same_kind}
 use Rattle.netlist_store.specs.Numbering.{Stored, inst_numbered}
 
 -- a test of the kind stands between a data pin and a clock pin of its cell

@@ -9,8 +9,8 @@ use Rattle.timing_defs.specs.declared.kinds.Split.TheVariants.{Late}
 use Rattle.timing_defs.specs.declared.library.CellTest.{CellTest}
 use Rattle.timing_defs.specs.Lookup.{look, is_well_formed}
 use Rattle.timing_defs.specs.Netlist.{same_tran}
-use Rattle.timing_defs.specs.Rows.{outermost}
-use Rattle.timing_defs.specs.Tests.{same_kind}
+use Rattle.timing_rules.specs.Rows.{outermost}
+use Rattle.timing_defs.specs.Kinds.{same_kind}
 use Rattle.node_tests.specs.declared.needs.TestEnds.{TestEnds}
 
 -- a test of the kind stands between the two nodes of its cell, by the names of their pins there

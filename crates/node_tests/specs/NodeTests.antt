@@ -5,8 +5,8 @@ use Rattle.std.specs.Option.{option_map_or}
 use Rattle.timing_defs.specs.declared.kinds.Kind.{Kind}
 use Rattle.timing_defs.specs.declared.faults.Fault.{Fault}
 use Rattle.timing_defs.specs.Netlist.{Node, name_of}
-use Rattle.timing_defs.specs.Tests.{Test, tests_at}
-use Rattle.timing_defs.specs.Range.{is_need_origin}
+use Rattle.timing_rules.specs.Tests.{Test, tests_at}
+use Rattle.timing_rules.specs.Range.{is_need_origin}
 use Rattle.netlist_store.specs.Numbering.{Stored}
 use Rattle.pin_graph.specs.Nodes.{node_at}
 use Rattle.node_rows.specs.Evaluation.{IsPlaced}

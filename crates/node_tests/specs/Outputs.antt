@@ -8,7 +8,7 @@ use Rattle.timing_defs.specs.declared.kinds.Tran.TheVariants.{Rise}
 use Rattle.timing_defs.specs.declared.kinds.Kind.{Kind}
 use Rattle.timing_defs.specs.declared.constraints.PortDelay.{PortDelay}
 use Rattle.timing_defs.specs.Netlist.{same_split, same_tran}
-use Rattle.timing_defs.specs.Tests.{output_need}
+use Rattle.timing_rules.specs.Tests.{output_need}
 use Rattle.node_tests.specs.declared.node_test.NodeTest.{NodeTest}
 
 -- the delay is written for this port, split and transition

@@ -11,9 +11,9 @@ use Rattle.timing_defs.specs.declared.library.CellPin.{CellPin}
 use Rattle.timing_defs.specs.declared.netlist.Inst.{Inst}
 use Rattle.timing_defs.specs.declared.design.Design.{Design}
 use Rattle.timing_defs.specs.Netlist.{Node, cell_pin, cell_pins, cell_of, both_nodes}
-use Rattle.timing_defs.specs.Rows.{arrival, row}
-use Rattle.timing_defs.specs.Tests.{Test, network_walk, first_edge, test_on, test_along}
-use Rattle.timing_defs.specs.Range.{is_need_origin_at}
+use Rattle.timing_rules.specs.Rows.{arrival, row}
+use Rattle.timing_rules.specs.Tests.{Test, network_walk, first_edge, test_on, test_along}
+use Rattle.timing_rules.specs.Range.{is_need_origin_at}
 use Rattle.netlist_store.specs.Numbering.{Stored, inst_numbered}
 use Rattle.pin_graph.specs.Nodes.{node_at, pin_under}
 use Rattle.pin_graph.specs.RowTables.{AreRowsFine}

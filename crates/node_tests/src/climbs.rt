@@ -2,7 +2,7 @@
 
 ghost use Rattle.std.specs.Prelude.{◌≡◌, ◌<◌, ◌≤◌, true, length, option_and_then, IfSome};
 ghost use Rattle.std.specs.List.{position};
-ghost use Rattle.timing_defs.specs.Tests.{network_walk};
+ghost use Rattle.timing_rules.specs.Tests.{network_walk};
 ghost use Rattle.netlist_store.specs.Numbering.{is_number, pin_numbered, IsNumbered};
 ghost use Rattle.netlist_store.specs.Linked.{IsLinked};
 ghost use Rattle.pin_graph.specs.Nodes.{node_at, node_bound, pin_under};

@@ -3,7 +3,7 @@
 ghost use Rattle.std.specs.Prelude.{◌≡◌, ◌&&◌, true, Some, Contains, option_map, option_and_then, IfOk};
 ghost use Rattle.std.specs.List.{list_any};
 ghost use Rattle.std.specs.Str.{bytes_eq};
-ghost use Rattle.timing_defs.specs.Tests.{is_endpoint, is_clocked};
+ghost use Rattle.timing_rules.specs.Tests.{is_endpoint, is_clocked};
 ghost use Rattle.netlist_store.specs.Numbering.{is_number, inst_numbered, pin_numbered};
 ghost use Rattle.timing_defs.specs.Netlist.{cell_of};
 ghost use Rattle.node_tests.specs.Registers.{late_pins};

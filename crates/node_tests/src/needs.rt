@@ -3,8 +3,8 @@
 ghost use Rattle.std.specs.Prelude.{◌≡◌, ◌≤◌, [], ◌∷◌, true, false, Some, None, filter, unsigned_abs, IfOk, IfErr};
 ghost use Rattle.std.specs.List.{list_all, list_any};
 ghost use Rattle.sta_units.specs.Numbers.{limit};
-ghost use Rattle.timing_defs.specs.Tests.{same_kind};
-ghost use Rattle.timing_defs.specs.Rows.{outer_some};
+ghost use Rattle.timing_defs.specs.Kinds.{same_kind};
+ghost use Rattle.timing_rules.specs.Rows.{outer_some};
 ghost use Rattle.node_tests.specs.Needs.{is_test_between, has_table, is_need_in, greatest_need};
 
 use nldm_lookup::{OutOfRange, look_up};

@@ -3,7 +3,8 @@
 ghost use Rattle.std.specs.Prelude.{◌≡◌, ◌++◌, [], ◌∷◌, true, filter, map, IfOk, OnOk};
 ghost use Rattle.std.specs.List.{list_all};
 ghost use Rattle.sta_units.specs.Numbers.{is_within};
-ghost use Rattle.timing_defs.specs.Tests.{data_split, output_need};
+ghost use Rattle.timing_defs.specs.Kinds.{data_split};
+ghost use Rattle.timing_rules.specs.Tests.{output_need};
 ghost use Rattle.node_tests.specs.Outputs.{is_delay_of, delay_test};
 
 use crate::node_test::NodeTest;

@@ -3,10 +3,10 @@
 ghost use Rattle.std.specs.Prelude.{◌≡◌, ◌++◌, ◌<◌, ℕ, List, true, false, Some, None, Contains, option_map, option_and_then, IfOk, IfErr, OnOk};
 ghost use Rattle.std.specs.List.{list_all, list_any, flat_map};
 ghost use Rattle.std.specs.Option.{option_to_list};
-ghost use Rattle.timing_defs.specs.Rows.{slew_in};
-ghost use Rattle.timing_defs.specs.Range.{within_some};
+ghost use Rattle.timing_defs.specs.RowTimes.{slew_in};
+ghost use Rattle.timing_rules.specs.Range.{within_some};
 ghost use Rattle.timing_defs.specs.Netlist.{cell_of};
-ghost use Rattle.timing_defs.specs.Tests.{data_split, clock_split};
+ghost use Rattle.timing_defs.specs.Kinds.{data_split, clock_split};
 ghost use Rattle.netlist_store.specs.Numbering.{is_number, name_at, inst_numbered};
 ghost use Rattle.pin_graph.specs.Nodes.{node_at, node_bound};
 ghost use Rattle.pin_graph.specs.RowTables.{AreRows, row_numbered};

@@ -8,7 +8,7 @@ use Rattle.timing_defs.specs.declared.edits.Eco.{Eco}
 use Rattle.timing_defs.specs.declared.edits.Entry.{Entry}
 use Rattle.timing_defs.specs.declared.scripts.Transcript.{Transcript}
 use Rattle.timing_defs.specs.Edits.{edited}
-use Rattle.timing_defs.specs.Sessions.{DesignAfter, AreLegal, IsWhole, ecos_of}
+use Rattle.timing_rules.specs.Sessions.{DesignAfter, AreLegal, IsWhole, ecos_of}
 use Rattle.design_maker.specs.Draws.{drawn, drawn_on, chosen}
 use Rattle.design_maker.specs.Insts.{gate_name, behind_lanes}
 use Rattle.design_maker.specs.Sessions.{drawn_cell, commands_from, scripts_from, scripts_of}

@@ -8,8 +8,8 @@ use Rattle.timing_defs.specs.declared.edits.Eco.{Eco}
 use Rattle.timing_defs.specs.declared.edits.Entry.{Entry}
 use Rattle.timing_defs.specs.declared.faults.Fault.{Fault}
 use Rattle.timing_defs.specs.Edits.{edited}
-use Rattle.timing_defs.specs.Checks.{Accepts}
-use Rattle.timing_defs.specs.Sessions.{DesignAfter, ecos_of}
+use Rattle.timing_rules.specs.Checks.{Accepts}
+use Rattle.timing_rules.specs.Sessions.{DesignAfter, ecos_of}
 use Rattle.order_laws.specs.Orders.{folded}
 use Rattle.order_laws.proofs.Folds.{Between, by_key, with_key, folded_joined}
 

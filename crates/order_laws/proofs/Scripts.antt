@@ -14,7 +14,7 @@ use Rattle.timing_defs.specs.declared.scripts.Answer.TheVariants.{Accepted}
 use Rattle.timing_defs.specs.declared.scripts.Row.{Row}
 use Rattle.timing_defs.specs.declared.scripts.Transcript.{Transcript}
 use Rattle.timing_defs.specs.Edits.{edited}
-use Rattle.timing_defs.specs.Sessions.{DesignAfter, AreLegal, IsWhole, accepted_eco, accepted_ecos}
+use Rattle.timing_rules.specs.Sessions.{DesignAfter, AreLegal, IsWhole, accepted_eco, accepted_ecos}
 use Rattle.order_laws.specs.Orders.{folded, asked_eco, ecos_asked, scripts_ecos, edited_by_scripts}
 use Rattle.order_laws.proofs.Folds.{Between, Commute, by_key, by_key_length, key_by_key}
 use Rattle.order_laws.proofs.Journals.{session_of, eco_of, entry_step, after_all, steps_of_ecos, ecos_by_session, ecos_by_key, each_of}

@@ -12,7 +12,7 @@ use Rattle.std.proofs.lemmas.List.Quantifiers.{position-Some}
 use Rattle.std.proofs.lemmas.List.Sums.{sum_by-cons}
 use Rattle.sta_units.specs.Numbers.{Within}
 use Rattle.timing_defs.specs.declared.kinds.Kind.{Kind}
-use Rattle.timing_defs.specs.Tests.{data_split}
+use Rattle.timing_defs.specs.Kinds.{data_split}
 use Rattle.netlist_store.specs.Numbering.{Stored}
 use Rattle.pin_graph.specs.declared.arcs.GraphArc.{GraphArc}
 use Rattle.timing_defs.proofs.Members.{some_is, any_back, in_filter_map_back}

@@ -20,10 +20,10 @@ use Rattle.timing_defs.specs.declared.kinds.Split.{Split}
 use Rattle.timing_defs.specs.declared.kinds.Tran.{Tran}
 use Rattle.timing_defs.specs.declared.kinds.Tran.TheVariants.{Rise, Fall}
 use Rattle.timing_defs.specs.Netlist.{Node, name_of, same_node, same_pin, same_tran}
-use Rattle.timing_defs.specs.Rows.{arcs_in, delay}
-use Rattle.timing_defs.specs.Cones.{has_register_arc}
-use Rattle.timing_defs.specs.Paths.{arc_delay}
-use Rattle.timing_defs.specs.Tests.{data_split}
+use Rattle.timing_rules.specs.Rows.{arcs_in, delay}
+use Rattle.timing_rules.specs.Cones.{has_register_arc}
+use Rattle.timing_rules.specs.Paths.{arc_delay}
+use Rattle.timing_defs.specs.Kinds.{data_split}
 use Rattle.netlist_store.specs.Linked.{IsLinked}
 use Rattle.netlist_store.specs.Numbering.{Stored, number_of, IsNumbered}
 use Rattle.levelizer.specs.Levels.{greatest}

@@ -2,7 +2,7 @@
 
 ghost use Rattle.std.specs.Prelude.{◌≡◌, IfSome};
 ghost use Rattle.sta_units.specs.Numbers.{Within};
-ghost use Rattle.timing_defs.specs.Tests.{data_split};
+ghost use Rattle.timing_defs.specs.Kinds.{data_split};
 ghost use Rattle.pin_graph.specs.Graphs.{IsArc};
 ghost use Rattle.arc_delays.specs.Delays.{AreDelays, delay_numbered};
 ghost use Rattle.path_cones.specs.Delays.{signed};

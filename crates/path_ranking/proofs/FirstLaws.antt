@@ -3,7 +3,7 @@
 use Rattle.std.proofs.Common.{◌≡◌, ℕ, zero, suc, Bool, false, List, [], ◌∷◌, map, sym, ap, subst, ◌∙◌}
 use Rattle.std.specs.Prelude.{All}
 use Rattle.std.proofs.lemmas.List.Elements.{All-nil, All-cons}
-use Rattle.timing_defs.specs.Ranking.{AreFirst}
+use Rattle.timing_defs.specs.Firsts.{AreFirst}
 
 -- each of the first is one of them
 pub first_are : {X : Type 0} (before : X → X → Bool) (count : ℕ) (Is : X → Type 0) (xs : List X) → AreFirst before count Is xs → All Is xs

@@ -6,9 +6,10 @@ use Rattle.std.proofs.lemmas.List.{take_more}
 use Rattle.sta_units.specs.declared.units.Memory.{Memory}
 use Rattle.timing_defs.specs.declared.kinds.Kind.{Kind}
 use Rattle.timing_defs.specs.declared.rows.Path.{Path}
-use Rattle.timing_defs.specs.Tests.{Test}
-use Rattle.timing_defs.specs.Paths.{Named, Holds}
-use Rattle.timing_defs.specs.Ranking.{AreFirst, AreWorstPaths, IsRanked, Ranked, ranked, comes_before as path_before}
+use Rattle.timing_rules.specs.Tests.{Test}
+use Rattle.timing_rules.specs.Paths.{Named, Holds}
+use Rattle.timing_defs.specs.Firsts.{AreFirst}
+use Rattle.timing_rules.specs.Ranking.{AreWorstPaths, IsRanked, Ranked, ranked, comes_before as path_before}
 use Rattle.timing_defs.proofs.Members.{in_cases, none_in}
 use Rattle.netlist_store.specs.Numbering.{Stored}
 use Rattle.pin_graph.specs.Graphs.{Graphed}

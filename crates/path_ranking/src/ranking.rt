@@ -1,10 +1,11 @@
 //! The first walks of an endpoint's cone, and the paths that are read off them.
 
 ghost use Rattle.std.specs.Prelude.{◌≡◌, All, Contains, IfOk};
-ghost use Rattle.timing_defs.specs.Checks.{IsSound};
-ghost use Rattle.timing_defs.specs.Range.{NoOrigin};
-ghost use Rattle.timing_defs.specs.Ranking.{AreFirst, AreWorstPaths};
-ghost use Rattle.timing_defs.specs.Reports.{endpoints};
+ghost use Rattle.timing_rules.specs.Checks.{IsSound};
+ghost use Rattle.timing_rules.specs.Range.{NoOrigin};
+ghost use Rattle.timing_defs.specs.Firsts.{AreFirst};
+ghost use Rattle.timing_rules.specs.Ranking.{AreWorstPaths};
+ghost use Rattle.timing_rules.specs.Reports.{endpoints};
 ghost use Rattle.arc_delays.specs.Delays.{AreDelays};
 ghost use Rattle.pin_graph.specs.RowTables.{AreRows};
 ghost use Rattle.worst_walks.specs.Walks.{comes_before, IsWalk};

@@ -7,7 +7,7 @@ use Rattle.timing_defs.specs.declared.constraints.Constraints.{Constraints}
 use Rattle.timing_defs.specs.declared.constraints.Exception.{Exception}
 use Rattle.timing_defs.specs.declared.rows.Launch.{Launch}
 use Rattle.timing_defs.specs.declared.rows.Capture.{Capture}
-use Rattle.timing_defs.specs.Rules.{applies, cycles, cycles_in, last_some, without_cycles}
+use Rattle.timing_rules.specs.Rules.{applies, cycles, cycles_in, last_some, without_cycles}
 use Rattle.path_rules.specs.declared.ranges.CycleRange.{CycleRange}
 use Rattle.path_rules.specs.Ranges.{lesser, greater, widened, range_over, range_of, plain_range, IsRange}
 

@@ -4,7 +4,7 @@ use Rattle.std.specs.Prelude.{nat_eq}
 use Rattle.std.specs.Int.{IsGcd}
 use Rattle.std.proofs.lemmas.Bool.{cases_eq, eq-eqb, ne_eqb}
 use Rattle.std.proofs.lemmas.Nat.Gcd.{dvd_of_mod-eq-zero, mod-eq-zero_of_dvd, le_from_IsGcd, le_of_dvd, IsGcd-from_zero, IsGcd-from_mod}
-use Rattle.timing_defs.specs.Tests.{divisor_up_to}
+use Rattle.timing_rules.specs.Tests.{divisor_up_to}
 
 pub divisor_found : (n a b g : ℕ) → IsGcd a b g → 0 < g → g ≤ n → divisor_up_to n a b ≡ g
 divisor_found zero a b g h p l = absurd (omega arith)

@@ -12,7 +12,7 @@ use Rattle.timing_defs.specs.declared.constraints.Constraints.{Constraints}
 use Rattle.timing_defs.specs.declared.constraints.Exception.{Exception}
 use Rattle.timing_defs.specs.declared.rows.Launch.{Launch}
 use Rattle.timing_defs.specs.declared.rows.Capture.{Capture}
-use Rattle.timing_defs.specs.Rules.{applies, removes, cycles_in, last_some}
+use Rattle.timing_rules.specs.Rules.{applies, removes, cycles_in, last_some}
 use Rattle.path_rules.specs.declared.overrides.Rule.{Rule}
 use Rattle.path_rules.specs.Exceptions.{after, after_effect}
 

@@ -4,7 +4,7 @@ use Rattle.std.specs.List.{list_any}
 use Rattle.std.specs.Str.{bytes_eq}
 use Rattle.std.proofs.lemmas.Bool.{cases_Bool, and_parts}
 use Rattle.std.proofs.lemmas.List.Folds.{list_any_at}
-use Rattle.timing_defs.specs.Rules.{is_split, as_pin}
+use Rattle.timing_defs.specs.Names.{is_split, as_pin}
 
 -- no mark at all
 pub whole_word : (word : List ℕ) → ((k : ℕ) → k < length word → is_split (get_or word k 0) ≡ false) → as_pin word ≡ word

@@ -2,8 +2,9 @@
 
 use Rattle.std.specs.Prelude.{List, ℕ, Bool, ◌&&◌, ◌||◌, is_none}
 use Rattle.std.specs.Str.{bytes_eq}
-use Rattle.timing_defs.specs.Rules.{as_pin, is_cell}
-use Rattle.timing_defs.specs.Rules as rules
+use Rattle.timing_defs.specs.Names.{as_pin}
+use Rattle.timing_rules.specs.Rules.{is_cell}
+use Rattle.timing_rules.specs.Rules as rules
 use Rattle.path_rules.specs.declared.objects.End.{End}
 
 -- its pin, instance and clock

@@ -8,7 +8,7 @@ use Rattle.timing_defs.specs.declared.constraints.Effect.{Effect}
 use Rattle.timing_defs.specs.declared.constraints.Exception.{Exception}
 use Rattle.timing_defs.specs.declared.rows.Launch.{Launch}
 use Rattle.timing_defs.specs.declared.rows.Capture.{Capture}
-use Rattle.timing_defs.specs.Rules.{is_tested, cycles, applies, removes, cycles_in}
+use Rattle.timing_rules.specs.Rules.{is_tested, cycles, applies, removes, cycles_in}
 use Rattle.path_rules.specs.declared.overrides.Rule.{Rule}
 
 -- which kinds are tested, and how many cycles each kind has

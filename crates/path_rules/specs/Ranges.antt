@@ -6,7 +6,7 @@ use Rattle.timing_defs.specs.declared.constraints.Constraints.{Constraints}
 use Rattle.timing_defs.specs.declared.constraints.Exception.{Exception}
 use Rattle.timing_defs.specs.declared.rows.Launch.{Launch}
 use Rattle.timing_defs.specs.declared.rows.Capture.{Capture}
-use Rattle.timing_defs.specs.Rules.{cycles, cycles_in, without_cycles}
+use Rattle.timing_rules.specs.Rules.{cycles, cycles_in, without_cycles}
 use Rattle.path_rules.specs.declared.ranges.CycleRange.{CycleRange}
 
 abbrev pub lesser : ℕ → ℕ → ℕ

@@ -2,7 +2,7 @@
 
 ghost use Rattle.std.specs.Prelude.{◌≡◌, ◌*◌, ◌≤◌, pos, ◌≤ℤ◌, unsigned_abs};
 ghost use Rattle.sta_units.specs.Numbers.{limit};
-ghost use Rattle.timing_defs.specs.Tests.{offset, common_period, separation};
+ghost use Rattle.timing_rules.specs.Tests.{offset, common_period, separation};
 ghost use Rattle.path_rules.specs.Clocks.{IsClock};
 
 use crate::periods::common_divisor;
@@ -25,7 +25,7 @@ fn edge_time(clock: &Clock, edge: Tran) -> i64
 }
 
 /// The greatest common divisor of two periods, in fs.
-#[tactic(auto, using(sta_units::proofs::Rounding::signed_steps), unfolding(timing_defs::specs::Tests::common_period))]
+#[tactic(auto, using(sta_units::proofs::Rounding::signed_steps), unfolding(timing_rules::specs::Tests::common_period))]
 fn common_period_of(launch: &Clock, capture: &Clock) -> i64
     requires launch { IsClock launch.now }
     requires capture { IsClock capture.now }

@@ -2,7 +2,7 @@
 
 ghost use Rattle.std.specs.Prelude.{◌≡◌, ◌≤◌, unsigned_abs};
 ghost use Rattle.sta_units.specs.Numbers.{limit};
-ghost use Rattle.timing_defs.specs.Rules.{with_cycles};
+ghost use Rattle.timing_rules.specs.Rules.{with_cycles};
 ghost use Rattle.path_rules.specs.Clocks.{IsClock};
 
 use crate::overrides::Rule;

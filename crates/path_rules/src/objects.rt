@@ -2,7 +2,7 @@
 
 ghost use Rattle.std.specs.Prelude.{◌≡◌};
 ghost use Rattle.std.specs.List.{list_any};
-ghost use Rattle.timing_defs.specs.Rules.{has_clock, is_clock_name, is_cell, is_object, is_among, applies};
+ghost use Rattle.timing_rules.specs.Rules.{has_clock, is_clock_name, is_cell, is_object, is_among, applies};
 ghost use Rattle.path_rules.specs.Ends.{end_of, is_word_of};
 
 use crate::words::is_pin_word;

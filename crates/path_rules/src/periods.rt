@@ -1,7 +1,7 @@
 //! Common periods of clocks.
 
 ghost use Rattle.std.specs.Prelude.{◌≡◌, ◌<◌, ◌≤◌};
-ghost use Rattle.timing_defs.specs.Tests.{divisor_up_to};
+ghost use Rattle.timing_rules.specs.Tests.{divisor_up_to};
 
 /// The greatest common divisor of two numbers, the first not 0 (Euclid). Takes as many steps as the
 /// numbers have digits.

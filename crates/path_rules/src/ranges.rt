@@ -1,7 +1,7 @@
 //! How many cycles multicycles can make of a test.
 
 ghost use Rattle.std.specs.Prelude.{◌≡◌};
-ghost use Rattle.timing_defs.specs.Rules.{cycles_in};
+ghost use Rattle.timing_rules.specs.Rules.{cycles_in};
 ghost use Rattle.path_rules.specs.Ranges.{lesser, greater, widened, plain_range, range_of, IsRange};
 
 use timing_defs::{Constraints, Effect, Kind};

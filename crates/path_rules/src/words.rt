@@ -2,7 +2,7 @@
 
 ghost use Rattle.std.specs.Prelude.{◌≡◌, ◌+◌, ◌<◌, ◌==◌, ◌&&◌, length, slice_index, take, drop};
 ghost use Rattle.std.specs.Str.{bytes_eq};
-ghost use Rattle.timing_defs.specs.Rules.{is_split, as_pin};
+ghost use Rattle.timing_defs.specs.Names.{is_split, as_pin};
 ghost use Rattle.path_rules.specs.Words.{IsLastSplit};
 
 /// Whether a byte parts an instance from its pin.

@@ -11,11 +11,11 @@ use Rattle.timing_defs.specs.declared.kinds.Split.{Split}
 use Rattle.timing_defs.specs.declared.kinds.Tran.{Tran}
 use Rattle.timing_defs.specs.declared.design.Design.{Design}
 use Rattle.timing_defs.specs.Netlist.{Pin, Node, pins, pin_named}
-use Rattle.timing_defs.specs.Clocking.{is_network}
-use Rattle.timing_defs.specs.Rows.{arcs_in}
-use Rattle.timing_defs.specs.Cones.{has_register_arc}
-use Rattle.timing_defs.specs.Tests.{network_walk, first_edge}
-use Rattle.timing_defs.specs.Paths.{Named, named, start_of}
+use Rattle.timing_rules.specs.Clocking.{is_network}
+use Rattle.timing_rules.specs.Rows.{arcs_in}
+use Rattle.timing_rules.specs.Cones.{has_register_arc}
+use Rattle.timing_rules.specs.Tests.{network_walk, first_edge}
+use Rattle.timing_rules.specs.Paths.{Named, named, start_of}
 use Rattle.netlist_store.specs.Linked.{IsLinked}
 use Rattle.netlist_store.specs.Numbering.{Stored, name_at, pin_numbered, IsNumbered}
 use Rattle.levelizer.specs.Levels.{greatest}

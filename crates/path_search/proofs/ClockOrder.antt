@@ -10,7 +10,7 @@ use Rattle.std.proofs.lemmas.Bool.{true≢false, false≢true}
 use Rattle.timing_defs.specs.declared.kinds.Tran.{Tran}
 use Rattle.timing_defs.specs.declared.kinds.Tran.TheVariants.{Rise, Fall}
 use Rattle.timing_defs.specs.Netlist.{Node}
-use Rattle.timing_defs.specs.Paths.{Named, named, tran_cmp, named_cmp, clock_not_after}
+use Rattle.timing_rules.specs.Paths.{Named, named, tran_cmp, named_cmp, clock_not_after}
 
 tran_total : IsTotalOrder tran_cmp
 tran_total = record { antisymm = flip; trans = chain; congr = level }

@@ -12,9 +12,10 @@ use Rattle.timing_defs.specs.declared.kinds.Kind.{Kind}
 use Rattle.timing_defs.specs.declared.kinds.Tran.{Tran}
 use Rattle.timing_defs.specs.declared.design.Design.{Design}
 use Rattle.timing_defs.specs.Netlist.{Node}
-use Rattle.timing_defs.specs.Rows.{arrival}
-use Rattle.timing_defs.specs.Tests.{Test, data_split}
-use Rattle.timing_defs.specs.Paths.{Named, named_cmp, nodes_cmp, last_of}
+use Rattle.timing_rules.specs.Rows.{arrival}
+use Rattle.timing_rules.specs.Tests.{Test}
+use Rattle.timing_defs.specs.Kinds.{data_split}
+use Rattle.timing_rules.specs.Paths.{Named, named_cmp, nodes_cmp, last_of}
 use Rattle.worst_walks.specs.declared.cones.Launch.{Launch}
 use Rattle.worst_walks.specs.declared.cones.WalkEnd.{WalkEnd}
 use Rattle.worst_walks.specs.declared.cones.Cone.{Cone}

@@ -9,9 +9,9 @@ use Rattle.std.proofs.lemmas.Int.{ints}
 use Rattle.timing_defs.specs.declared.kinds.Kind.{Kind}
 use Rattle.timing_defs.specs.declared.kinds.Kind.TheVariants.{Setup, Hold}
 use Rattle.timing_defs.specs.declared.design.Design.{Design}
-use Rattle.timing_defs.specs.Rows.{plus_some}
-use Rattle.timing_defs.specs.Tests.{data_split}
-use Rattle.timing_defs.specs.Paths.{Named, delay_between as named_delay, is_network_named, last_of, times_along, walk_delay}
+use Rattle.timing_defs.specs.RowTimes.{plus_some}
+use Rattle.timing_defs.specs.Kinds.{data_split}
+use Rattle.timing_rules.specs.Paths.{Named, delay_between as named_delay, is_network_named, last_of, times_along, walk_delay}
 use Rattle.worst_walks.specs.declared.cones.Cone.{Cone}
 use Rattle.worst_walks.specs.Walks.{count_of, delay_between, walk_sum}
 use Rattle.path_search.specs.Launches.{IsTail, signed}

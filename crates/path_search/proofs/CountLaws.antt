@@ -9,8 +9,9 @@ use Rattle.std.proofs.lemmas.Bool.{cases_Bool, false≢true}
 use Rattle.timing_defs.specs.declared.kinds.Tran.{Tran}
 use Rattle.timing_defs.specs.declared.kinds.Kind.{Kind}
 use Rattle.timing_defs.specs.Netlist.{Node}
-use Rattle.timing_defs.specs.Tests.{Test, data_split, tests_at}
-use Rattle.timing_defs.specs.Paths.{named, node_named, clock_not_after, credit}
+use Rattle.timing_rules.specs.Tests.{Test, tests_at}
+use Rattle.timing_defs.specs.Kinds.{data_split}
+use Rattle.timing_rules.specs.Paths.{named, node_named, clock_not_after, credit}
 use Rattle.netlist_store.specs.Numbering.{Stored, IsNumbered}
 use Rattle.netlist_store.specs.Linked.{IsLinked}
 use Rattle.pin_graph.specs.Nodes.{node_at}

@@ -14,9 +14,10 @@ use Rattle.timing_defs.specs.declared.netlist.Inst.{Inst}
 use Rattle.timing_defs.specs.declared.constraints.PortDelay.{PortDelay}
 use Rattle.timing_defs.specs.declared.design.Design.{Design}
 use Rattle.timing_defs.specs.Netlist.{Pin, Node, pins, inst_pins, both_nodes, is_driver, same_split, same_tran}
-use Rattle.timing_defs.specs.Rows.{arrival}
-use Rattle.timing_defs.specs.Tests.{Test, data_split, network_walk, first_edge, library_tests, need_at, test_on, test_along, register_tests, port_tests, output_test, tests_at}
-use Rattle.timing_defs.specs.Paths.{Named, named, is_network_named, same_named, last_common, spread_at, credit}
+use Rattle.timing_rules.specs.Rows.{arrival}
+use Rattle.timing_rules.specs.Tests.{Test, network_walk, first_edge, library_tests, need_at, test_on, test_along, register_tests, port_tests, output_test, tests_at}
+use Rattle.timing_defs.specs.Kinds.{data_split}
+use Rattle.timing_rules.specs.Paths.{Named, named, is_network_named, same_named, last_common, spread_at, credit}
 use Rattle.std.specs.Str.{bytes_eq}
 use Rattle.timing_defs.proofs.Members.{none_in, in_map_back, in_flat_map_back, in_filter_map_back, kept_in}
 use Rattle.store_pins.proofs.PinLaws.{own_in, own_back, own_pins}

@@ -22,11 +22,12 @@ use Rattle.timing_defs.specs.declared.faults.Fault.TheVariants.{UnknownInstance,
 use Rattle.timing_defs.specs.declared.rows.Capture.{Capture}
 use Rattle.timing_defs.specs.declared.design.Design.{Design}
 use Rattle.timing_defs.specs.Netlist.{Node, nodes, pins, name_of, both_nodes}
-use Rattle.timing_defs.specs.Tests.{Test, data_split, tests_at}
-use Rattle.timing_defs.specs.Required.{kind_of}
-use Rattle.timing_defs.specs.Rows.{launch_edges}
-use Rattle.timing_defs.specs.Range.{is_net_origin, is_forward_origin, is_need_origin, is_required_origin, is_back_origin, is_node_origin, NoOrigin}
-use Rattle.timing_defs.specs.Paths.{named, owner_named}
+use Rattle.timing_rules.specs.Tests.{Test, tests_at}
+use Rattle.timing_defs.specs.Kinds.{data_split}
+use Rattle.timing_defs.specs.Kinds.{kind_of}
+use Rattle.timing_rules.specs.Rows.{launch_edges}
+use Rattle.timing_rules.specs.Range.{is_net_origin, is_forward_origin, is_need_origin, is_required_origin, is_back_origin, is_node_origin, NoOrigin}
+use Rattle.timing_rules.specs.Paths.{named, owner_named}
 use Rattle.netlist_store.specs.Numbering.{Stored, name_at, IsNumbered}
 use Rattle.netlist_store.specs.Linked.{IsLinked}
 use Rattle.pin_graph.specs.Nodes.{node_at, node_bound, pin_under}

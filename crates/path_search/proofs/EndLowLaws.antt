@@ -14,9 +14,10 @@ use Rattle.timing_defs.specs.declared.kinds.Tran.{Tran}
 use Rattle.timing_defs.specs.declared.rows.NodeRow.{NodeRow}
 use Rattle.timing_defs.specs.declared.design.Design.{Design}
 use Rattle.timing_defs.specs.Netlist.{Node}
-use Rattle.timing_defs.specs.Rows.{arrival_of, edge_time, empty_row, launch_edges, row, step, times_in}
-use Rattle.timing_defs.specs.Tests.{Test, tests_at, uncertainty_on}
-use Rattle.timing_defs.specs.Paths.{Named, named, moved, slack_by}
+use Rattle.timing_rules.specs.Rows.{arrival_of, edge_time, empty_row, launch_edges, row, step}
+use Rattle.timing_defs.specs.RowTimes.{times_in}
+use Rattle.timing_rules.specs.Tests.{Test, tests_at, uncertainty_on}
+use Rattle.timing_rules.specs.Paths.{Named, named, moved, slack_by}
 use Rattle.timing_defs.proofs.Members.{in_filter_map_back, none_in, in_cases, first_in, later_in}
 use Rattle.netlist_store.specs.Linked.{IsLinked}
 use Rattle.netlist_store.specs.Numbering.{Stored, IsNumbered}

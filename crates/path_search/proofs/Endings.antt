@@ -8,9 +8,10 @@ use Rattle.timing_defs.specs.declared.kinds.Split.{Split}
 use Rattle.timing_defs.specs.declared.kinds.Tran.{Tran}
 use Rattle.timing_defs.specs.declared.kinds.Kind.{Kind}
 use Rattle.timing_defs.specs.declared.design.Design.{Design}
-use Rattle.timing_defs.specs.Tests.{Test, data_split}
-use Rattle.timing_defs.specs.Paths.{Named, last_of, ends_at, nodes_cmp, path_slacks, path_edge, IsSlack}
-use Rattle.timing_defs.proofs.RowLaws.{first_in}
+use Rattle.timing_rules.specs.Tests.{Test}
+use Rattle.timing_defs.specs.Kinds.{data_split}
+use Rattle.timing_rules.specs.Paths.{Named, last_of, ends_at, nodes_cmp, path_slacks, path_edge, IsSlack}
+use Rattle.timing_rules.proofs.RowLaws.{first_in}
 use Rattle.timing_defs.proofs.Members.{none_in}
 use Rattle.path_search.specs.Runs.{IsTimed}
 use Rattle.path_search.specs.Launches.{IsWhole, IsLaunched, IsTail, IsFound, IsCourse, IsLaunchSlack, begin_names, launch_slacks}

@@ -7,10 +7,10 @@ use Rattle.timing_defs.specs.declared.kinds.Kind.{Kind}
 use Rattle.timing_defs.specs.declared.rows.NodeRow.{NodeRow}
 use Rattle.timing_defs.specs.declared.rows.Launch.{Launch}
 use Rattle.timing_defs.specs.Netlist.{Node}
-use Rattle.timing_defs.specs.Range.{NoOrigin}
-use Rattle.timing_defs.specs.Rows.{times_in, time_on, edge_of}
-use Rattle.timing_defs.specs.Tests.{Test}
-use Rattle.timing_defs.specs.Paths.{named}
+use Rattle.timing_rules.specs.Range.{NoOrigin}
+use Rattle.timing_defs.specs.RowTimes.{times_in, time_on, edge_of}
+use Rattle.timing_rules.specs.Tests.{Test}
+use Rattle.timing_rules.specs.Paths.{named}
 use Rattle.netlist_store.specs.Numbering.{Stored, is_number, IsNumbered}
 use Rattle.netlist_store.specs.Linked.{IsLinked}
 use Rattle.pin_graph.specs.declared.arcs.GraphArc.{GraphArc}

@@ -8,9 +8,10 @@ use Rattle.timing_defs.specs.declared.kinds.Split.{Split}
 use Rattle.timing_defs.specs.declared.kinds.Tran.{Tran}
 use Rattle.timing_defs.specs.declared.design.Design.{Design}
 use Rattle.timing_defs.specs.Netlist.{Node}
-use Rattle.timing_defs.specs.Rows.{plus_some, start_at}
-use Rattle.timing_defs.specs.Tests.{first_edge}
-use Rattle.timing_defs.specs.Paths.{Named, named, walk_delay, is_network_named, launch_node, last_of}
+use Rattle.timing_defs.specs.RowTimes.{plus_some}
+use Rattle.timing_rules.specs.Rows.{start_at}
+use Rattle.timing_rules.specs.Tests.{first_edge}
+use Rattle.timing_rules.specs.Paths.{Named, named, walk_delay, is_network_named, launch_node, last_of}
 use Rattle.timing_defs.proofs.Members.{some_is}
 use Rattle.path_search.specs.Runs.{AreSteps, end_of, IsTimed}
 use Rattle.path_search.specs.Launches.{IsWhole, IsByWalk, IsAlone, IsParted}

@@ -5,9 +5,9 @@ use Rattle.std.specs.Prelude.{option_map, option_and_then}
 use Rattle.timing_defs.specs.declared.kinds.Split.{Split}
 use Rattle.timing_defs.specs.declared.kinds.Tran.{Tran}
 use Rattle.timing_defs.specs.Netlist.{Node}
-use Rattle.timing_defs.specs.Clocking.{is_network}
-use Rattle.timing_defs.specs.Tests.{network_walk, first_edge}
-use Rattle.timing_defs.specs.Paths.{Named}
+use Rattle.timing_rules.specs.Clocking.{is_network}
+use Rattle.timing_rules.specs.Tests.{network_walk, first_edge}
+use Rattle.timing_rules.specs.Paths.{Named}
 use Rattle.netlist_store.specs.Numbering.{Stored}
 use Rattle.pin_graph.specs.Nodes.{node_at}
 use Rattle.node_tests.specs.declared.climbs.WalkStart.{WalkStart}

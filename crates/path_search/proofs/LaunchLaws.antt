@@ -15,11 +15,12 @@ use Rattle.timing_defs.specs.declared.rows.NodeRow.{NodeRow}
 use Rattle.timing_defs.specs.declared.rows.Launch.{Launch}
 use Rattle.timing_defs.specs.Netlist.{Node, name_of, same_tran}
 use Rattle.timing_defs.specs.Wires.{first_some}
-use Rattle.timing_defs.specs.Clocking.{is_network, is_clock_port}
-use Rattle.timing_defs.specs.Cones.{has_register_arc}
-use Rattle.timing_defs.specs.Rows.{arcs_in, is_input_port, is_clock_at, input_delay, start_at, launch_edges, edge_time, arrival, arrival_of, arrivals_of, outermost, plus_some, delay_from, times_in, time_on, step, row, empty_row, edge_of}
-use Rattle.timing_defs.specs.Range.{within_some}
-use Rattle.timing_defs.specs.Paths.{named, node_named, start_of, owner_named}
+use Rattle.timing_rules.specs.Clocking.{is_network, is_clock_port}
+use Rattle.timing_rules.specs.Cones.{has_register_arc}
+use Rattle.timing_rules.specs.Rows.{arcs_in, is_input_port, is_clock_at, input_delay, start_at, launch_edges, edge_time, arrival, arrival_of, arrivals_of, outermost, delay_from, step, row, empty_row}
+use Rattle.timing_defs.specs.RowTimes.{plus_some, times_in, time_on, edge_of}
+use Rattle.timing_rules.specs.Range.{within_some}
+use Rattle.timing_rules.specs.Paths.{named, node_named, start_of, owner_named}
 use Rattle.netlist_store.specs.Numbering.{name_at, IsNumbered}
 use Rattle.netlist_store.specs.Linked.{IsLinked}
 use Rattle.pin_graph.specs.declared.arcs.GraphArc.{GraphArc}

@@ -10,10 +10,11 @@ use Rattle.timing_defs.specs.declared.kinds.Tran.{Tran}
 use Rattle.timing_defs.specs.declared.kinds.Kind.{Kind}
 use Rattle.timing_defs.specs.declared.design.Design.{Design}
 use Rattle.timing_defs.specs.Netlist.{Node}
-use Rattle.timing_defs.specs.Clocking.{is_network}
-use Rattle.timing_defs.specs.Rows.{arrival}
-use Rattle.timing_defs.specs.Tests.{Test, data_split, network_walk, first_edge}
-use Rattle.timing_defs.specs.Paths.{Named, named, node_named, last_of, start_of, path_slacks}
+use Rattle.timing_rules.specs.Clocking.{is_network}
+use Rattle.timing_rules.specs.Rows.{arrival}
+use Rattle.timing_rules.specs.Tests.{Test, network_walk, first_edge}
+use Rattle.timing_defs.specs.Kinds.{data_split}
+use Rattle.timing_rules.specs.Paths.{Named, named, node_named, last_of, start_of, path_slacks}
 use Rattle.timing_defs.proofs.Members.{some_is}
 use Rattle.pin_graph.proofs.JoinLaws.{then_back, mapped_back}
 use Rattle.path_search.specs.Runs.{end_of, IsTimed}

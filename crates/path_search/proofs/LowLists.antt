@@ -10,7 +10,7 @@ use Rattle.timing_defs.specs.declared.constraints.Clock.{Clock}
 use Rattle.timing_defs.specs.declared.edge_times.EdgeTime.{EdgeTime}
 use Rattle.timing_defs.specs.declared.kinds.Tran.{Tran}
 use Rattle.timing_defs.specs.declared.kinds.Tran.TheVariants.{Rise, Fall}
-use Rattle.timing_defs.specs.Rows.{clock_edges}
+use Rattle.timing_rules.specs.Rows.{clock_edges}
 use Rattle.path_search.proofs.ConeCourses.{past}
 
 cons_is : (o : Option EdgeTime) (xs : List EdgeTime) → cons_option o xs ≡ option_to_list o ++ xs

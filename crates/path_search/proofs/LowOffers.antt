@@ -10,10 +10,10 @@ use Rattle.timing_defs.specs.declared.kinds.Kind.TheVariants.{Setup, Hold}
 use Rattle.timing_defs.specs.declared.kinds.Split.TheVariants.{Early}
 use Rattle.timing_defs.specs.declared.kinds.Tran.{Tran}
 use Rattle.timing_defs.specs.declared.design.Design.{Design}
-use Rattle.timing_defs.specs.Paths.{moved}
-use Rattle.timing_defs.specs.Rows.{edge_time, launch_edges, outer_some, outermost}
-use Rattle.timing_defs.specs.Rules.{is_tested}
-use Rattle.timing_defs.specs.Tests.{uncertainty_on}
+use Rattle.timing_rules.specs.Paths.{moved}
+use Rattle.timing_rules.specs.Rows.{edge_time, launch_edges, outer_some, outermost}
+use Rattle.timing_rules.specs.Rules.{is_tested}
+use Rattle.timing_rules.specs.Tests.{uncertainty_on}
 use Rattle.netlist_store.specs.Linked.{IsLinked}
 use Rattle.timing_defs.proofs.Members.{first_in, in_filter_map, later_in, some_is}
 use Rattle.pessimism_credit.specs.declared.rows.TreeRow.{TreeRow}

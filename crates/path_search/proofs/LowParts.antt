@@ -14,9 +14,9 @@ use Rattle.timing_defs.specs.declared.constraints.Clock.{Clock}
 use Rattle.timing_defs.specs.declared.design.Design.{Design}
 use Rattle.timing_defs.specs.declared.rows.Capture.{Capture}
 use Rattle.timing_defs.specs.declared.rows.Launch.{Launch}
-use Rattle.timing_defs.specs.Paths.{moved}
-use Rattle.timing_defs.specs.Rules.{cycles, with_cycles}
-use Rattle.timing_defs.specs.Tests.{separation_on}
+use Rattle.timing_rules.specs.Paths.{moved}
+use Rattle.timing_rules.specs.Rules.{cycles, with_cycles}
+use Rattle.timing_rules.specs.Tests.{separation_on}
 use Rattle.netlist_store.specs.Linked.{IsLinked}
 use Rattle.path_rules.specs.Clocks.{IsClock}
 use Rattle.path_rules.proofs.CycleRanges.{ranged}

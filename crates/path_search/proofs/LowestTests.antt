@@ -11,8 +11,9 @@ use Rattle.timing_defs.specs.declared.rows.Launch.{Launch}
 use Rattle.timing_defs.specs.declared.rows.Capture.{Capture}
 use Rattle.timing_defs.specs.declared.design.Design.{Design}
 use Rattle.timing_defs.specs.Netlist.{Node}
-use Rattle.timing_defs.specs.Tests.{Test, data_split, network_walk, first_edge, uncertainty_on}
-use Rattle.timing_defs.specs.Paths.{Named, named, start_of, moved, slack_by, spread_at}
+use Rattle.timing_rules.specs.Tests.{Test, network_walk, first_edge, uncertainty_on}
+use Rattle.timing_defs.specs.Kinds.{data_split}
+use Rattle.timing_rules.specs.Paths.{Named, named, start_of, moved, slack_by, spread_at}
 use Rattle.netlist_store.specs.Linked.{IsLinked}
 use Rattle.netlist_store.specs.Numbering.{IsNumbered}
 use Rattle.pin_graph.specs.Nodes.{node_at}

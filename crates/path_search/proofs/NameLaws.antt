@@ -4,7 +4,7 @@ use Rattle.std.proofs.Common.{◌≡◌, ℕ, true, List, Some, sym, ap, ◌∙�
 use Rattle.std.specs.Prelude.{option_map, option_and_then}
 use Rattle.timing_defs.specs.declared.netlist.Inst.{Inst}
 use Rattle.timing_defs.specs.Netlist.{Pin, pin_named}
-use Rattle.timing_defs.specs.Paths.{owner_named}
+use Rattle.timing_rules.specs.Paths.{owner_named}
 use Rattle.netlist_store.specs.Numbering.{Stored, name_at, is_number, owner_number, IsNumbered}
 use Rattle.netlist_store.specs.Linked.{IsLinked}
 use Rattle.timing_defs.proofs.Members.{some_is}

@@ -10,8 +10,9 @@ use Rattle.timing_defs.specs.declared.kinds.Tran.{Tran}
 use Rattle.timing_defs.specs.declared.design.Design.{Design}
 use Rattle.timing_defs.specs.Netlist.{Node, pins}
 use Rattle.timing_defs.specs.Wires.{first_some}
-use Rattle.timing_defs.specs.Rows.{start_at, launch_edges, edge_time, times_in, time_on, arrival, arrival_of, row, step}
-use Rattle.timing_defs.specs.Paths.{Named, node_named, delay_between, start_of}
+use Rattle.timing_rules.specs.Rows.{start_at, launch_edges, edge_time, arrival, arrival_of, row, step}
+use Rattle.timing_defs.specs.RowTimes.{times_in, time_on}
+use Rattle.timing_rules.specs.Paths.{Named, node_named, delay_between, start_of}
 use Rattle.netlist_store.specs.Linked.{IsLinked}
 use Rattle.netlist_store.specs.Numbering.{IsNumbered}
 use Rattle.store_pins.proofs.PinLaws.{pin_told}

@@ -11,9 +11,9 @@ use Rattle.timing_defs.specs.declared.kinds.Kind.{Kind}
 use Rattle.timing_defs.specs.declared.kinds.Tran.TheVariants.{Rise, Fall}
 use Rattle.timing_defs.specs.declared.rows.NodeRow.{NodeRow}
 use Rattle.timing_defs.specs.Netlist.{Node}
-use Rattle.timing_defs.specs.Paths.{Named, named, IsSlack as IsPinSlack}
-use Rattle.timing_defs.specs.Rows.{times_in}
-use Rattle.timing_defs.specs.Tests.{data_split}
+use Rattle.timing_rules.specs.Paths.{Named, named, IsSlack as IsPinSlack}
+use Rattle.timing_defs.specs.RowTimes.{times_in}
+use Rattle.timing_defs.specs.Kinds.{data_split}
 use Rattle.netlist_store.specs.Linked.{IsLinked}
 use Rattle.netlist_store.specs.Numbering.{Stored, IsNumbered}
 use Rattle.pin_graph.specs.declared.arcs.GraphArc.{GraphArc}

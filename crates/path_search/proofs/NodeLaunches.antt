@@ -19,11 +19,12 @@ use Rattle.timing_defs.specs.declared.rows.Launch.{Launch}
 use Rattle.timing_defs.specs.declared.design.Design.{Design}
 use Rattle.timing_defs.specs.Netlist.{Node, pins}
 use Rattle.timing_defs.specs.Documents.{is_effect}
-use Rattle.timing_defs.specs.Paths.{named, node_named, moved}
-use Rattle.timing_defs.specs.Range.{within_some}
-use Rattle.timing_defs.specs.Rows.{arrival, launch_edges, outer_some, outermost}
-use Rattle.timing_defs.specs.Rules.{cycles, cycles_in, is_tested, with_cycles, without_cycles}
-use Rattle.timing_defs.specs.Tests.{data_split, separation, separation_on, uncertainty, uncertainty_on}
+use Rattle.timing_rules.specs.Paths.{named, node_named, moved}
+use Rattle.timing_rules.specs.Range.{within_some}
+use Rattle.timing_rules.specs.Rows.{arrival, launch_edges, outer_some, outermost}
+use Rattle.timing_rules.specs.Rules.{cycles, cycles_in, is_tested, with_cycles, without_cycles}
+use Rattle.timing_defs.specs.Kinds.{data_split, uncertainty}
+use Rattle.timing_rules.specs.Tests.{separation, separation_on, uncertainty_on}
 use Rattle.netlist_store.specs.Linked.{IsLinked}
 use Rattle.netlist_store.specs.Numbering.{IsNumbered}
 use Rattle.pin_graph.specs.Nodes.{node_at}

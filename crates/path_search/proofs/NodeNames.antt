@@ -11,9 +11,9 @@ use Rattle.timing_defs.specs.declared.kinds.Tran.{Tran}
 use Rattle.timing_defs.specs.declared.kinds.Tran.TheVariants.{Rise, Fall}
 use Rattle.timing_defs.specs.declared.design.Design.{Design}
 use Rattle.timing_defs.specs.Netlist.{Pin, Node, name_of, pins, pin_named, same_pin, same_tran, same_node}
-use Rattle.timing_defs.specs.Clocking.{is_network}
-use Rattle.timing_defs.specs.Rows.{arcs_in, delay}
-use Rattle.timing_defs.specs.Paths.{Named, named, node_named, is_network_named, same_named, arc_delay, delay_between}
+use Rattle.timing_rules.specs.Clocking.{is_network}
+use Rattle.timing_rules.specs.Rows.{arcs_in, delay}
+use Rattle.timing_rules.specs.Paths.{Named, named, node_named, is_network_named, same_named, arc_delay, delay_between}
 use Rattle.timing_defs.proofs.SameNames.{same_is, same_self}
 use Rattle.timing_defs.proofs.Members.{some_is, any_in, any_back, found_in, found_passes}
 use Rattle.pin_graph.proofs.JoinLaws.{then_back, mapped_back}

@@ -16,10 +16,11 @@ use Rattle.timing_defs.specs.declared.kinds.Split.TheVariants.{Early, Late}
 use Rattle.timing_defs.specs.declared.kinds.Tran.{Tran}
 use Rattle.timing_defs.specs.declared.rows.NodeRow.{NodeRow}
 use Rattle.timing_defs.specs.Netlist.{Node, pins, same_tran}
-use Rattle.timing_defs.specs.Paths.{named, arc_delay}
-use Rattle.timing_defs.specs.Range.{within_some}
-use Rattle.timing_defs.specs.Rows.{arrival, arrival_of, edge_time, empty_row, launch_edges, plus_some, row, time_on, times_in}
-use Rattle.timing_defs.specs.Tests.{data_split}
+use Rattle.timing_rules.specs.Paths.{named, arc_delay}
+use Rattle.timing_rules.specs.Range.{within_some}
+use Rattle.timing_rules.specs.Rows.{arrival, arrival_of, edge_time, empty_row, launch_edges, row}
+use Rattle.timing_defs.specs.RowTimes.{plus_some, time_on, times_in}
+use Rattle.timing_defs.specs.Kinds.{data_split}
 use Rattle.netlist_store.specs.Linked.{IsLinked}
 use Rattle.netlist_store.specs.Numbering.{IsNumbered}
 use Rattle.pin_graph.specs.Nodes.{node_at, node_bound}

@@ -17,7 +17,7 @@ use Rattle.sta_units.specs.declared.units.Memory.{Memory}
 use Rattle.timing_defs.specs.declared.kinds.Tran.{Tran}
 use Rattle.timing_defs.specs.declared.kinds.Tran.TheVariants.{Rise, Fall}
 use Rattle.timing_defs.specs.Netlist.{Pin, Node, name_of, pin_named}
-use Rattle.timing_defs.specs.Paths.{Named, named, named_cmp, tran_cmp}
+use Rattle.timing_rules.specs.Paths.{Named, named, named_cmp, tran_cmp}
 use Rattle.netlist_store.specs.Linked.{IsLinked}
 use Rattle.netlist_store.specs.Numbering.{Stored, name_at, number_of, is_number, pin_numbered, IsNumbered}
 use Rattle.pin_graph.specs.Nodes.{node_at, node_number, node_bound, pin_under, tran_under}

@@ -11,11 +11,12 @@ use Rattle.timing_defs.specs.declared.kinds.Tran.{Tran}
 use Rattle.timing_defs.specs.declared.kinds.Kind.{Kind}
 use Rattle.timing_defs.specs.declared.kinds.Kind.TheVariants.{Setup, Hold}
 use Rattle.timing_defs.specs.Netlist.{Node}
-use Rattle.timing_defs.specs.Clocking.{is_network}
-use Rattle.timing_defs.specs.Rows.{outer_some, outermost, arrival}
-use Rattle.timing_defs.specs.Tests.{Test, data_split, network_walk, tests_at, uncertainty_on}
-use Rattle.timing_defs.specs.Paths.{Named, named, node_named, capture_of, last_common, spread_at, credit, moved, slack_by}
-use Rattle.timing_defs.specs.Rules.{is_tested}
+use Rattle.timing_rules.specs.Clocking.{is_network}
+use Rattle.timing_rules.specs.Rows.{outer_some, outermost, arrival}
+use Rattle.timing_rules.specs.Tests.{Test, network_walk, tests_at, uncertainty_on}
+use Rattle.timing_defs.specs.Kinds.{data_split}
+use Rattle.timing_rules.specs.Paths.{Named, named, node_named, capture_of, last_common, spread_at, credit, moved, slack_by}
+use Rattle.timing_rules.specs.Rules.{is_tested}
 use Rattle.netlist_store.specs.Numbering.{Stored, IsNumbered}
 use Rattle.netlist_store.specs.Linked.{IsLinked}
 use Rattle.pin_graph.specs.Nodes.{node_at}

@@ -10,10 +10,11 @@ use Rattle.timing_defs.specs.declared.kinds.Split.{Split}
 use Rattle.timing_defs.specs.declared.kinds.Tran.{Tran}
 use Rattle.timing_defs.specs.declared.design.Design.{Design}
 use Rattle.timing_defs.specs.Netlist.{Node}
-use Rattle.timing_defs.specs.Clocking.{is_network, is_clock_port}
-use Rattle.timing_defs.specs.Rows.{arcs_in, delay, arrival, plus_some, launch_edges}
-use Rattle.timing_defs.specs.Tests.{network_walk, first_edge}
-use Rattle.timing_defs.specs.Paths.{Named, named, node_named, delay_between, walk_delay, start_of, is_network_named, launch_node}
+use Rattle.timing_rules.specs.Clocking.{is_network, is_clock_port}
+use Rattle.timing_rules.specs.Rows.{arcs_in, delay, arrival, launch_edges}
+use Rattle.timing_defs.specs.RowTimes.{plus_some}
+use Rattle.timing_rules.specs.Tests.{network_walk, first_edge}
+use Rattle.timing_rules.specs.Paths.{Named, named, node_named, delay_between, walk_delay, start_of, is_network_named, launch_node}
 use Rattle.timing_defs.proofs.Members.{some_is}
 use Rattle.path_search.specs.Runs.{longer, IsTimed}
 use Rattle.path_search.specs.Launches.{IsWhole, IsByWalk, IsParted}

@@ -8,9 +8,10 @@ use Rattle.timing_defs.specs.declared.kinds.Split.{Split}
 use Rattle.timing_defs.specs.declared.kinds.Tran.{Tran}
 use Rattle.timing_defs.specs.declared.design.Design.{Design}
 use Rattle.timing_defs.specs.Netlist.{Node}
-use Rattle.timing_defs.specs.Rows.{arrival, delay, plus_some, launch_edges}
-use Rattle.timing_defs.specs.Tests.{network_walk}
-use Rattle.timing_defs.specs.Paths.{Named, named, node_named, delay_between, walk_delay, times_along, path_times}
+use Rattle.timing_rules.specs.Rows.{arrival, delay, launch_edges}
+use Rattle.timing_defs.specs.RowTimes.{plus_some}
+use Rattle.timing_rules.specs.Tests.{network_walk}
+use Rattle.timing_rules.specs.Paths.{Named, named, node_named, delay_between, walk_delay, times_along, path_times}
 use Rattle.timing_defs.proofs.Members.{some_is}
 use Rattle.path_search.specs.Runs.{AreSteps, end_of, IsTimed, IsNetworkWalk}
 use Rattle.path_search.specs.Launches.{IsWhole, IsByWalk, IsAlone, IsParted, IsLaunched, IsTail, begin_names, time_at, before_end, before_last, begin_times}

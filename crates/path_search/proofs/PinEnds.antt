@@ -12,8 +12,8 @@ use Rattle.timing_defs.specs.declared.kinds.Kind.{Kind}
 use Rattle.timing_defs.specs.declared.kinds.Tran.{Tran}
 use Rattle.timing_defs.specs.declared.kinds.Tran.TheVariants.{Rise, Fall}
 use Rattle.timing_defs.specs.Netlist.{Node, name_of, pins}
-use Rattle.timing_defs.specs.Tests.{is_endpoint}
-use Rattle.timing_defs.specs.Reports.{endpoints}
+use Rattle.timing_rules.specs.Tests.{is_endpoint}
+use Rattle.timing_rules.specs.Reports.{endpoints}
 use Rattle.netlist_store.specs.Linked.{IsLinked}
 use Rattle.netlist_store.specs.Numbering.{Stored, is_number, IsNumbered}
 use Rattle.pin_graph.specs.Nodes.{node_at, node_number, node_bound, number_at, pin_under}

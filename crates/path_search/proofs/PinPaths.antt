@@ -11,9 +11,10 @@ use Rattle.timing_defs.specs.declared.kinds.Tran.{Tran}
 use Rattle.timing_defs.specs.declared.rows.Path.{Path}
 use Rattle.timing_defs.specs.declared.rows.PathNode.{PathNode}
 use Rattle.timing_defs.specs.Netlist.{Node}
-use Rattle.timing_defs.specs.Rows.{row, empty_row, time_on, times_in}
-use Rattle.timing_defs.specs.Tests.{data_split}
-use Rattle.timing_defs.specs.Paths.{Named, named, ends_at, nodes_cmp, path_named, path_slacks, times_along, IsShown, IsSlack}
+use Rattle.timing_rules.specs.Rows.{row, empty_row}
+use Rattle.timing_defs.specs.RowTimes.{time_on, times_in}
+use Rattle.timing_defs.specs.Kinds.{data_split}
+use Rattle.timing_rules.specs.Paths.{Named, named, ends_at, nodes_cmp, path_named, path_slacks, times_along, IsShown, IsSlack}
 use Rattle.netlist_store.specs.Linked.{IsLinked}
 use Rattle.netlist_store.specs.Numbering.{Stored, is_number, IsNumbered}
 use Rattle.pin_graph.specs.Nodes.{node_at, node_bound, pin_under}

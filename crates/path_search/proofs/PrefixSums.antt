@@ -12,10 +12,11 @@ use Rattle.timing_defs.specs.declared.kinds.Tran.TheVariants.{Rise}
 use Rattle.timing_defs.specs.declared.netlist.Inst.{Inst}
 use Rattle.timing_defs.specs.declared.design.Design.{Design}
 use Rattle.timing_defs.specs.Netlist.{Node, pins, is_driver, same_tran}
-use Rattle.timing_defs.specs.Clocking.{is_network, is_clock_port}
-use Rattle.timing_defs.specs.Rows.{arcs_in, outer, outer_some, outermost, is_input_port, is_clock_at, input_delay, start_at, time_on, times_in, plus_some, delay_from, delay, arrival, arrival_of, launch_edges, step, row}
-use Rattle.timing_defs.specs.Paths.{Named, named, delay_between, walk_delay, last_of}
-use Rattle.timing_defs.proofs.RowLaws.{first_in, later_in}
+use Rattle.timing_rules.specs.Clocking.{is_network, is_clock_port}
+use Rattle.timing_rules.specs.Rows.{arcs_in, outer, outer_some, outermost, is_input_port, is_clock_at, input_delay, start_at, delay_from, delay, arrival, arrival_of, launch_edges, step, row}
+use Rattle.timing_defs.specs.RowTimes.{time_on, times_in, plus_some}
+use Rattle.timing_rules.specs.Paths.{Named, named, delay_between, walk_delay, last_of}
+use Rattle.timing_rules.proofs.RowLaws.{first_in, later_in}
 use Rattle.timing_defs.proofs.Members.{none_in}
 use Rattle.node_rows.proofs.FineLaws.{time_told}
 use Rattle.node_tests.proofs.OneBefore.{port_first}

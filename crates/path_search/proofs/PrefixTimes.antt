@@ -16,9 +16,10 @@ use Rattle.timing_defs.specs.declared.kinds.Tran.{Tran}
 use Rattle.timing_defs.specs.declared.kinds.Tran.TheVariants.{Rise, Fall}
 use Rattle.timing_defs.specs.declared.design.Design.{Design}
 use Rattle.timing_defs.specs.Netlist.{Node, pins, same_tran}
-use Rattle.timing_defs.specs.Rows.{arcs_in, outer, outer_some, outermost, start_at, launch_edges, edge_time, times_in, time_on, plus_some, delay_from, delay, arrival, arrival_of, row, empty_row}
-use Rattle.timing_defs.specs.Tests.{data_split}
-use Rattle.timing_defs.specs.Paths.{Named, named, node_named, arc_delay}
+use Rattle.timing_rules.specs.Rows.{arcs_in, outer, outer_some, outermost, start_at, launch_edges, edge_time, delay_from, delay, arrival, arrival_of, row, empty_row}
+use Rattle.timing_defs.specs.RowTimes.{times_in, time_on, plus_some}
+use Rattle.timing_defs.specs.Kinds.{data_split}
+use Rattle.timing_rules.specs.Paths.{Named, named, node_named, arc_delay}
 use Rattle.netlist_store.specs.Linked.{IsLinked}
 use Rattle.netlist_store.specs.Numbering.{IsNumbered}
 use Rattle.pin_graph.specs.Nodes.{node_at}

@@ -11,10 +11,10 @@ use Rattle.timing_defs.specs.declared.kinds.Dir.TheVariants.{Input, Output}
 use Rattle.timing_defs.specs.declared.design.Design.{Design}
 use Rattle.timing_defs.specs.Netlist.{Pin, Node, pins, nodes, net_of, is_driver, drives_as}
 use Rattle.timing_defs.specs.Wires.{first_some}
-use Rattle.timing_defs.specs.Clocking.{is_network, is_clock_port, is_clock_pin, clocks_cell, driver_on, sinks_on, comb_before, comb_after, pins_before, pins_after, from_clock, to_register}
-use Rattle.timing_defs.specs.Rows.{arcs_in}
-use Rattle.timing_defs.specs.Tests.{walk_within, network_walk}
-use Rattle.timing_defs.proofs.RowLaws.{first_in, later_in}
+use Rattle.timing_rules.specs.Clocking.{is_network, is_clock_port, is_clock_pin, clocks_cell, driver_on, sinks_on, comb_before, comb_after, pins_before, pins_after, from_clock, to_register}
+use Rattle.timing_rules.specs.Rows.{arcs_in}
+use Rattle.timing_rules.specs.Tests.{walk_within, network_walk}
+use Rattle.timing_rules.proofs.RowLaws.{first_in, later_in}
 use Rattle.timing_defs.proofs.Members.{some_is, none_in}
 use Rattle.pin_graph.proofs.JoinLaws.{mapped_back}
 use Rattle.node_tests.proofs.OneBefore.{port_first, one_before, before_network}

@@ -18,9 +18,9 @@ use Rattle.timing_defs.specs.declared.parasitics.NetRc.{NetRc}
 use Rattle.timing_defs.specs.declared.design.Design.{Design}
 use Rattle.timing_defs.specs.Netlist.{Pin, Node, name_of, pins, nodes, both_nodes, net_of, is_on, is_driver, driver}
 use Rattle.timing_defs.specs.Wires.{sum_of, res_of, root_node, pin_cap, charges, elmore, rc_of, net_load, load_of, wire_delay}
-use Rattle.timing_defs.specs.Clocking.{is_network, driver_on}
-use Rattle.timing_defs.specs.Rows.{arcs_in, all_arcs_in, net_arcs_in, net_name, launch_edges, arrival, row}
-use Rattle.timing_defs.specs.Range.{within_some, either_split, rc_nodes, root_of_net, wires_within, net_wires_within, is_large_rc, is_net_origin, is_loaded, arrival_inputs, fine_arrival}
+use Rattle.timing_rules.specs.Clocking.{is_network, driver_on}
+use Rattle.timing_rules.specs.Rows.{arcs_in, all_arcs_in, net_arcs_in, net_name, launch_edges, arrival, row}
+use Rattle.timing_rules.specs.Range.{within_some, either_split, rc_nodes, root_of_net, wires_within, net_wires_within, is_large_rc, is_net_origin, is_loaded, arrival_inputs, fine_arrival}
 use Rattle.netlist_store.specs.Numbering.{Stored, IsNumbered}
 use Rattle.netlist_store.specs.Linked.{IsLinked}
 use Rattle.node_rows.specs.Evaluation.{is_wide_in}

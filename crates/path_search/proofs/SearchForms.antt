@@ -6,8 +6,8 @@ use Rattle.timing_defs.specs.declared.kinds.Split.{Split}
 use Rattle.timing_defs.specs.declared.rows.Path.{Path}
 use Rattle.timing_defs.specs.declared.rows.PathNode.{PathNode}
 use Rattle.timing_defs.specs.Netlist.{Node}
-use Rattle.timing_defs.specs.Tests.{data_split}
-use Rattle.timing_defs.specs.Paths.{Named, named, IsShown}
+use Rattle.timing_defs.specs.Kinds.{data_split}
+use Rattle.timing_rules.specs.Paths.{Named, named, IsShown}
 use Rattle.netlist_store.specs.Linked.{IsLinked}
 use Rattle.netlist_store.specs.Numbering.{Stored, IsNumbered}
 use Rattle.pin_graph.specs.Nodes.{node_at}

@@ -6,10 +6,10 @@ use Rattle.std.specs.Option.{option_map_or}
 use Rattle.timing_defs.specs.declared.design.Design.{Design}
 use Rattle.timing_defs.specs.Netlist.{Node, pins, nodes}
 use Rattle.timing_defs.specs.Wires.{first_some}
-use Rattle.timing_defs.specs.Clocking.{is_clock_port}
-use Rattle.timing_defs.specs.Rows.{arcs_in}
-use Rattle.timing_defs.specs.Tests.{walk_within}
-use Rattle.timing_defs.proofs.RowLaws.{first_in, later_in, stable, row_is, ArePlacedNodes}
+use Rattle.timing_rules.specs.Clocking.{is_clock_port}
+use Rattle.timing_rules.specs.Rows.{arcs_in}
+use Rattle.timing_rules.specs.Tests.{walk_within}
+use Rattle.timing_rules.proofs.RowLaws.{first_in, later_in, stable, row_is, ArePlacedNodes}
 use Rattle.netlist_store.specs.Numbering.{IsNumbered}
 use Rattle.netlist_store.specs.Linked.{IsLinked}
 use Rattle.pin_graph.specs.Nodes.{node_number}

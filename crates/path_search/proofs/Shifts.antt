@@ -9,9 +9,9 @@ use Rattle.timing_defs.specs.declared.kinds.Tran.{Tran}
 use Rattle.timing_defs.specs.declared.kinds.Kind.{Kind}
 use Rattle.timing_defs.specs.declared.kinds.Kind.TheVariants.{Setup, Hold}
 use Rattle.timing_defs.specs.declared.design.Design.{Design}
-use Rattle.timing_defs.specs.Rows.{plus_some}
-use Rattle.timing_defs.specs.Tests.{Test, tests_at, uncertainty_on}
-use Rattle.timing_defs.specs.Paths.{Named, node_named, delay_between, walk_delay, capture_of, moved, slack_by, credit}
+use Rattle.timing_defs.specs.RowTimes.{plus_some}
+use Rattle.timing_rules.specs.Tests.{Test, tests_at, uncertainty_on}
+use Rattle.timing_rules.specs.Paths.{Named, node_named, delay_between, walk_delay, capture_of, moved, slack_by, credit}
 use Rattle.path_search.specs.Launches.{walk_names, launched_at, launch_slack, is_launch_tested, launch_slacks, signed}
 
 pub slack_shifts : (kind : Kind) (test : Test) (sep unc c time rest : ℤ) → slack_by kind test sep unc c (time +ℤ rest) ≡ slack_by kind test sep unc c time -ℤ signed kind rest

@@ -8,8 +8,9 @@ use Rattle.timing_defs.specs.declared.kinds.Kind.{Kind}
 use Rattle.timing_defs.specs.declared.kinds.Tran.{Tran}
 use Rattle.timing_defs.specs.declared.rows.Path.{Path}
 use Rattle.timing_defs.specs.declared.design.Design.{Design}
-use Rattle.timing_defs.specs.Tests.{Test, data_split, tests_at}
-use Rattle.timing_defs.specs.Paths.{Named, node_named, clock_not_after, credit, ends_at, path_edge, path_named, path_slacks, path_times, times_along, Counts, Holds}
+use Rattle.timing_rules.specs.Tests.{Test, tests_at}
+use Rattle.timing_defs.specs.Kinds.{data_split}
+use Rattle.timing_rules.specs.Paths.{Named, node_named, clock_not_after, credit, ends_at, path_edge, path_named, path_slacks, path_times, times_along, Counts, Holds}
 use Rattle.timing_defs.proofs.Members.{in_map_back, kept_in}
 use Rattle.worst_walks.specs.declared.cones.Cone.{Cone}
 use Rattle.worst_walks.specs.declared.cones.Walk.{Walk}

@@ -21,9 +21,10 @@ use Rattle.timing_defs.specs.declared.rows.Launch.{Launch}
 use Rattle.timing_defs.specs.declared.rows.Capture.{Capture}
 use Rattle.timing_defs.specs.declared.design.Design.{Design}
 use Rattle.timing_defs.specs.Documents.{is_clock, is_effect}
-use Rattle.timing_defs.specs.Tests.{offset, divisor_up_to, common_period, separation, separation_on, uncertainty, uncertainty_on, on_clocks}
-use Rattle.timing_defs.specs.Paths.{moved}
-use Rattle.timing_defs.specs.Rules.{applies, cycles_in, last_some, without_cycles, cycles, with_cycles}
+use Rattle.timing_rules.specs.Tests.{offset, divisor_up_to, common_period, separation, separation_on, uncertainty_on, on_clocks}
+use Rattle.timing_defs.specs.Kinds.{uncertainty}
+use Rattle.timing_rules.specs.Paths.{moved}
+use Rattle.timing_rules.specs.Rules.{applies, cycles_in, last_some, without_cycles, cycles, with_cycles}
 use Rattle.netlist_store.specs.Linked.{IsLinked}
 use Rattle.path_rules.specs.declared.overrides.Rule.{Rule}
 use Rattle.path_rules.specs.Clocks.{IsClock}

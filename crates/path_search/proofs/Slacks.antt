@@ -7,10 +7,11 @@ use Rattle.timing_defs.specs.declared.kinds.Tran.{Tran}
 use Rattle.timing_defs.specs.declared.kinds.Kind.{Kind}
 use Rattle.timing_defs.specs.declared.design.Design.{Design}
 use Rattle.timing_defs.specs.Netlist.{Node}
-use Rattle.timing_defs.specs.Tests.{Test, data_split, tests_at, uncertainty_on}
-use Rattle.timing_defs.specs.Paths.{Named, node_named, last_of, walk_delay, start_of, launch_node, launch_of, capture_of, credit, moved, slack_by, slacks_from, path_slacks}
-use Rattle.timing_defs.specs.Rules.{is_tested}
-use Rattle.timing_defs.proofs.RowLaws.{first_in, later_in}
+use Rattle.timing_rules.specs.Tests.{Test, tests_at, uncertainty_on}
+use Rattle.timing_defs.specs.Kinds.{data_split}
+use Rattle.timing_rules.specs.Paths.{Named, node_named, last_of, walk_delay, start_of, launch_node, launch_of, capture_of, credit, moved, slack_by, slacks_from, path_slacks}
+use Rattle.timing_rules.specs.Rules.{is_tested}
+use Rattle.timing_rules.proofs.RowLaws.{first_in, later_in}
 use Rattle.timing_defs.proofs.Members.{none_in, kept_in}
 use Rattle.path_search.specs.Runs.{IsTimed}
 use Rattle.path_search.specs.Launches.{IsWhole, IsParted, IsPath, walk_names, launched_at, launch_slack, is_launch_tested, launch_slacks}

@@ -14,10 +14,10 @@ use Rattle.timing_defs.specs.declared.netlist.Inst.{Inst}
 use Rattle.timing_defs.specs.declared.design.Design.{Design}
 use Rattle.timing_defs.specs.Netlist.{Pin, Node, is_driver, drives_as, same_tran, same_dir}
 use Rattle.timing_defs.specs.Wires.{first_some}
-use Rattle.timing_defs.specs.Clocking.{is_network, is_clock_port, port_has_clock}
-use Rattle.timing_defs.specs.Rows.{arcs_in, net_arcs_in, cell_arcs_in, is_input_port, is_clock_at, input_delay, start_at, launch_edges}
-use Rattle.timing_defs.specs.Tests.{edge_of_port}
-use Rattle.timing_defs.specs.Paths.{Named, node_named, start_of}
+use Rattle.timing_rules.specs.Clocking.{is_network, is_clock_port, port_has_clock}
+use Rattle.timing_rules.specs.Rows.{arcs_in, net_arcs_in, cell_arcs_in, is_input_port, is_clock_at, input_delay, start_at, launch_edges}
+use Rattle.timing_rules.specs.Tests.{edge_of_port}
+use Rattle.timing_rules.specs.Paths.{Named, node_named, start_of}
 use Rattle.pin_graph.proofs.JoinLaws.{then_back, mapped_back}
 use Rattle.path_search.proofs.Prefixes.{first_back}
 

@@ -20,10 +20,11 @@ use Rattle.timing_defs.specs.declared.design.Design.{Design}
 use Rattle.timing_defs.specs.Documents.{is_port_delay}
 use Rattle.timing_defs.specs.Lookup.{look}
 use Rattle.timing_defs.specs.Netlist.{Pin, Node, pins, inst_pins, both_nodes, is_driver, same_split, same_tran}
-use Rattle.timing_defs.specs.Clocking.{is_network}
-use Rattle.timing_defs.specs.Rows.{outer_some, outermost, clock_edges, launch_edges, slew, arrival}
-use Rattle.timing_defs.specs.Tests.{Test, data_split, clock_split, network_walk, first_edge, library_tests, need_at, test_on, test_along, register_tests, output_need, output_test, port_tests, tests_at}
-use Rattle.timing_defs.specs.Range.{within_some, fine_slew, need_within, is_need_origin_at, is_need_origin}
+use Rattle.timing_rules.specs.Clocking.{is_network}
+use Rattle.timing_rules.specs.Rows.{outer_some, outermost, clock_edges, launch_edges, slew, arrival}
+use Rattle.timing_rules.specs.Tests.{Test, network_walk, first_edge, library_tests, need_at, test_on, test_along, register_tests, output_need, output_test, port_tests, tests_at}
+use Rattle.timing_defs.specs.Kinds.{data_split, clock_split}
+use Rattle.timing_rules.specs.Range.{within_some, fine_slew, need_within, is_need_origin_at, is_need_origin}
 use Rattle.netlist_store.specs.Numbering.{IsNumbered}
 use Rattle.netlist_store.specs.Linked.{IsLinked}
 use Rattle.pin_graph.specs.Graphs.{Graphed, IsGraph}

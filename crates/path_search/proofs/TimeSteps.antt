@@ -13,7 +13,7 @@ use Rattle.sta_units.specs.Numbers.{Within}
 use Rattle.timing_defs.specs.declared.kinds.Kind.{Kind}
 use Rattle.timing_defs.specs.declared.kinds.Kind.TheVariants.{Setup, Hold}
 use Rattle.timing_defs.specs.declared.rows.PathNode.{PathNode}
-use Rattle.timing_defs.specs.Paths.{Named}
+use Rattle.timing_rules.specs.Paths.{Named}
 use Rattle.netlist_store.specs.Numbering.{Stored}
 use Rattle.worst_walks.specs.declared.cones.WalkArc.{WalkArc}
 use Rattle.worst_walks.specs.declared.cones.Cone.{Cone}

@@ -11,12 +11,12 @@ use Rattle.timing_defs.specs.declared.kinds.Split.TheVariants.{Early, Late}
 use Rattle.timing_defs.specs.declared.kinds.Tran.{Tran}
 use Rattle.timing_defs.specs.declared.kinds.Tran.TheVariants.{Rise, Fall}
 use Rattle.timing_defs.specs.Netlist.{Node, pins, name_of, same_tran}
-use Rattle.timing_defs.specs.Clocking.{is_network, is_clock_port}
-use Rattle.timing_defs.specs.Rows.{arcs_in, arrival}
-use Rattle.timing_defs.specs.Cones.{has_register_arc}
-use Rattle.timing_defs.specs.Tests.{Test, network_walk}
-use Rattle.timing_defs.specs.Paths as paths
-use Rattle.timing_defs.specs.Paths.{Named, named, node_named, same_named, spread_at}
+use Rattle.timing_rules.specs.Clocking.{is_network, is_clock_port}
+use Rattle.timing_rules.specs.Rows.{arcs_in, arrival}
+use Rattle.timing_rules.specs.Cones.{has_register_arc}
+use Rattle.timing_rules.specs.Tests.{Test, network_walk}
+use Rattle.timing_rules.specs.Paths as paths
+use Rattle.timing_rules.specs.Paths.{Named, named, node_named, same_named, spread_at}
 use Rattle.netlist_store.specs.Numbering.{IsNumbered}
 use Rattle.netlist_store.specs.Linked.{IsLinked}
 use Rattle.pin_graph.specs.declared.arcs.GraphArc.{GraphArc}

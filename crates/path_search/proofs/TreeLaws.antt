@@ -13,10 +13,11 @@ use Rattle.timing_defs.specs.declared.kinds.Tran.{Tran}
 use Rattle.timing_defs.specs.declared.rows.NodeRow.{NodeRow}
 use Rattle.timing_defs.specs.declared.design.Design.{Design}
 use Rattle.timing_defs.specs.Netlist.{Node, pins, pin_named, same_tran}
-use Rattle.timing_defs.specs.Clocking.{is_network, is_clock_port}
-use Rattle.timing_defs.specs.Rows.{arcs_in, arrival, is_clock_at, launch_edges, row, empty_row, edge_of}
-use Rattle.timing_defs.specs.Range.{within_some}
-use Rattle.timing_defs.specs.Tests.{network_walk, first_edge}
+use Rattle.timing_rules.specs.Clocking.{is_network, is_clock_port}
+use Rattle.timing_rules.specs.Rows.{arcs_in, arrival, is_clock_at, launch_edges, row, empty_row}
+use Rattle.timing_defs.specs.RowTimes.{edge_of}
+use Rattle.timing_rules.specs.Range.{within_some}
+use Rattle.timing_rules.specs.Tests.{network_walk, first_edge}
 use Rattle.netlist_store.specs.Numbering.{Stored, name_at, IsNumbered}
 use Rattle.netlist_store.specs.Linked.{IsLinked}
 use Rattle.pin_graph.specs.declared.arcs.GraphArc.{GraphArc}

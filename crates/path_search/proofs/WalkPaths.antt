@@ -15,9 +15,10 @@ use Rattle.timing_defs.specs.declared.kinds.Tran.TheVariants.{Rise, Fall}
 use Rattle.timing_defs.specs.declared.design.Design.{Design}
 use Rattle.timing_defs.specs.declared.rows.Path.{Path}
 use Rattle.timing_defs.specs.Netlist.{Node}
-use Rattle.timing_defs.specs.Tests.{Test, data_split}
-use Rattle.timing_defs.specs.Paths.{Named, named, named_cmp, nodes_cmp, launch_node, last_of, ends_at, path_slacks}
-use Rattle.timing_defs.specs.Ranking.{Ranked, ranked, comes_before as path_before, IsPathSlack, IsRanked}
+use Rattle.timing_rules.specs.Tests.{Test}
+use Rattle.timing_defs.specs.Kinds.{data_split}
+use Rattle.timing_rules.specs.Paths.{Named, named, named_cmp, nodes_cmp, launch_node, last_of, ends_at, path_slacks}
+use Rattle.timing_rules.specs.Ranking.{Ranked, ranked, comes_before as path_before, IsPathSlack, IsRanked}
 use Rattle.timing_defs.proofs.Members.{some_is}
 use Rattle.netlist_store.specs.Linked.{IsLinked}
 use Rattle.netlist_store.specs.Numbering.{IsNumbered}

@@ -8,8 +8,8 @@ use Rattle.std.specs.Cmp.Lexicographic.{slice_cmp}
 use Rattle.std.proofs.lemmas.Bool.{eq-eqb}
 use Rattle.std.proofs.lemmas.List.Elements.{All-nil, All-cons}
 use Rattle.timing_defs.specs.declared.kinds.Kind.{Kind}
-use Rattle.timing_defs.specs.Tests.{data_split}
-use Rattle.timing_defs.specs.Paths.{Named, nodes_cmp}
+use Rattle.timing_defs.specs.Kinds.{data_split}
+use Rattle.timing_rules.specs.Paths.{Named, nodes_cmp}
 use Rattle.timing_defs.proofs.Members.{any_in}
 use Rattle.netlist_store.specs.Linked.{IsLinked}
 use Rattle.netlist_store.specs.Numbering.{name_at, IsNumbered}

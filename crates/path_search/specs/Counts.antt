@@ -7,8 +7,9 @@ use Rattle.timing_defs.specs.declared.kinds.Tran.{Tran}
 use Rattle.timing_defs.specs.declared.kinds.Kind.{Kind}
 use Rattle.timing_defs.specs.declared.design.Design.{Design}
 use Rattle.timing_defs.specs.Netlist.{Node}
-use Rattle.timing_defs.specs.Tests.{Test, data_split}
-use Rattle.timing_defs.specs.Paths.{Named, named, clock_not_after, credit}
+use Rattle.timing_rules.specs.Tests.{Test}
+use Rattle.timing_defs.specs.Kinds.{data_split}
+use Rattle.timing_rules.specs.Paths.{Named, named, clock_not_after, credit}
 use Rattle.netlist_store.specs.Numbering.{Stored, is_number}
 use Rattle.pin_graph.specs.Nodes.{node_at, node_bound, pin_under}
 use Rattle.pessimism_credit.specs.declared.rows.TreeRow.{TreeRow}

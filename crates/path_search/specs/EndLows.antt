@@ -7,8 +7,8 @@ use Rattle.timing_defs.specs.declared.kinds.Split.TheVariants.{Early}
 use Rattle.timing_defs.specs.declared.kinds.Tran.{Tran}
 use Rattle.timing_defs.specs.declared.design.Design.{Design}
 use Rattle.timing_defs.specs.Netlist.{Node}
-use Rattle.timing_defs.specs.Rows.{outermost}
-use Rattle.timing_defs.specs.Tests.{Test, tests_at}
+use Rattle.timing_rules.specs.Rows.{outermost}
+use Rattle.timing_rules.specs.Tests.{Test, tests_at}
 use Rattle.netlist_store.specs.Numbering.{Stored}
 use Rattle.pin_graph.specs.Nodes.{node_at}
 use Rattle.pessimism_credit.specs.declared.rows.TreeRow.{TreeRow}

@@ -10,11 +10,12 @@ use Rattle.timing_defs.specs.declared.kinds.Kind.TheVariants.{Setup, Hold}
 use Rattle.timing_defs.specs.declared.rows.Launch.{Launch}
 use Rattle.timing_defs.specs.declared.design.Design.{Design}
 use Rattle.timing_defs.specs.Netlist.{Node}
-use Rattle.timing_defs.specs.Clocking.{is_network}
-use Rattle.timing_defs.specs.Rows.{arrival}
-use Rattle.timing_defs.specs.Tests.{Test, data_split, network_walk, first_edge, tests_at, uncertainty_on}
-use Rattle.timing_defs.specs.Paths.{Named, node_named, named, walk_delay, start_of, is_network_named, launch_node, owner_named, capture_of, last_of, credit, moved, slack_by}
-use Rattle.timing_defs.specs.Rules.{is_tested}
+use Rattle.timing_rules.specs.Clocking.{is_network}
+use Rattle.timing_rules.specs.Rows.{arrival}
+use Rattle.timing_rules.specs.Tests.{Test, network_walk, first_edge, tests_at, uncertainty_on}
+use Rattle.timing_defs.specs.Kinds.{data_split}
+use Rattle.timing_rules.specs.Paths.{Named, node_named, named, walk_delay, start_of, is_network_named, launch_node, owner_named, capture_of, last_of, credit, moved, slack_by}
+use Rattle.timing_rules.specs.Rules.{is_tested}
 use Rattle.std.specs.Str.{bytes_eq}
 
 -- a path with its launch edge, launch node and length: start time and delays

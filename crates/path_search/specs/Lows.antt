@@ -9,10 +9,10 @@ use Rattle.timing_defs.specs.declared.kinds.Split.TheVariants.{Early}
 use Rattle.timing_defs.specs.declared.kinds.Tran.{Tran}
 use Rattle.timing_defs.specs.declared.constraints.Constraints.{Constraints}
 use Rattle.timing_defs.specs.declared.design.Design.{Design}
-use Rattle.timing_defs.specs.Paths.{slack_by}
-use Rattle.timing_defs.specs.Rows.{edge_time, launch_edges, outermost}
-use Rattle.timing_defs.specs.Rules.{with_cycles}
-use Rattle.timing_defs.specs.Tests.{on_clocks, separation_on, uncertainty_on}
+use Rattle.timing_rules.specs.Paths.{slack_by}
+use Rattle.timing_rules.specs.Rows.{edge_time, launch_edges, outermost}
+use Rattle.timing_rules.specs.Rules.{with_cycles}
+use Rattle.timing_rules.specs.Tests.{on_clocks, separation_on, uncertainty_on}
 use Rattle.path_rules.specs.Ranges.{range_of}
 use Rattle.pessimism_credit.specs.declared.rows.TreeRow.{TreeRow}
 use Rattle.pessimism_credit.specs.Credit.{least_credit_of}

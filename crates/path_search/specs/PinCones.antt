@@ -9,9 +9,10 @@ use Rattle.timing_defs.specs.declared.kinds.Kind.{Kind}
 use Rattle.timing_defs.specs.declared.rows.Path.{Path}
 use Rattle.timing_defs.specs.declared.rows.PathNode.{PathNode}
 use Rattle.timing_defs.specs.Netlist.{Node}
-use Rattle.timing_defs.specs.Rows.{time_on, times_in}
-use Rattle.timing_defs.specs.Tests.{Test, data_split}
-use Rattle.timing_defs.specs.Paths.{Named, named, ends_at, path_named, Holds}
+use Rattle.timing_defs.specs.RowTimes.{time_on, times_in}
+use Rattle.timing_rules.specs.Tests.{Test}
+use Rattle.timing_defs.specs.Kinds.{data_split}
+use Rattle.timing_rules.specs.Paths.{Named, named, ends_at, path_named, Holds}
 use Rattle.netlist_store.specs.Numbering.{Stored, is_number}
 use Rattle.pin_graph.specs.Nodes.{node_at, node_bound, pin_under}
 use Rattle.pin_graph.specs.Graphs.{Graphed}

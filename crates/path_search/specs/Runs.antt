@@ -4,10 +4,10 @@ use Rattle.std.specs.Prelude.{◌≡◌, true, ⊤, if◌then◌else◌, List, [
 use Rattle.timing_defs.specs.declared.design.Design.{Design}
 use Rattle.timing_defs.specs.Netlist.{Pin, Node, name_of, pins, nodes, pin_named}
 use Rattle.timing_defs.specs.Wires.{first_some}
-use Rattle.timing_defs.specs.Clocking.{is_network, is_clock_port}
-use Rattle.timing_defs.specs.Rows.{arcs_in, step, row}
-use Rattle.timing_defs.specs.Tests.{walk_within}
-use Rattle.timing_defs.specs.Checks.{clock_not_tree}
+use Rattle.timing_rules.specs.Clocking.{is_network, is_clock_port}
+use Rattle.timing_rules.specs.Rows.{arcs_in, step, row}
+use Rattle.timing_rules.specs.Tests.{walk_within}
+use Rattle.timing_rules.specs.Checks.{clock_not_tree}
 use Rattle.netlist_store.specs.Linked.{IsLinked}
 
 -- an arc leads to a node of the clock network

@@ -10,10 +10,12 @@ use Rattle.timing_defs.specs.declared.kinds.Kind.{Kind}
 use Rattle.timing_defs.specs.declared.kinds.Kind.TheVariants.{Setup, Hold}
 use Rattle.timing_defs.specs.declared.design.Design.{Design}
 use Rattle.timing_defs.specs.Netlist.{Node}
-use Rattle.timing_defs.specs.Rows.{outermost, edge_of}
-use Rattle.timing_defs.specs.Tests.{Test, data_split, network_walk, uncertainty_on}
-use Rattle.timing_defs.specs.Paths.{Named, named, owner_named, capture_of, moved, slack_by}
-use Rattle.timing_defs.specs.Rules.{is_tested}
+use Rattle.timing_rules.specs.Rows.{outermost}
+use Rattle.timing_defs.specs.RowTimes.{edge_of}
+use Rattle.timing_rules.specs.Tests.{Test, network_walk, uncertainty_on}
+use Rattle.timing_defs.specs.Kinds.{data_split}
+use Rattle.timing_rules.specs.Paths.{Named, named, owner_named, capture_of, moved, slack_by}
+use Rattle.timing_rules.specs.Rules.{is_tested}
 use Rattle.netlist_store.specs.Numbering.{Stored, name_at}
 use Rattle.timing_defs.specs.declared.edge_times.EdgeTime.{EdgeTime}
 use Rattle.pin_graph.specs.declared.arcs.GraphArc.{GraphArc}

@@ -2,8 +2,8 @@
 
 use Rattle.std.specs.Prelude.{◌≡◌, List}
 use Rattle.timing_defs.specs.declared.rows.NodeRow.{NodeRow}
-use Rattle.timing_defs.specs.Checks.{IsSound}
-use Rattle.timing_defs.specs.Range.{NoOrigin}
+use Rattle.timing_rules.specs.Checks.{IsSound}
+use Rattle.timing_rules.specs.Range.{NoOrigin}
 use Rattle.netlist_store.specs.Numbering.{Stored}
 use Rattle.arc_delays.specs.declared.tables.ArcDelay.{ArcDelay}
 use Rattle.arc_delays.specs.Delays.{AreDelays}

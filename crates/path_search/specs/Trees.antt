@@ -8,8 +8,9 @@ use Rattle.timing_defs.specs.declared.kinds.Tran.{Tran}
 use Rattle.timing_defs.specs.declared.design.Design.{Design}
 use Rattle.timing_defs.specs.Netlist.{Node}
 use Rattle.timing_defs.specs.declared.rows.NodeRow.{NodeRow}
-use Rattle.timing_defs.specs.Rows.{arrival, time_on, edge_of}
-use Rattle.timing_defs.specs.Tests.{network_walk, first_edge}
+use Rattle.timing_rules.specs.Rows.{arrival}
+use Rattle.timing_defs.specs.RowTimes.{time_on, edge_of}
+use Rattle.timing_rules.specs.Tests.{network_walk, first_edge}
 use Rattle.pin_graph.specs.Nodes.{node_at}
 use Rattle.pin_graph.specs.Graphs.{Graphed, fan_at, place_at}
 use Rattle.node_tests.specs.Walks.{first_from}

@@ -2,9 +2,9 @@
 
 use Rattle.std.specs.Prelude.{ℕ, ◌≡◌, ℤ, ◌≤ℤ◌, true, List, [], ◌∷◌, ◌++◌, map, Contains}
 use Rattle.timing_defs.specs.declared.kinds.Kind.{Kind}
-use Rattle.timing_defs.specs.Tests.{Test}
-use Rattle.timing_defs.specs.Paths.{Named, ends_at, path_slacks}
-use Rattle.timing_defs.specs.Ranking.{Ranked, comes_before as path_before, IsPathSlack, IsRanked}
+use Rattle.timing_rules.specs.Tests.{Test}
+use Rattle.timing_rules.specs.Paths.{Named, ends_at, path_slacks}
+use Rattle.timing_rules.specs.Ranking.{Ranked, comes_before as path_before, IsPathSlack, IsRanked}
 use Rattle.pin_graph.specs.Graphs.{Graphed}
 use Rattle.worst_walks.specs.declared.cones.Walk.{Walk}
 use Rattle.worst_walks.specs.Walks.{comes_before as walk_before, IsWalk}

@@ -3,7 +3,7 @@
 use Rattle.std.specs.Prelude.{ℕ, ◌≡◌, ◌<◌, true, List, [], ◌∷◌, ◌++◌, map, length, All, Some}
 use Rattle.std.specs.Ordering.{nat_cmp}
 use Rattle.std.specs.Cmp.Lexicographic.{slice_cmp}
-use Rattle.timing_defs.specs.Paths.{nodes_cmp}
+use Rattle.timing_rules.specs.Paths.{nodes_cmp}
 use Rattle.netlist_store.specs.Numbering.{name_at}
 use Rattle.pin_graph.specs.Nodes.{pin_under}
 use Rattle.pin_graph.specs.Graphs.{Graphed}

@@ -3,11 +3,11 @@
 ghost use Rattle.std.specs.Prelude.{◌≡◌, ◌<◌, ◌^◌, true, [], ◌∷◌, All, Contains, Some, length, slice_index, position, nat_eq, IfOk};
 ghost use Rattle.timing_defs.specs.Netlist.{Node};
 ghost use Rattle.netlist_store.specs.Numbering.{is_number};
-ghost use Rattle.timing_defs.specs.Reports.{endpoints};
+ghost use Rattle.timing_rules.specs.Reports.{endpoints};
 ghost use Rattle.pin_graph.specs.Nodes.{node_at, node_bound, pin_under};
 ghost use Rattle.path_cones.specs.Reaching.{is_among};
 ghost use Rattle.path_search.specs.Sources.{AreSources};
-ghost use Rattle.timing_defs.specs.Paths.{named};
+ghost use Rattle.timing_rules.specs.Paths.{named};
 ghost use Rattle.path_cones.specs.FanIns.{IsFanIn};
 ghost use Rattle.path_search.specs.Offers.{AreOffers};
 ghost use Rattle.path_search.specs.PinCones.{cone_of, AreEndNodes, IsNamedNode, IsEndOf, IsPinCone};

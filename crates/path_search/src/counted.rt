@@ -3,8 +3,8 @@
 ghost use Rattle.std.specs.Prelude.{◌≡◌, ◌<◌, true, Some, None, All, length, if◌then◌else◌, IfOk, IfSome};
 ghost use Rattle.sta_units.specs.Numbers.{Within};
 ghost use Rattle.timing_defs.specs.Netlist.{Node};
-ghost use Rattle.timing_defs.specs.Tests.{data_split};
-ghost use Rattle.timing_defs.specs.Paths.{named, tran_cmp, named_cmp};
+ghost use Rattle.timing_defs.specs.Kinds.{data_split};
+ghost use Rattle.timing_rules.specs.Paths.{named, tran_cmp, named_cmp};
 ghost use Rattle.netlist_store.specs.Numbering.{is_number};
 ghost use Rattle.pin_graph.specs.Nodes.{node_at, node_bound, pin_under};
 ghost use Rattle.pessimism_credit.specs.Credit.{IsTree};

@@ -1,7 +1,7 @@
 //! Launch edges, and arrivals on them.
 
 ghost use Rattle.std.specs.Prelude.{◌≡◌, ◌<◌, Some, option_map, option_and_then};
-ghost use Rattle.timing_defs.specs.Rows.{times_in, time_on, edge_of};
+ghost use Rattle.timing_defs.specs.RowTimes.{times_in, time_on, edge_of};
 ghost use Rattle.pin_graph.specs.Nodes.{node_at, node_bound};
 ghost use Rattle.path_search.specs.Trees.{walk_edge};
 

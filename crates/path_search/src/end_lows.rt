@@ -2,8 +2,9 @@
 
 ghost use Rattle.std.specs.Prelude.{◌≡◌, ◌<◌, true, All, length, IfOk, IfSome};
 ghost use Rattle.timing_defs.specs.declared.kinds.Split.TheVariants.{Early};
-ghost use Rattle.timing_defs.specs.Rows.{outer_some, times_in};
-ghost use Rattle.timing_defs.specs.Tests.{data_split};
+ghost use Rattle.timing_rules.specs.Rows.{outer_some};
+ghost use Rattle.timing_defs.specs.RowTimes.{times_in};
+ghost use Rattle.timing_defs.specs.Kinds.{data_split};
 ghost use Rattle.netlist_store.specs.Numbering.{is_number};
 ghost use Rattle.pin_graph.specs.Nodes.{node_bound, pin_under};
 ghost use Rattle.pin_graph.specs.RowTables.{row_numbered};

@@ -1,7 +1,7 @@
 //! The tests of an end node.
 
 ghost use Rattle.std.specs.Prelude.{◌≡◌, ◌<◌, true, false, option_and_then, All, IfOk, IfSome, OnOk};
-ghost use Rattle.timing_defs.specs.Range.{NoOrigin};
+ghost use Rattle.timing_rules.specs.Range.{NoOrigin};
 ghost use Rattle.netlist_store.specs.Numbering.{is_number};
 ghost use Rattle.pin_graph.specs.Nodes.{node_bound, pin_under};
 ghost use Rattle.pin_graph.specs.Graphs.{place_at};

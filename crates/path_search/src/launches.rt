@@ -2,13 +2,13 @@
 
 ghost use Rattle.std.specs.Prelude.{◌≡◌, ◌<◌, None, Some, option_map, IfOk, IsTrue};
 ghost use Rattle.timing_defs.specs.Netlist.{Node};
-ghost use Rattle.timing_defs.specs.Tests.{data_split};
-ghost use Rattle.timing_defs.specs.Paths.{named};
+ghost use Rattle.timing_defs.specs.Kinds.{data_split};
+ghost use Rattle.timing_rules.specs.Paths.{named};
 ghost use Rattle.pin_graph.specs.Nodes.{node_at, node_bound};
 ghost use Rattle.pin_graph.specs.Graphs.{fan_at};
 ghost use Rattle.pin_graph.specs.RowTables.{AreRows, AreRowsFine, row_numbered};
 ghost use Rattle.path_search.specs.Launches.{edge_of_launch};
-ghost use Rattle.timing_defs.specs.Rows.{edge_of};
+ghost use Rattle.timing_defs.specs.RowTimes.{edge_of};
 ghost use Rattle.path_search.specs.Slacks.{first_time, start_told, IsLaunchTime, MayLaunch};
 
 use crate::edges::{arrival_on, walk_edge};

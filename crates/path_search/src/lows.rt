@@ -3,7 +3,8 @@
 ghost use Rattle.std.specs.Prelude.{◌≡◌, ◌<◌, ◌≤◌, ◌*◌, ◌++◌, All, length, unsigned_abs, IfOk, IfSome, OnOk, None, Some};
 ghost use Rattle.std.specs.Option.{option_map, option_to_list};
 ghost use Rattle.sta_units.specs.Numbers.{limit};
-ghost use Rattle.timing_defs.specs.Rows.{edge_of, edge_time};
+ghost use Rattle.timing_defs.specs.RowTimes.{edge_of};
+ghost use Rattle.timing_rules.specs.Rows.{edge_time};
 ghost use Rattle.pessimism_credit.specs.Credit.{IsTree};
 ghost use Rattle.path_rules.specs.Ranges.{range_of};
 ghost use Rattle.path_search.specs.Slacks.{IsReadyTest};

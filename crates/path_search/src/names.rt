@@ -1,7 +1,7 @@
 //! Names of pins and of their instances.
 
 ghost use Rattle.std.specs.Prelude.{ℕ, List, ◌≡◌, Some, true, IfOk};
-ghost use Rattle.timing_defs.specs.Paths.{owner_named};
+ghost use Rattle.timing_rules.specs.Paths.{owner_named};
 ghost use Rattle.netlist_store.specs.Numbering.{is_number, name_at};
 ghost use Rattle.path_search.specs.Slacks.{ArePinNames};
 

@@ -1,7 +1,7 @@
 //! The graph in front of an end node, as a search with a bound asks for it.
 
 ghost use Rattle.std.specs.Prelude.{◌≡◌, ◌<◌, ◌^◌, true, IfOk};
-ghost use Rattle.timing_defs.specs.Paths.{named};
+ghost use Rattle.timing_rules.specs.Paths.{named};
 ghost use Rattle.timing_defs.specs.Netlist.{Node};
 ghost use Rattle.netlist_store.specs.Numbering.{is_number};
 ghost use Rattle.pin_graph.specs.Nodes.{node_at, node_bound, pin_under};

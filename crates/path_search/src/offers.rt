@@ -2,8 +2,8 @@
 
 ghost use Rattle.std.specs.Prelude.{◌≡◌, ◌++◌, ◌∷◌, ◌<◌, ◌≤◌, ◌^◌, [], ℤ, true, Option, Some, All, length, IfOk, OnOk};
 ghost use Rattle.timing_defs.specs.Netlist.{Node};
-ghost use Rattle.timing_defs.specs.Paths.{named};
-ghost use Rattle.timing_defs.specs.Tests.{data_split};
+ghost use Rattle.timing_rules.specs.Paths.{named};
+ghost use Rattle.timing_defs.specs.Kinds.{data_split};
 ghost use Rattle.netlist_store.specs.Numbering.{is_number};
 ghost use Rattle.pin_graph.specs.Nodes.{node_at, node_bound, pin_under};
 ghost use Rattle.pin_graph.specs.RowTables.{AreRowsFine};

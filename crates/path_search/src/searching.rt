@@ -1,11 +1,11 @@
 //! The worst path to an endpoint, and its slack.
 
 ghost use Rattle.std.specs.Prelude.{◌≡◌, Contains, Some, None, option_map, IfOk};
-ghost use Rattle.timing_defs.specs.Checks.{IsSound};
-ghost use Rattle.timing_defs.specs.Range.{NoOrigin};
-ghost use Rattle.timing_defs.specs.Reports.{endpoints};
+ghost use Rattle.timing_rules.specs.Checks.{IsSound};
+ghost use Rattle.timing_rules.specs.Range.{NoOrigin};
+ghost use Rattle.timing_rules.specs.Reports.{endpoints};
 ghost use Rattle.timing_defs.specs.Netlist.{Node};
-ghost use Rattle.timing_defs.specs.Paths.{named, IsSlack, IsShown};
+ghost use Rattle.timing_rules.specs.Paths.{named, IsSlack, IsShown};
 ghost use Rattle.pin_graph.specs.Nodes.{node_at};
 ghost use Rattle.path_search.specs.NodeSlacks.{IsEitherSlack};
 ghost use Rattle.arc_delays.specs.Delays.{AreDelays};

@@ -2,8 +2,8 @@
 
 ghost use Rattle.std.specs.Prelude.{◌≡◌, ◌<◌, ◌≤◌, ◌*◌, ◌^◌, true, None, All, length, slice_get, unsigned_abs, IfSome};
 ghost use Rattle.sta_units.specs.Numbers.{limit, Within};
-ghost use Rattle.timing_defs.specs.Tests.{uncertainty_on};
-ghost use Rattle.timing_defs.specs.Paths.{moved, slack_by};
+ghost use Rattle.timing_rules.specs.Tests.{uncertainty_on};
+ghost use Rattle.timing_rules.specs.Paths.{moved, slack_by};
 ghost use Rattle.path_rules.specs.Clocks.{IsClock};
 ghost use Rattle.path_rules.specs.Exceptions.{rule_of};
 ghost use Rattle.pessimism_credit.specs.Credit.{IsTree};

@@ -2,7 +2,7 @@
 
 ghost use Rattle.std.specs.Prelude.{◌≡◌, ◌<◌, true, Contains, Some, IfOk};
 ghost use Rattle.sta_units.specs.Numbers.{Within};
-ghost use Rattle.timing_defs.specs.Reports.{endpoints};
+ghost use Rattle.timing_rules.specs.Reports.{endpoints};
 ghost use Rattle.netlist_store.specs.Numbering.{is_number};
 ghost use Rattle.pin_graph.specs.Nodes.{node_bound, pin_under};
 ghost use Rattle.path_search.specs.Counts.{IsCountedAt};

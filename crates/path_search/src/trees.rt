@@ -1,7 +1,7 @@
 //! The clock tree of a design, in which credits are found.
 
 ghost use Rattle.std.specs.Prelude.{◌≡◌, ◌<◌, Some, length, IfOk, IfSome};
-ghost use Rattle.timing_defs.specs.Rows.{time_on, edge_of};
+ghost use Rattle.timing_defs.specs.RowTimes.{time_on, edge_of};
 ghost use Rattle.pin_graph.specs.Nodes.{node_bound};
 ghost use Rattle.pin_graph.specs.Graphs.{place_at};
 ghost use Rattle.pin_graph.specs.RowTables.{AreRows, AreRowsFine};

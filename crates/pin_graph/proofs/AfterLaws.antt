@@ -5,7 +5,7 @@ use Rattle.std.specs.Prelude.{All, slice_index, IsTrue, IfOk, IfSome, nat_eq}
 use Rattle.std.proofs.lemmas.Bool.{true≢false, eqb-true}
 use Rattle.std.proofs.lemmas.List.{take_all, take_more, length-append, length-map}
 use Rattle.std.proofs.lemmas.List.Elements.{All-push, All-contains}
-use Rattle.timing_defs.specs.Cones.{Touch}
+use Rattle.timing_defs.specs.Touches.{Touch}
 use Rattle.levelizer.specs.Levels.{AreLevels}
 use Rattle.levelizer.specs.Reaching.{AreReached}
 use Rattle.netlist_store.specs.Numbering.{Stored}

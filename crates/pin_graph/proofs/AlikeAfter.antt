@@ -21,10 +21,10 @@ use Rattle.timing_defs.specs.declared.library.CellTest.{CellTest}
 use Rattle.timing_defs.specs.declared.netlist.Inst.{Inst}
 use Rattle.timing_defs.specs.declared.design.Design.{Design}
 use Rattle.timing_defs.specs.Netlist.{cell_named, cell_of, is_listed, same_dir, same_tran}
-use Rattle.timing_defs.specs.Clocking.{comb_kind}
-use Rattle.timing_defs.specs.Tests.{same_kind}
-use Rattle.timing_defs.specs.Checks.{net_fault}
-use Rattle.timing_defs.specs.Cones.{Touch}
+use Rattle.timing_defs.specs.Kinds.{comb_kind}
+use Rattle.timing_defs.specs.Kinds.{same_kind}
+use Rattle.timing_defs.specs.NetChecks.{net_fault}
+use Rattle.timing_defs.specs.Touches.{Touch}
 use Rattle.timing_defs.specs.Edits.{inst_named, same_cell_pin, same_arc, same_test}
 use Rattle.netlist_store.specs.Applying.{IsEditOf}
 use Rattle.netlist_store.specs.Linked.{IsLinked}

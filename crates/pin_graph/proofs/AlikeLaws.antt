@@ -15,10 +15,10 @@ use Rattle.timing_defs.specs.declared.netlist.Port.{Port}
 use Rattle.timing_defs.specs.declared.netlist.Inst.{Inst}
 use Rattle.timing_defs.specs.declared.design.Design.{Design}
 use Rattle.timing_defs.specs.Netlist.{Pin, name_of, full_name, port_pin, cell_pin, cell_pins, cell_of, inst_pins, pins, pin_named, net_of, is_on, is_driver, drives_as, driver}
-use Rattle.timing_defs.specs.Clocking.{cell_arcs, cell_tests}
+use Rattle.timing_rules.specs.Clocking.{cell_arcs, cell_tests}
 use Rattle.timing_defs.specs.Edits.{inst_named}
-use Rattle.timing_defs.specs.Rows.{is_input_port}
-use Rattle.timing_defs.specs.Checks.{net_fault}
+use Rattle.timing_rules.specs.Rows.{is_input_port}
+use Rattle.timing_defs.specs.NetChecks.{net_fault}
 use Rattle.netlist_store.specs.Linked.{IsLinked}
 use Rattle.netlist_store.specs.Numbering.{Stored, name_at, number_of, inst_numbered, pin_numbered, is_on_number, AreNumbers, IsNumbered, AreKept}
 use Rattle.netlist_store.proofs.SeenPins.{Seen, seen, seen_owner, seen_on}

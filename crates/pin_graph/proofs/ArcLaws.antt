@@ -14,7 +14,7 @@ use Rattle.timing_defs.specs.declared.library.Cell.{Cell}
 use Rattle.timing_defs.specs.declared.netlist.Inst.{Inst}
 use Rattle.timing_defs.specs.Netlist.{cell_of}
 use Rattle.timing_defs.specs.Edits.{inst_named}
-use Rattle.timing_defs.specs.Clocking.{cell_arcs}
+use Rattle.timing_rules.specs.Clocking.{cell_arcs}
 use Rattle.netlist_store.specs.Numbering.{Stored, name_at, is_number, inst_numbered}
 use Rattle.pin_graph.specs.declared.pin_arcs.PinArc.{PinArc}
 use Rattle.pin_graph.specs.Joins.{numbered_arc, inst_arcs, arcs_of}

@@ -8,9 +8,9 @@ use Rattle.std.proofs.lemmas.List.Elements.{All-contains}
 use Rattle.std.proofs.lemmas.List.Sums.{sum_by-cons}
 use Rattle.timing_defs.specs.declared.kinds.Split.TheVariants.{Late}
 use Rattle.timing_defs.specs.Netlist.{Node, is_driver}
-use Rattle.timing_defs.specs.Clocking.{is_comb}
-use Rattle.timing_defs.specs.Rows.{library_arcs, arcs_in}
-use Rattle.timing_defs.specs.Cones.{has_comb_arc, has_register_arc}
+use Rattle.timing_defs.specs.Kinds.{is_comb}
+use Rattle.timing_rules.specs.Rows.{library_arcs, arcs_in}
+use Rattle.timing_rules.specs.Cones.{has_comb_arc, has_register_arc}
 use Rattle.netlist_store.specs.Linked.{IsLinked}
 use Rattle.netlist_store.specs.Numbering.{Stored, IsNumbered}
 use Rattle.pin_graph.specs.declared.arcs.GraphKind.{GraphKind}

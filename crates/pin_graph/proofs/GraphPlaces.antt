@@ -12,8 +12,8 @@ use Rattle.std.proofs.lemmas.List.Sums.{sum_by-le-sum_by}
 use Rattle.timing_defs.specs.declared.kinds.Tran.{Tran}
 use Rattle.timing_defs.specs.declared.kinds.Tran.TheVariants.{Rise, Fall}
 use Rattle.timing_defs.specs.Netlist.{Pin, Node}
-use Rattle.timing_defs.specs.Clocking.{is_network, is_clock_port}
-use Rattle.timing_defs.specs.Checks.{net_fault}
+use Rattle.timing_rules.specs.Clocking.{is_network, is_clock_port}
+use Rattle.timing_defs.specs.NetChecks.{net_fault}
 use Rattle.netlist_store.specs.Linked.{IsLinked}
 use Rattle.netlist_store.specs.Numbering.{Stored, pin_numbered, IsNumbered}
 use Rattle.levelizer.specs.declared.links.Link.{Link}

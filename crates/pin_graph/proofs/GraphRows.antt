@@ -13,10 +13,10 @@ use Rattle.timing_defs.specs.declared.netlist.Inst.{Inst}
 use Rattle.timing_defs.specs.declared.design.Design.{Design}
 use Rattle.timing_defs.specs.declared.kinds.Tran.TheVariants.{Rise, Fall}
 use Rattle.timing_defs.specs.Netlist.{Pin, Node, name_of, net_of, pins, nodes, both_nodes, inst_pins, is_driver, is_on, driver, same_node, same_pin, same_tran, pin_named}
-use Rattle.timing_defs.specs.Clocking.{is_network, driver_on}
-use Rattle.timing_defs.specs.Required.{arcs_out}
-use Rattle.timing_defs.specs.Rows.{arcs_in, all_arcs_in, cell_arcs_in, library_arcs}
-use Rattle.timing_defs.specs.Cones.{has_register_arc}
+use Rattle.timing_rules.specs.Clocking.{is_network, driver_on}
+use Rattle.timing_rules.specs.Required.{arcs_out}
+use Rattle.timing_rules.specs.Rows.{arcs_in, all_arcs_in, cell_arcs_in, library_arcs}
+use Rattle.timing_rules.specs.Cones.{has_register_arc}
 use Rattle.netlist_store.specs.Linked.{IsLinked}
 use Rattle.netlist_store.specs.Numbering.{IsNumbered}
 use Rattle.levelizer.specs.Levels.{greatest}
@@ -25,7 +25,7 @@ use Rattle.pin_graph.specs.Nodes.{node_number, number_at}
 use Rattle.pin_graph.specs.Graphs.{Graphed, IsGraph, IsArc, fan_at, level_at, kind_between}
 use Rattle.timing_defs.proofs.Members.{some_is, none_in, in_map, in_map_back, in_flat_map, in_flat_map_back, kept_in, passes_in, any_back, found_in}
 use Rattle.store_pins.proofs.PinLaws.{pin_found, pin_told, own_in, own_back, own_pins}
-use Rattle.timing_defs.proofs.RowLaws.{ArePlacedNodes, AreHighNodes}
+use Rattle.timing_rules.proofs.RowLaws.{ArePlacedNodes, AreHighNodes}
 use Rattle.pin_graph.proofs.LevelBound.{level_low}
 use Rattle.pin_graph.proofs.NodeLaws.{HasNode, node_told, node_below, has_node}
 

@@ -16,8 +16,9 @@ use Rattle.timing_defs.specs.declared.netlist.Port.{Port}
 use Rattle.timing_defs.specs.declared.netlist.Inst.{Inst}
 use Rattle.timing_defs.specs.declared.netlist.Conn.{Conn}
 use Rattle.timing_defs.specs.Netlist.{Pin, name_of, port_pin, cell_pin, cell_pins, cell_of, inst_pins, pins, net_of, is_on, is_driver, driver, conn_net, is_listed, same_dir}
-use Rattle.timing_defs.specs.Clocking.{cell_arcs, sinks_on}
-use Rattle.timing_defs.specs.Checks.{net_fault, arc_joins, cell_after, walks_to}
+use Rattle.timing_rules.specs.Clocking.{cell_arcs, sinks_on}
+use Rattle.timing_defs.specs.NetChecks.{net_fault}
+use Rattle.timing_rules.specs.Checks.{arc_joins, cell_after, walks_to}
 use Rattle.netlist_store.specs.Linked.{joins_nets, IsLinked}
 use Rattle.netlist_store.specs.Numbering.{Stored, number_of, inst_numbered, pin_numbered, IsNumbered}
 use Rattle.levelizer.specs.declared.links.Link.{Link}

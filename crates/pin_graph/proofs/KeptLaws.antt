@@ -5,7 +5,8 @@ use Rattle.std.specs.Prelude.{Contains, option_map}
 use Rattle.std.specs.List.{filter_map, flat_map, range_with_len}
 use Rattle.std.specs.Option.{option_map_or}
 use Rattle.timing_defs.specs.Netlist.{name_of, pins}
-use Rattle.timing_defs.specs.Checks.{net_fault, breaks_network, clock_not_tree}
+use Rattle.timing_defs.specs.NetChecks.{net_fault}
+use Rattle.timing_rules.specs.Checks.{breaks_network, clock_not_tree}
 use Rattle.netlist_store.specs.Linked.{IsLinked}
 use Rattle.netlist_store.specs.Numbering.{Stored, IsNumbered}
 use Rattle.levelizer.specs.declared.links.Link.{Link}

@@ -8,8 +8,8 @@ use Rattle.std.proofs.lemmas.Bool.{cases_Bool, false≢true, true≢false, and_p
 use Rattle.std.proofs.lemmas.List.Folds.{list_any-append}
 use Rattle.timing_defs.specs.declared.netlist.Inst.{Inst}
 use Rattle.timing_defs.specs.Netlist.{Pin, pin_named, is_listed, net_of, is_driver}
-use Rattle.timing_defs.specs.Cones.{Touch}
-use Rattle.timing_defs.specs.Rows.{is_input_port}
+use Rattle.timing_defs.specs.Touches.{Touch}
+use Rattle.timing_rules.specs.Rows.{is_input_port}
 use Rattle.netlist_store.specs.Applying.{IsEditOf}
 use Rattle.netlist_store.specs.Linked.{IsLinked}
 use Rattle.netlist_store.specs.Numbering.{Stored, name_at, number_of, is_number, pin_numbered, owner_number, IsNumbered}

@@ -19,7 +19,8 @@ use Rattle.std.proofs.lemmas.List.Sorted.{IsPermutation-append_comm}
 use Rattle.std.proofs.lemmas.Map.Keys.{IsDistinct-head, IsDistinct-tail, IsDistinct-cons, IsDistinct-from_apart, IsDistinct-IsPermutation}
 use Rattle.timing_defs.specs.declared.design.Design.{Design}
 use Rattle.timing_defs.specs.Netlist.{Pin, name_of, pins, pin_named, is_listed, are_distinct}
-use Rattle.timing_defs.specs.Checks.{net_fault, walks_to, leads, leads_along, is_before, is_loop, HasNoLoop}
+use Rattle.timing_defs.specs.NetChecks.{net_fault, is_before}
+use Rattle.timing_rules.specs.Checks.{walks_to, leads, leads_along, is_loop, HasNoLoop}
 use Rattle.netlist_store.specs.Linked.{IsLinked}
 use Rattle.netlist_store.specs.Numbering.{Stored, name_at, number_of, is_number, IsNumbered}
 use Rattle.levelizer.specs.declared.links.Link.{Link}

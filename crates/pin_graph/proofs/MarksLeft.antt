@@ -7,7 +7,7 @@ use Rattle.std.specs.Option.{option_to_list}
 use Rattle.std.proofs.lemmas.Bool.{cases_lt, and_parts, not-true, or_cases, eqb-true, eq-eqb}
 use Rattle.std.proofs.lemmas.List.{get_or_past}
 use Rattle.std.proofs.lemmas.List.Elements.{Contains-append_left, Contains-append_right, Contains-append_cases}
-use Rattle.timing_defs.specs.Cones.{Touch}
+use Rattle.timing_defs.specs.Touches.{Touch}
 use Rattle.netlist_store.specs.Applying.{IsEditOf}
 use Rattle.netlist_store.specs.Linked.{IsLinked}
 use Rattle.netlist_store.specs.Numbering.{Stored, is_number, IsNumbered}

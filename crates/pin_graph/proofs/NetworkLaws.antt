@@ -19,9 +19,11 @@ use Rattle.timing_defs.specs.declared.library.CellTest.{CellTest}
 use Rattle.timing_defs.specs.declared.constraints.Clock.{Clock}
 use Rattle.timing_defs.specs.declared.netlist.Inst.{Inst}
 use Rattle.timing_defs.specs.Netlist.{Pin, name_of, cell_pin, cell_pins, cell_of, inst_pins, pins, full_name, net_of, is_driver, drives_as, driver, same_dir}
-use Rattle.timing_defs.specs.Clocking.{comb_kind, is_comb, cell_arcs, cell_tests, port_has_clock, is_clock_port, clocks_cell, is_clock_pin, driver_on, sinks_on, comb_joins, has_comb, comb_before, comb_after, pins_before, pins_after, from_clock, to_register, is_network}
-use Rattle.timing_defs.specs.Rows.{is_input_port}
-use Rattle.timing_defs.specs.Checks.{net_fault, network_before}
+use Rattle.timing_defs.specs.Kinds.{comb_kind, is_comb}
+use Rattle.timing_rules.specs.Clocking.{cell_arcs, cell_tests, port_has_clock, is_clock_port, clocks_cell, is_clock_pin, driver_on, sinks_on, comb_joins, has_comb, comb_before, comb_after, pins_before, pins_after, from_clock, to_register, is_network}
+use Rattle.timing_rules.specs.Rows.{is_input_port}
+use Rattle.timing_defs.specs.NetChecks.{net_fault}
+use Rattle.timing_rules.specs.Checks.{network_before}
 use Rattle.netlist_store.specs.Linked.{IsLinked}
 use Rattle.netlist_store.specs.Numbering.{Stored, name_at, number_of, inst_numbered, pin_numbered, IsNumbered}
 use Rattle.levelizer.specs.declared.links.Link.{Link}

@@ -19,8 +19,9 @@ use Rattle.timing_defs.specs.declared.library.CellArc.{CellArc}
 use Rattle.timing_defs.specs.declared.netlist.Inst.{Inst}
 use Rattle.timing_defs.specs.declared.design.Design.{Design}
 use Rattle.timing_defs.specs.Netlist.{Pin, Node, name_of, cell_pin, cell_pins, cell_of, inst_pins, both_nodes, net_of, is_driver, driver, same_tran}
-use Rattle.timing_defs.specs.Clocking.{comb_kind, is_comb, cell_arcs, driver_on, is_network}
-use Rattle.timing_defs.specs.Rows.{stands as arc_stands, joins, library_arcs, net_arcs_in, cell_arcs_in, all_arcs_in, arcs_in}
+use Rattle.timing_defs.specs.Kinds.{comb_kind, is_comb}
+use Rattle.timing_rules.specs.Clocking.{cell_arcs, driver_on, is_network}
+use Rattle.timing_rules.specs.Rows.{stands as arc_stands, joins, library_arcs, net_arcs_in, cell_arcs_in, all_arcs_in, arcs_in}
 use Rattle.netlist_store.specs.Linked.{IsLinked}
 use Rattle.netlist_store.specs.Numbering.{Stored, number_of, pin_numbered, IsNumbered}
 use Rattle.levelizer.specs.declared.links.Link.{Link}

@@ -7,8 +7,8 @@ use Rattle.std.specs.Option.{option_map_or}
 use Rattle.std.proofs.lemmas.Bool.{cases_Bool, cases_lt, true≢false, false≢true, and_parts, eqb-true, eq-eqb}
 use Rattle.std.proofs.lemmas.List.Folds.{list_any-append}
 use Rattle.std.proofs.lemmas.List.Elements.{All-contains, Contains-get_or}
-use Rattle.timing_defs.specs.Checks.{net_fault}
-use Rattle.timing_defs.specs.Cones.{Touch}
+use Rattle.timing_defs.specs.NetChecks.{net_fault}
+use Rattle.timing_defs.specs.Touches.{Touch}
 use Rattle.timing_defs.specs.Netlist.{Pin}
 use Rattle.netlist_store.specs.Applying.{IsEditOf}
 use Rattle.netlist_store.specs.Linked.{IsLinked}

@@ -16,7 +16,7 @@ use Rattle.timing_defs.specs.declared.library.CellArc.{CellArc}
 use Rattle.timing_defs.specs.declared.library.CellTest.{CellTest}
 use Rattle.timing_defs.specs.declared.netlist.Inst.{Inst}
 use Rattle.timing_defs.specs.Netlist.{Pin, cell_pin, cell_of, pin_named, net_of, is_driver}
-use Rattle.timing_defs.specs.Clocking.{cell_arcs, cell_tests}
+use Rattle.timing_rules.specs.Clocking.{cell_arcs, cell_tests}
 use Rattle.netlist_store.specs.Linked.{IsLinked}
 use Rattle.netlist_store.specs.Numbering.{Stored, name_at, number_of, is_number, inst_numbered, pin_numbered, owner_number, net_number, is_on_number, IsNumbered}
 use Rattle.pin_graph.specs.declared.pin_arcs.PinArc.{PinArc}

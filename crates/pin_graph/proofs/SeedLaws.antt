@@ -21,11 +21,13 @@ use Rattle.timing_defs.specs.declared.kinds.Tran.{Tran}
 use Rattle.timing_defs.specs.declared.kinds.Tran.TheVariants.{Rise, Fall}
 use Rattle.timing_defs.specs.declared.design.Design.{Design}
 use Rattle.timing_defs.specs.Netlist.{Pin, Node, name_of, same_tran, pin_named, is_driver}
-use Rattle.timing_defs.specs.Clocking.{is_comb, is_network}
-use Rattle.timing_defs.specs.Rows.{library_arcs, arcs_in}
-use Rattle.timing_defs.specs.Paths.{named, node_named, same_named}
-use Rattle.timing_defs.specs.Checks.{net_fault}
-use Rattle.timing_defs.specs.Cones.{Touch, same_truth, same_sort, same_arcs, is_seed, has_comb_arc, has_register_arc}
+use Rattle.timing_defs.specs.Kinds.{is_comb}
+use Rattle.timing_rules.specs.Clocking.{is_network}
+use Rattle.timing_rules.specs.Rows.{library_arcs, arcs_in}
+use Rattle.timing_rules.specs.Paths.{named, node_named, same_named}
+use Rattle.timing_defs.specs.NetChecks.{net_fault}
+use Rattle.timing_defs.specs.Touches.{Touch}
+use Rattle.timing_rules.specs.Cones.{same_truth, same_sort, same_arcs, is_seed, has_comb_arc, has_register_arc}
 use Rattle.netlist_store.specs.Linked.{IsLinked}
 use Rattle.netlist_store.specs.Numbering.{Stored, name_at, number_of, is_number, pin_numbered, IsNumbered, AreKept}
 use Rattle.eco_laws.specs.Kept.{is_touched_pin}

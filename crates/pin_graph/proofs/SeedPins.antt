@@ -16,7 +16,7 @@ use Rattle.timing_defs.specs.declared.library.CellPin.{CellPin}
 use Rattle.timing_defs.specs.declared.netlist.Inst.{Inst}
 use Rattle.timing_defs.specs.Netlist.{Pin, name_of, cell_pin, cell_pins, cell_of, net_of, is_listed}
 use Rattle.timing_defs.specs.Edits.{inst_named}
-use Rattle.timing_defs.specs.Cones.{Touch}
+use Rattle.timing_defs.specs.Touches.{Touch}
 use Rattle.netlist_store.specs.Linked.{IsLinked}
 use Rattle.netlist_store.specs.Numbering.{Stored, name_at, number_of, inst_numbered, pin_numbered, is_on_number, IsNumbered}
 use Rattle.eco_laws.specs.Kept.{is_on_any, is_touched_pin}

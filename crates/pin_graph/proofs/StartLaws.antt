@@ -11,8 +11,8 @@ use Rattle.timing_defs.specs.declared.library.Cell.{Cell}
 use Rattle.timing_defs.specs.declared.netlist.Inst.{Inst}
 use Rattle.timing_defs.specs.Netlist.{Pin, is_driver, cell_of}
 use Rattle.timing_defs.specs.Edits.{inst_named}
-use Rattle.timing_defs.specs.Clocking.{cell_tests}
-use Rattle.timing_defs.specs.Rows.{is_input_port}
+use Rattle.timing_rules.specs.Clocking.{cell_tests}
+use Rattle.timing_rules.specs.Rows.{is_input_port}
 use Rattle.netlist_store.specs.Numbering.{Stored, name_at, number_of, is_number, inst_numbered}
 use Rattle.pin_graph.specs.Joins.{own_number}
 use Rattle.pin_graph.specs.Networks.{inst_tests, tests_of}

@@ -19,8 +19,10 @@ use Rattle.timing_defs.specs.declared.library.Cell.{Cell}
 use Rattle.timing_defs.specs.declared.library.CellArc.{CellArc}
 use Rattle.timing_defs.specs.declared.netlist.Inst.{Inst}
 use Rattle.timing_defs.specs.Netlist.{Pin, name_of, cell_pin, cell_of, inst_pins, pins, net_of, is_driver, driver, same_tran, is_listed, are_distinct}
-use Rattle.timing_defs.specs.Clocking.{is_comb, cell_arcs, port_has_clock, is_clock_port, driver_on, comb_joins, has_comb, comb_before, pins_before, is_network}
-use Rattle.timing_defs.specs.Checks.{net_fault, network_before, keeps, arcs_between, one_sense, enters_well, breaks_network, is_before, least_from, least, clock_not_tree}
+use Rattle.timing_defs.specs.Kinds.{is_comb}
+use Rattle.timing_rules.specs.Clocking.{cell_arcs, port_has_clock, is_clock_port, driver_on, comb_joins, has_comb, comb_before, pins_before, is_network}
+use Rattle.timing_defs.specs.NetChecks.{net_fault, is_before, least_from, least}
+use Rattle.timing_rules.specs.Checks.{network_before, keeps, arcs_between, one_sense, enters_well, breaks_network, clock_not_tree}
 use Rattle.netlist_store.specs.Linked.{IsLinked}
 use Rattle.netlist_store.specs.Numbering.{Stored, name_at, number_of, is_number, IsNumbered}
 use Rattle.pin_graph.specs.declared.pin_arcs.PinArc.{PinArc}

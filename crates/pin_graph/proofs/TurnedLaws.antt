@@ -5,7 +5,8 @@ use Rattle.std.specs.Prelude.{nat_eq, is_some, Contains, ◌&&◌, ◌||◌, if�
 use Rattle.std.specs.List.{list_any, list_all}
 use Rattle.std.specs.Option.{option_map_or}
 use Rattle.std.proofs.lemmas.Bool.{cases_Bool, and_parts, and_from, eqb-true, eq-eqb}
-use Rattle.timing_defs.specs.Cones.{Touch, same_truth}
+use Rattle.timing_defs.specs.Touches.{Touch}
+use Rattle.timing_rules.specs.Cones.{same_truth}
 use Rattle.netlist_store.specs.Applying.{IsEditOf}
 use Rattle.netlist_store.specs.Numbering.{is_number, IsNumbered}
 use Rattle.eco_laws.specs.Kept.{is_touched_pin}

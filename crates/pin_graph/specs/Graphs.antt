@@ -6,10 +6,10 @@ use Rattle.std.specs.List.{list_any, range_with_len}
 use Rattle.std.specs.Option.{option_map_or, unwrap_or}
 use Rattle.timing_defs.specs.declared.design.Design.{Design}
 use Rattle.timing_defs.specs.Netlist.{Node, is_driver}
-use Rattle.timing_defs.specs.Clocking.{is_network, is_clock_port}
-use Rattle.timing_defs.specs.Rows.{arcs_in}
-use Rattle.timing_defs.specs.Checks.{HasNoLoop, clock_not_tree}
-use Rattle.timing_defs.specs.Cones.{has_comb_arc, has_register_arc}
+use Rattle.timing_rules.specs.Clocking.{is_network, is_clock_port}
+use Rattle.timing_rules.specs.Rows.{arcs_in}
+use Rattle.timing_rules.specs.Checks.{HasNoLoop, clock_not_tree}
+use Rattle.timing_rules.specs.Cones.{has_comb_arc, has_register_arc}
 use Rattle.netlist_store.specs.Numbering.{Stored, pin_numbered}
 use Rattle.levelizer.specs.Levels.{greatest}
 use Rattle.pin_graph.specs.declared.arcs.GraphKind.{GraphKind}

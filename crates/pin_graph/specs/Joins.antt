@@ -8,7 +8,7 @@ use Rattle.timing_defs.specs.declared.library.CellArc.{CellArc}
 use Rattle.timing_defs.specs.declared.library.CellPin.{CellPin}
 use Rattle.timing_defs.specs.declared.netlist.Inst.{Inst}
 use Rattle.timing_defs.specs.Netlist.{Pin, full_name, net_of, is_driver, cell_of}
-use Rattle.timing_defs.specs.Clocking.{cell_arcs}
+use Rattle.timing_rules.specs.Clocking.{cell_arcs}
 use Rattle.netlist_store.specs.Numbering.{Stored, number_of, inst_numbered, pin_numbered}
 use Rattle.store_pins.specs.Drivers.{driver_number, driver_at}
 use Rattle.levelizer.specs.declared.links.Link.{Link}

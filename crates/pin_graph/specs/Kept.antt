@@ -3,7 +3,7 @@
 
 use Rattle.std.specs.Prelude.{ℕ, ◌≡◌, ◌<◌, ◌≤◌, nat_eq, Bool, ◌&&◌, ◌||◌, List, [], map, length, slice_index, slice_index_or, Contains, count_by, Option, None, Some, is_some}
 use Rattle.std.specs.List.{list_any, range_with_len}
-use Rattle.timing_defs.specs.Checks.{net_fault}
+use Rattle.timing_defs.specs.NetChecks.{net_fault}
 use Rattle.levelizer.specs.Levels.{AreLevels}
 use Rattle.netlist_store.specs.Numbering.{Stored}
 use Rattle.pin_graph.specs.declared.arcs.GraphArc.{GraphArc}

@@ -8,9 +8,10 @@ use Rattle.timing_defs.specs.declared.kinds.Split.TheVariants.{Late}
 use Rattle.timing_defs.specs.declared.constraints.Clock.{Clock}
 use Rattle.timing_defs.specs.declared.netlist.Inst.{Inst}
 use Rattle.timing_defs.specs.Netlist.{Pin, cell_of, pins}
-use Rattle.timing_defs.specs.Clocking.{comb_kind, cell_tests, is_clock_port, is_network}
-use Rattle.timing_defs.specs.Checks.{network_before}
-use Rattle.timing_defs.specs.Rows.{is_input_port}
+use Rattle.timing_defs.specs.Kinds.{comb_kind}
+use Rattle.timing_rules.specs.Clocking.{cell_tests, is_clock_port, is_network}
+use Rattle.timing_rules.specs.Checks.{network_before}
+use Rattle.timing_rules.specs.Rows.{is_input_port}
 use Rattle.netlist_store.specs.Numbering.{Stored, number_of, inst_numbered, pin_numbered}
 use Rattle.levelizer.specs.declared.links.Link.{Link}
 use Rattle.levelizer.specs.Reaching.{has_mark, AreReached}

@@ -4,7 +4,7 @@ use Rattle.std.specs.Prelude.{ℕ, nat_eq, Bool, false, not, ◌&&◌, ◌==◌,
 use Rattle.std.specs.List.{filter_map, range_with_len}
 use Rattle.std.specs.Option.{option_map_or, option_to_list}
 use Rattle.timing_defs.specs.Netlist.{is_driver}
-use Rattle.timing_defs.specs.Cones.{Touch}
+use Rattle.timing_defs.specs.Touches.{Touch}
 use Rattle.netlist_store.specs.Numbering.{Stored, is_number, pin_numbered, owner_number, net_number}
 use Rattle.pin_graph.specs.declared.pin_arcs.PinArc.{PinArc}
 use Rattle.pin_graph.specs.Joins.{before, arcs_of, pin_arcs}

@@ -1,8 +1,8 @@
 -- The tables of a store that an ECO made of a base, where the ECO left the clock network: what they have of the base's.
 
 use Rattle.std.specs.Prelude.{ℕ, ◌≡◌, ◌<◌, ◌≤◌, Bool, true, false, not, ◌&&◌, ◌||◌, List, All, map, length, slice_index, slice_index_or, None}
-use Rattle.timing_defs.specs.Checks.{net_fault}
-use Rattle.timing_defs.specs.Cones.{Touch}
+use Rattle.timing_defs.specs.NetChecks.{net_fault}
+use Rattle.timing_defs.specs.Touches.{Touch}
 use Rattle.levelizer.specs.Levels.{AreLevels}
 use Rattle.levelizer.specs.Reaching.{AreReached}
 use Rattle.netlist_store.specs.Applying.{IsEditOf}

@@ -9,9 +9,9 @@ use Rattle.timing_defs.specs.declared.faults.Fault.TheVariants.{OutOfRange, Memo
 use Rattle.timing_defs.specs.declared.rows.NodeRow.{NodeRow}
 use Rattle.timing_defs.specs.declared.rows.BackRow.{BackRow}
 use Rattle.timing_defs.specs.Netlist.{Node, nodes, is_listed}
-use Rattle.timing_defs.specs.Rows.{row, empty_row}
-use Rattle.timing_defs.specs.Required.{back_row, empty_back}
-use Rattle.timing_defs.specs.Range.{is_origin, is_net_origin, is_forward_origin, is_back_origin}
+use Rattle.timing_rules.specs.Rows.{row, empty_row}
+use Rattle.timing_rules.specs.Required.{back_row, empty_back}
+use Rattle.timing_rules.specs.Range.{is_origin, is_net_origin, is_forward_origin, is_back_origin}
 use Rattle.netlist_store.specs.Numbering.{Stored}
 use Rattle.pin_graph.specs.Nodes.{node_at, node_bound}
 

@@ -7,7 +7,8 @@ use Rattle.std.specs.List.Sorted.{IsStrictlyIncreasing}
 use Rattle.std.specs.Option.{option_map_or}
 use Rattle.timing_defs.specs.declared.kinds.Tran.TheVariants.{Rise, Fall}
 use Rattle.timing_defs.specs.Netlist.{net_of}
-use Rattle.timing_defs.specs.Cones.{Touch, same_truth, is_seed}
+use Rattle.timing_defs.specs.Touches.{Touch}
+use Rattle.timing_rules.specs.Cones.{same_truth, is_seed}
 use Rattle.netlist_store.specs.Numbering.{Stored, is_number, pin_numbered}
 use Rattle.eco_laws.specs.Kept.{is_on_any, is_touched_pin}
 use Rattle.pin_graph.specs.declared.arcs.GraphArc.{GraphArc}

@@ -1,7 +1,7 @@
 //! The drivers of nets, and the net arcs into pins.
 
 ghost use Rattle.std.specs.Prelude.{◌≡◌, None, IfOk};
-ghost use Rattle.timing_defs.specs.Checks.{net_fault};
+ghost use Rattle.timing_defs.specs.NetChecks.{net_fault};
 ghost use Rattle.pin_graph.specs.Joins.{drivers_of, before, befores};
 
 use netlist_store::Store;

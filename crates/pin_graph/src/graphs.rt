@@ -1,7 +1,8 @@
 //! The timing graph of a design, by nodes.
 
 ghost use Rattle.std.specs.Prelude.{◌≡◌, ◌<◌, None, Some, if◌then◌else◌, IfOk, IfErr, IfSome};
-ghost use Rattle.timing_defs.specs.Checks.{net_fault, clock_not_tree};
+ghost use Rattle.timing_defs.specs.NetChecks.{net_fault};
+ghost use Rattle.timing_rules.specs.Checks.{clock_not_tree};
 ghost use Rattle.netlist_store.specs.Linked.{IsLinked};
 ghost use Rattle.netlist_store.specs.Numbering.{is_number, IsNumbered};
 ghost use Rattle.pin_graph.specs.Refusals.{IsGraphRefused};

@@ -2,10 +2,10 @@
 
 ghost use Rattle.std.specs.Prelude.{◌≡◌, ◌&&◌, ◌||◌, not, nat_eq, None, IsTrue, All};
 ghost use Rattle.std.specs.Cmp.Lexicographic.{pointwise};
-ghost use Rattle.timing_defs.specs.Clocking.{comb_kind};
-ghost use Rattle.timing_defs.specs.Tests.{same_kind};
+ghost use Rattle.timing_defs.specs.Kinds.{comb_kind};
+ghost use Rattle.timing_defs.specs.Kinds.{same_kind};
 ghost use Rattle.timing_defs.specs.Edits.{same_cell_pin, same_arc, same_test};
-ghost use Rattle.timing_defs.specs.Checks.{net_fault};
+ghost use Rattle.timing_defs.specs.NetChecks.{net_fault};
 ghost use Rattle.netlist_store.specs.Applying.{IsEditOf};
 ghost use Rattle.pin_graph.specs.Alike.{same_shape, IsSameInst, IsSameNet};
 ghost use Rattle.pin_graph.specs.Kept.{HaveSameLinks};

@@ -1,7 +1,8 @@
 //! Loops of a design: cyclic walks over the arcs of its nets and cells.
 
 ghost use Rattle.std.specs.Prelude.{◌≡◌, ◌++◌, ◌<◌, ◌≤◌, ℕ, [], None, true, false, All, map, take, drop, length, slice_index_or, if◌then◌else◌, IfOk, IfErr, OnOk};
-ghost use Rattle.timing_defs.specs.Checks.{is_before, is_loop, net_fault, HasNoLoop};
+ghost use Rattle.timing_defs.specs.NetChecks.{is_before, net_fault};
+ghost use Rattle.timing_rules.specs.Checks.{is_loop, HasNoLoop};
 ghost use Rattle.netlist_store.specs.Numbering.{is_number};
 ghost use Rattle.levelizer.specs.Levels.{AreLevels, IsCycle};
 ghost use Rattle.pin_graph.specs.Refusals.{IsGraphRefused};

@@ -3,8 +3,8 @@
 ghost use Rattle.std.specs.Prelude.{◌≡◌, ◌++◌, ◌<◌, ◌&&◌, ℕ, None, true, false, map, length, slice_index_or, IfOk, OnOk};
 ghost use Rattle.std.specs.List.{filter_map};
 ghost use Rattle.std.specs.Option.{option_map_or, option_to_list};
-ghost use Rattle.timing_defs.specs.Checks.{net_fault};
-ghost use Rattle.timing_defs.specs.Rows.{is_input_port};
+ghost use Rattle.timing_defs.specs.NetChecks.{net_fault};
+ghost use Rattle.timing_rules.specs.Rows.{is_input_port};
 ghost use Rattle.netlist_store.specs.Numbering.{is_number, pin_numbered};
 ghost use Rattle.levelizer.specs.Reaching.{AreReached};
 ghost use Rattle.pin_graph.specs.Joins.{own_number, befores, net_links, pin_arcs};

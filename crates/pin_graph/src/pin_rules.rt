@@ -2,7 +2,7 @@
 
 ghost use Rattle.std.specs.Prelude.{◌≡◌, ◌<◌, None, All, length, slice_index};
 ghost use Rattle.std.specs.List.{list_any};
-ghost use Rattle.timing_defs.specs.Checks.{net_fault};
+ghost use Rattle.timing_defs.specs.NetChecks.{net_fault};
 ghost use Rattle.settling.specs.Settled.{AreLow};
 ghost use Rattle.pin_graph.specs.PinValues.{level_over, is_set};
 
@@ -68,7 +68,7 @@ pub(crate) struct PinLevels<'a> {
 
 impl Rule for PinLevels<'_> {
     ghost use Rattle.std.specs.Prelude.{◌≡◌, None, length};
-    ghost use Rattle.timing_defs.specs.Checks.{net_fault};
+    ghost use Rattle.timing_defs.specs.NetChecks.{net_fault};
     ghost use Rattle.pin_graph.specs.Pulls.{pins_behind};
     ghost use Rattle.pin_graph.specs.PinValues.{pin_level};
 
@@ -106,7 +106,7 @@ pub(crate) struct Fed<'a> {
 
 impl Rule for Fed<'_> {
     ghost use Rattle.std.specs.Prelude.{◌≡◌, None, length};
-    ghost use Rattle.timing_defs.specs.Checks.{net_fault};
+    ghost use Rattle.timing_defs.specs.NetChecks.{net_fault};
     ghost use Rattle.pin_graph.specs.Networks.{clock_ports};
     ghost use Rattle.pin_graph.specs.Pulls.{network_heads};
     ghost use Rattle.pin_graph.specs.PinValues.{fed_flag};
@@ -147,7 +147,7 @@ pub(crate) struct Feeds<'a> {
 
 impl Rule for Feeds<'_> {
     ghost use Rattle.std.specs.Prelude.{◌≡◌, None, length};
-    ghost use Rattle.timing_defs.specs.Checks.{net_fault};
+    ghost use Rattle.timing_defs.specs.NetChecks.{net_fault};
     ghost use Rattle.pin_graph.specs.Pulls.{network_tails};
     ghost use Rattle.pin_graph.specs.PinValues.{feeds_flag};
 

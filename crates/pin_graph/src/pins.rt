@@ -1,7 +1,8 @@
 //! The arcs, levels and clock network of a design, pin by pin.
 
 ghost use Rattle.std.specs.Prelude.{◌≡◌, None, map, length, IfOk, IfErr, OnOk};
-ghost use Rattle.timing_defs.specs.Checks.{net_fault, HasNoLoop};
+ghost use Rattle.timing_defs.specs.NetChecks.{net_fault};
+ghost use Rattle.timing_rules.specs.Checks.{HasNoLoop};
 ghost use Rattle.levelizer.specs.Levels.{AreLevels};
 ghost use Rattle.levelizer.specs.Reaching.{AreReached};
 ghost use Rattle.pin_graph.specs.Refusals.{IsGraphRefused};

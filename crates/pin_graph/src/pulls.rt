@@ -3,7 +3,7 @@
 ghost use Rattle.std.specs.Prelude.{◌≡◌, ◌++◌, ◌==◌, ◌∷◌, [], ℕ, None, nat_eq, true, All, map, filter, not, IfOk, OnOk, if◌then◌else◌};
 ghost use Rattle.std.specs.List.{list_any};
 ghost use Rattle.std.specs.Option.{option_to_list};
-ghost use Rattle.timing_defs.specs.Checks.{net_fault};
+ghost use Rattle.timing_defs.specs.NetChecks.{net_fault};
 ghost use Rattle.netlist_store.specs.Numbering.{is_number, owner_number};
 ghost use Rattle.pin_graph.specs.Joins.{before, arcs_of};
 ghost use Rattle.pin_graph.specs.Networks.{is_comb_arc, clock_pins};

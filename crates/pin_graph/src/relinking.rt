@@ -4,7 +4,7 @@ ghost use Rattle.std.specs.Prelude.{◌≡◌, ◌<◌, ◌≤◌, ◌^◌, ◌+
 ghost use Rattle.std.specs.List.{filter_map};
 ghost use Rattle.pin_graph.specs.Nodes.{node_number, node_bound};
 ghost use Rattle.pin_graph.specs.declared.arcs.GraphArc.{GraphArc};
-ghost use Rattle.timing_defs.specs.Checks.{net_fault};
+ghost use Rattle.timing_defs.specs.NetChecks.{net_fault};
 ghost use Rattle.pin_graph.specs.NodeArcs.{none_arc, raw_into, AreJoined};
 ghost use Rattle.pin_graph.specs.Graphs.{fan_at, IsFans};
 ghost use Rattle.pin_graph.specs.HeldFans.{with_list};

@@ -1,7 +1,7 @@
 //! The tables of a graph after an ECO that changed links: those of the base, with what the ECO changed.
 
 ghost use Rattle.std.specs.Prelude.{ℕ, ◌≡◌, ◌<◌, ◌≤◌, not, false, None, All, length, IsTrue, IfOk, IfSome};
-ghost use Rattle.timing_defs.specs.Checks.{net_fault};
+ghost use Rattle.timing_defs.specs.NetChecks.{net_fault};
 ghost use Rattle.netlist_store.specs.Applying.{IsEditOf};
 ghost use Rattle.settling.specs.Settled.{IsSettled};
 ghost use Rattle.pin_graph.specs.HeldFans.{longer};

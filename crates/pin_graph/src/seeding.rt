@@ -4,7 +4,7 @@
 ghost use Rattle.std.specs.Prelude.{◌≡◌, ◌&&◌, ◌||◌, ◌++◌, ◌∷◌, [], ◌<◌, ◌^◌, ℕ, not, nat_eq, true, All, IsTrue, IfOk, OnOk, if◌then◌else◌};
 ghost use Rattle.std.specs.List.{list_any, list_all, filter_map, flat_map, range_with_len};
 ghost use Rattle.std.specs.List.Sorted.{IsStrictlyIncreasing};
-ghost use Rattle.timing_defs.specs.Cones.{same_truth};
+ghost use Rattle.timing_rules.specs.Cones.{same_truth};
 ghost use Rattle.netlist_store.specs.Applying.{IsEditOf};
 ghost use Rattle.netlist_store.specs.Numbering.{is_number};
 ghost use Rattle.pin_graph.specs.Joins.{own_number};

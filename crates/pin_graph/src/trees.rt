@@ -1,7 +1,8 @@
 //! Whether the clock network is a tree: each of its pins is entered from one pin, and with one sense.
 
 ghost use Rattle.std.specs.Prelude.{◌≡◌, ◌<◌, [], None, Some, false, All, length, slice_index_or, if◌then◌else◌, IfOk, IfErr, OnOk};
-ghost use Rattle.timing_defs.specs.Checks.{net_fault, clock_not_tree, HasNoLoop};
+ghost use Rattle.timing_defs.specs.NetChecks.{net_fault};
+ghost use Rattle.timing_rules.specs.Checks.{clock_not_tree, HasNoLoop};
 ghost use Rattle.pin_graph.specs.Refusals.{IsGraphRefused};
 ghost use Rattle.pin_graph.specs.Networks.{IsNetwork};
 ghost use Rattle.pin_graph.specs.Joins.{pin_arcs};

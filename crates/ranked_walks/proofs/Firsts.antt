@@ -2,7 +2,7 @@
 
 use Rattle.std.proofs.Common.{◌≡◌, ℕ, zero, suc, ◌≤◌, Bool, false, List, [], ◌∷◌, ◌++◌, length, arith}
 use Rattle.std.specs.Prelude.{◌≢◌}
-use Rattle.timing_defs.specs.Ranking.{AreFirst}
+use Rattle.timing_defs.specs.Firsts.{AreFirst}
 use Rattle.ranked_walks.specs.Searching.{IsLeft}
 
 -- the best of what is left goes to the end

@@ -5,7 +5,7 @@ use Rattle.std.specs.Prelude.{slice_get, unsigned_abs}
 use Rattle.std.proofs.Math.Numerals.{add-one}
 use Rattle.std.proofs.lemmas.Int.{ints}
 use Rattle.std.proofs.lemmas.Option.{slice_get_within, get_or_from_slice_get}
-use Rattle.timing_defs.specs.Rows.{plus_some}
+use Rattle.timing_defs.specs.RowTimes.{plus_some}
 use Rattle.worst_walks.specs.declared.cones.Launch.{Launch}
 use Rattle.worst_walks.specs.declared.cones.WalkEnd.{WalkEnd}
 use Rattle.worst_walks.specs.declared.cones.Cone.{Cone}

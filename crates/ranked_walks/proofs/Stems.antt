@@ -4,7 +4,7 @@ use Rattle.std.proofs.Common.{◌≡◌, ℕ, ◌+◌, ◌*◌, ◌^◌, ◌<◌
 use Rattle.std.specs.Prelude.{unsigned_abs}
 use Rattle.std.proofs.lemmas.Int.{ints}
 use Rattle.std.proofs.lemmas.Option.{same_Some, cond_some}
-use Rattle.timing_defs.specs.Rows.{plus_some}
+use Rattle.timing_defs.specs.RowTimes.{plus_some}
 use Rattle.worst_walks.specs.declared.cones.Cone.{Cone}
 use Rattle.worst_walks.specs.Walks.{count_of, arcs_into, delay_between, walk_sum, IsCone}
 use Rattle.worst_walks.proofs.Filling.{arcs_there, delay_there}

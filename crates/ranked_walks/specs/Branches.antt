@@ -3,7 +3,7 @@
 
 use Rattle.std.specs.Prelude.{◌≡◌, ℕ, ◌==◌, ℤ, pos, ◌-ℤ◌, Bool, false, List, [], ◌∷◌, ◌++◌, length, take, slice_get, Option, Some, None}
 use Rattle.std.specs.List.{list_any}
-use Rattle.timing_defs.specs.Rows.{plus_some}
+use Rattle.timing_defs.specs.RowTimes.{plus_some}
 use Rattle.worst_walks.specs.declared.cones.Launch.{Launch}
 use Rattle.worst_walks.specs.declared.cones.Cone.{Cone}
 use Rattle.worst_walks.specs.declared.cones.Walk.{Walk}

@@ -2,7 +2,7 @@
 
 use Rattle.std.specs.Prelude.{◌≡◌, ◌≢◌, ℕ, zero, suc, ◌<◌, ◌≤◌, ℤ, ◌+ℤ◌, ⊤, ◌⊎◌, Bool, false, List, [], ◌∷◌, ◌++◌, length, take, drop, slice_get, slice_index, Option, Some, None}
 use Rattle.std.specs.List.{AllByRecursion}
-use Rattle.timing_defs.specs.Ranking.{AreFirst}
+use Rattle.timing_defs.specs.Firsts.{AreFirst}
 use Rattle.worst_walks.specs.declared.cones.Launch.{Launch}
 use Rattle.worst_walks.specs.declared.cones.WalkEnd.{WalkEnd}
 use Rattle.worst_walks.specs.declared.cones.Cone.{Cone}

@@ -1,7 +1,7 @@
 //! The first walks of a cone.
 
 ghost use Rattle.std.specs.Prelude.{◌≡◌, ◌≤◌, [], length, IfOk, OnOk};
-ghost use Rattle.timing_defs.specs.Ranking.{AreFirst};
+ghost use Rattle.timing_defs.specs.Firsts.{AreFirst};
 ghost use Rattle.worst_walks.specs.Walks.{comes_before, IsCone, IsOrdered, IsWalk};
 ghost use Rattle.ranked_walks.specs.Outs.{AreTables};
 

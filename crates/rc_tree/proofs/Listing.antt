@@ -16,7 +16,7 @@ use Rattle.timing_defs.specs.declared.parasitics.NetRc.{NetRc}
 use Rattle.timing_defs.specs.declared.rows.PinCap.{PinCap}
 use Rattle.timing_defs.specs.Wires.{same_rc, is_lumped}
 use Rattle.rc_tree.specs.Trees.{is_node, tree_nodes}
-use Rattle.timing_defs.specs.Checks.{different, named_nodes}
+use Rattle.timing_defs.specs.NetChecks.{different, named_nodes}
 use Rattle.rc_tree.specs.Numbering.{node_at, AreApart, IsNumberOf, IsJoined}
 use Rattle.rc_tree.proofs.Routes.{same_rc_is, same_rc_self}
 

@@ -12,7 +12,7 @@ use Rattle.timing_defs.specs.declared.parasitics.RcRes.{RcRes}
 use Rattle.timing_defs.specs.declared.parasitics.NetRc.{NetRc}
 use Rattle.timing_defs.specs.declared.rows.PinCap.{PinCap}
 use Rattle.timing_defs.specs.Wires.{sum_of, same_rc, res_of, path_between, elmore, second_moment, impulse, not_negative, is_lumped}
-use Rattle.timing_defs.specs.Checks.{has_cycle, named_nodes}
+use Rattle.timing_defs.specs.NetChecks.{has_cycle, named_nodes}
 use Rattle.rc_tree.specs.declared.faults.RcFault.{RcFault}
 use Rattle.rc_tree.specs.declared.faults.RcFault.TheVariants.{Loop, Unreached, TooLarge, OutOfRange, Memory}
 use Rattle.rc_tree.specs.declared.segments.Segment.{Segment}

@@ -9,7 +9,7 @@ use Rattle.timing_defs.specs.declared.parasitics.RcRes.{RcRes}
 use Rattle.timing_defs.specs.declared.parasitics.RcCap.{RcCap}
 use Rattle.timing_defs.specs.declared.parasitics.NetRc.{NetRc}
 use Rattle.timing_defs.specs.Wires.{same_rc, path_between, shared_resistance, elmore, second_moment}
-use Rattle.timing_defs.specs.Checks.{has_cycle, different}
+use Rattle.timing_defs.specs.NetChecks.{has_cycle, different}
 use Rattle.rc_tree.specs.Trees.{is_node}
 use Rattle.rc_tree.specs.Numbering.{AreApart, IsJoined}
 use Rattle.rc_tree.specs.declared.segments.Segment.{Segment}

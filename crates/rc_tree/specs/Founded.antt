@@ -7,7 +7,7 @@ use Rattle.timing_defs.specs.declared.parasitics.RcNode.TheVariants.{Pin as rc_p
 use Rattle.timing_defs.specs.declared.parasitics.NetRc.{NetRc}
 use Rattle.timing_defs.specs.declared.rows.PinCap.{PinCap}
 use Rattle.timing_defs.specs.Wires.{sum_of, res_of}
-use Rattle.timing_defs.specs.Checks.{has_cycle}
+use Rattle.timing_defs.specs.NetChecks.{has_cycle}
 use Rattle.rc_tree.specs.declared.forests.Forest.{Forest}
 use Rattle.rc_tree.specs.declared.wires.Wire.{Wire}
 use Rattle.rc_tree.specs.Trees.{Told, IsMeasured, tree_nodes, total_load}

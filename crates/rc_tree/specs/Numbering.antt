@@ -3,7 +3,7 @@
 use Rattle.std.specs.Prelude.{ℕ, ◌≡◌, ◌<◌, ◌||◌, false, List, ◌++◌, map, length, get_or, Option, MatchOption}
 use Rattle.timing_defs.specs.declared.parasitics.RcNode.{RcNode}
 use Rattle.timing_defs.specs.declared.parasitics.RcNode.TheVariants.{Pin as rc_pin, Inner as rc_inner}
-use Rattle.timing_defs.specs.Checks.{different}
+use Rattle.timing_defs.specs.NetChecks.{different}
 use Rattle.rc_tree.specs.Trees.{is_node}
 use Rattle.rc_tree.specs.declared.nodes.Nodes.{Nodes}
 

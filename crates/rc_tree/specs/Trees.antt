@@ -9,7 +9,7 @@ use Rattle.timing_defs.specs.declared.parasitics.RcCap.{RcCap}
 use Rattle.timing_defs.specs.declared.parasitics.NetRc.{NetRc}
 use Rattle.timing_defs.specs.declared.rows.PinCap.{PinCap}
 use Rattle.timing_defs.specs.Wires.{sum_of, same_rc, res_of, path_between, elmore, impulse, is_lumped}
-use Rattle.timing_defs.specs.Checks.{named_nodes, different, has_cycle}
+use Rattle.timing_defs.specs.NetChecks.{named_nodes, different, has_cycle}
 use Rattle.rc_tree.specs.declared.faults.RcFault.{RcFault}
 use Rattle.rc_tree.specs.declared.faults.RcFault.TheVariants.{Loop, Unreached, TooLarge, OutOfRange, Memory}
 

@@ -5,7 +5,7 @@ ghost use Rattle.std.specs.List.{AllByRecursion, list_all};
 ghost use Rattle.sta_units.specs.Numbers.{is_within};
 ghost use Rattle.timing_defs.specs.declared.parasitics.RcNode.TheVariants.{Pin as rc_pin};
 ghost use Rattle.timing_defs.specs.Wires.{sum_of, res_of};
-ghost use Rattle.timing_defs.specs.Checks.{has_cycle};
+ghost use Rattle.timing_defs.specs.NetChecks.{has_cycle};
 ghost use Rattle.rc_tree.specs.declared.faults.RcFault.TheVariants.{Loop as loop_fault, Unreached as unreached, TooLarge as too_large, OutOfRange as out_of_range, Memory as memory};
 ghost use Rattle.rc_tree.specs.Trees.{IsMeasured, IsTreeOf, IsFaultOf, rc_fault, is_amount, pin_charges, total_load, tree_nodes};
 ghost use Rattle.rc_tree.specs.Numbering.{numbered, node_at, AreApart, IsJoined, IsNumberOf};

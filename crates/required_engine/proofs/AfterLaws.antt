@@ -10,9 +10,12 @@ use Rattle.timing_defs.specs.declared.kinds.Tran.{Tran}
 use Rattle.timing_defs.specs.declared.rows.BackRow.{BackRow}
 use Rattle.timing_defs.specs.declared.design.Design.{Design}
 use Rattle.timing_defs.specs.Netlist.{Node}
-use Rattle.timing_defs.specs.Rows.{arcs_in, outermost, time_on, delay}
-use Rattle.timing_defs.specs.Required.{arcs_out, other_split, back_times, less_some, back_row, empty_back}
-use Rattle.timing_defs.specs.Cones.{has_register_arc}
+use Rattle.timing_rules.specs.Rows.{arcs_in, outermost, delay}
+use Rattle.timing_defs.specs.RowTimes.{time_on}
+use Rattle.timing_rules.specs.Required.{arcs_out, less_some, back_row, empty_back}
+use Rattle.timing_defs.specs.Kinds.{other_split}
+use Rattle.timing_defs.specs.RowTimes.{back_times}
+use Rattle.timing_rules.specs.Cones.{has_register_arc}
 use Rattle.netlist_store.specs.Linked.{IsLinked}
 use Rattle.netlist_store.specs.Numbering.{IsNumbered}
 use Rattle.node_rows.proofs.MergeLaws.{AreMatched, outermost_same}

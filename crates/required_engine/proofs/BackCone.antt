@@ -13,9 +13,10 @@ use Rattle.std.proofs.lemmas.List.FromFn.{length-range_with_len}
 use Rattle.timing_defs.specs.declared.design.Design.{Design}
 use Rattle.timing_defs.specs.declared.rows.BackRow.{BackRow}
 use Rattle.timing_defs.specs.Netlist.{Pin, Node, name_of, pins, nodes}
-use Rattle.timing_defs.specs.Required.{arcs_out, back_row, empty_back}
-use Rattle.timing_defs.specs.Paths.{named, node_named}
-use Rattle.timing_defs.specs.Cones.{Touch, same_back, is_seed, row_differs, back_differs, led_to_before, leads_to_seed, has_changed_clock, is_backward, has_register_arc}
+use Rattle.timing_rules.specs.Required.{arcs_out, back_row, empty_back}
+use Rattle.timing_rules.specs.Paths.{named, node_named}
+use Rattle.timing_defs.specs.Touches.{Touch}
+use Rattle.timing_rules.specs.Cones.{same_back, is_seed, row_differs, back_differs, led_to_before, leads_to_seed, has_changed_clock, is_backward, has_register_arc}
 use Rattle.timing_defs.proofs.SameNames.{same_is}
 use Rattle.timing_defs.proofs.Members.{first_in, later_in, in_map, in_map_back, any_in, any_back, found_passes, number_in}
 use Rattle.netlist_store.specs.Linked.{IsLinked}

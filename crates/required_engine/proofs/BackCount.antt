@@ -10,8 +10,9 @@ use Rattle.std.proofs.lemmas.List.Folds.{list_any_more}
 use Rattle.std.proofs.lemmas.Option.{get_or_from_slice_get}
 use Rattle.timing_defs.specs.declared.rows.BackRow.{BackRow}
 use Rattle.timing_defs.specs.Netlist.{Pin, Node, pin_named}
-use Rattle.timing_defs.specs.Required.{back_row, empty_back}
-use Rattle.timing_defs.specs.Cones.{Touch, is_backward, backward_count}
+use Rattle.timing_rules.specs.Required.{back_row, empty_back}
+use Rattle.timing_defs.specs.Touches.{Touch}
+use Rattle.timing_rules.specs.Cones.{is_backward, backward_count}
 use Rattle.timing_defs.proofs.ListLemmas.{count_by_agree}
 use Rattle.netlist_store.specs.Linked.{IsLinked}
 use Rattle.netlist_store.specs.Numbering.{Stored, IsNumbered, name_at, is_number}

@@ -15,11 +15,15 @@ use Rattle.timing_defs.specs.declared.rows.NodeRow.{NodeRow}
 use Rattle.timing_defs.specs.declared.rows.BackRow.{BackRow}
 use Rattle.timing_defs.specs.declared.design.Design.{Design}
 use Rattle.timing_defs.specs.Netlist.{Pin, Node, name_of, pins, nodes, both_nodes, inst_pins, same_node, same_pin, same_tran, pin_named}
-use Rattle.timing_defs.specs.Rows.{arcs_in, arrival, arrival_of, arrivals_of, time_on, times_in, edge_time, launch_edges, row, step}
-use Rattle.timing_defs.specs.Tests.{data_split, clock_split, tests_at, is_endpoint}
-use Rattle.timing_defs.specs.Required.{arcs_out, kind_of, back_times, required_of, required_times, back_step, back_row, required}
-use Rattle.timing_defs.specs.Range.{within_some, fine_delay, fine_test, required_inputs, fine_required_within, fine_required, is_required_origin, is_need_origin, is_back_origin}
-use Rattle.timing_defs.proofs.RowLaws.{stable, row_is, back_is}
+use Rattle.timing_rules.specs.Rows.{arcs_in, arrival, arrival_of, arrivals_of, edge_time, launch_edges, row, step}
+use Rattle.timing_defs.specs.RowTimes.{time_on, times_in}
+use Rattle.timing_defs.specs.Kinds.{data_split, clock_split}
+use Rattle.timing_rules.specs.Tests.{tests_at, is_endpoint}
+use Rattle.timing_rules.specs.Required.{arcs_out, required_of, required_times, back_step, back_row, required}
+use Rattle.timing_defs.specs.Kinds.{kind_of}
+use Rattle.timing_defs.specs.RowTimes.{back_times}
+use Rattle.timing_rules.specs.Range.{within_some, fine_delay, fine_test, required_inputs, fine_required_within, fine_required, is_required_origin, is_need_origin, is_back_origin}
+use Rattle.timing_rules.proofs.RowLaws.{stable, row_is, back_is}
 use Rattle.netlist_store.specs.Linked.{IsLinked}
 use Rattle.netlist_store.specs.Numbering.{IsNumbered}
 use Rattle.node_rows.specs.Evaluation.{times_on, are_wide_times}

@@ -13,8 +13,9 @@ use Rattle.std.proofs.lemmas.List.Sums.{sum_by-cons}
 use Rattle.std.proofs.lemmas.Option.{slice_get-get_or, get_or_from_slice_get}
 use Rattle.timing_defs.specs.declared.rows.BackRow.{BackRow}
 use Rattle.timing_defs.specs.Netlist.{Node}
-use Rattle.timing_defs.specs.Required.{back_row, empty_back}
-use Rattle.timing_defs.specs.Cones.{Touch, same_back, is_backward}
+use Rattle.timing_rules.specs.Required.{back_row, empty_back}
+use Rattle.timing_defs.specs.Touches.{Touch}
+use Rattle.timing_rules.specs.Cones.{same_back, is_backward}
 use Rattle.timing_defs.proofs.ListLemmas.{list_any_agree}
 use Rattle.netlist_store.specs.Numbering.{IsNumbered}
 use Rattle.netlist_store.specs.Applying.{IsEditOf}

@@ -16,9 +16,9 @@ use Rattle.timing_defs.specs.declared.parasitics.RcNode.TheVariants.{Pin as rc_p
 use Rattle.timing_defs.specs.declared.design.Design.{Design}
 use Rattle.timing_defs.specs.Netlist.{Pin, Node, name_of, pins, net_of, is_on, driver, is_driver}
 use Rattle.timing_defs.specs.Wires.{net_load, load_of, rc_of, charges, elmore, root_node, pin_cap, wire_delay, sum_of, res_of}
-use Rattle.timing_defs.specs.Clocking.{driver_on, is_network}
-use Rattle.timing_defs.specs.Rows.{arcs_in, all_arcs_in, net_arcs_in, net_name}
-use Rattle.timing_defs.specs.Range.{either_split, rc_nodes, wires_within, net_wires_within, is_large_rc, is_loaded}
+use Rattle.timing_rules.specs.Clocking.{driver_on, is_network}
+use Rattle.timing_rules.specs.Rows.{arcs_in, all_arcs_in, net_arcs_in, net_name}
+use Rattle.timing_rules.specs.Range.{either_split, rc_nodes, wires_within, net_wires_within, is_large_rc, is_loaded}
 use Rattle.netlist_store.specs.Linked.{IsLinked}
 use Rattle.netlist_store.specs.Numbering.{Stored}
 use Rattle.timing_defs.proofs.Members.{all_in, found_passes, first_in, none_in, in_cases, in_map, in_map_back, in_filter, kept_in}

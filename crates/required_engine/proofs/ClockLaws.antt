@@ -15,7 +15,7 @@ use Rattle.timing_defs.specs.declared.constraints.Constraints.{Constraints}
 use Rattle.timing_defs.specs.declared.design.Design.{Design}
 use Rattle.timing_defs.specs.Netlist.{are_distinct}
 use Rattle.timing_defs.specs.Documents.{is_clock, are_constraints}
-use Rattle.timing_defs.specs.Tests.{separation, separation_on}
+use Rattle.timing_rules.specs.Tests.{separation, separation_on}
 use Rattle.path_rules.specs.Clocks.{IsClock}
 use Rattle.node_rows.proofs.ConstraintLaws.{fit_of}
 use Rattle.timing_defs.proofs.Members.{all_in}

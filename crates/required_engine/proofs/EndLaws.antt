@@ -22,10 +22,11 @@ use Rattle.timing_defs.specs.declared.faults.Fault.TheVariants.{UnknownCell}
 use Rattle.timing_defs.specs.Lookup.{look}
 use Rattle.timing_defs.specs.Netlist.{Pin, Node, cell_named, cell_of, inst_pins, both_nodes, is_driver, same_tran}
 use Rattle.timing_defs.specs.Wires.{first_some}
-use Rattle.timing_defs.specs.Clocking.{cell_tests, is_network}
-use Rattle.timing_defs.specs.Rows.{slew}
-use Rattle.timing_defs.specs.Tests.{Test, data_split, clock_split, same_kind, network_walk, is_test_of, library_tests, test_along, register_tests, port_tests, tests_at, tests_pin, is_endpoint}
-use Rattle.timing_defs.specs.Range.{fine_slew, is_need_origin, is_need_origin_at}
+use Rattle.timing_rules.specs.Clocking.{cell_tests, is_network}
+use Rattle.timing_rules.specs.Rows.{slew}
+use Rattle.timing_rules.specs.Tests.{Test, network_walk, is_test_of, library_tests, test_along, register_tests, port_tests, tests_at, tests_pin, is_endpoint}
+use Rattle.timing_defs.specs.Kinds.{data_split, clock_split, same_kind}
+use Rattle.timing_rules.specs.Range.{fine_slew, is_need_origin, is_need_origin_at}
 use Rattle.timing_defs.specs.Edits.{link_inst, link_pin, link_net, first_fault, usable_cell, cells_agree, same_set, same_cell_pin, same_arc, same_test}
 use Rattle.netlist_store.specs.Linked.{IsLinked}
 use Rattle.netlist_store.specs.Numbering.{Stored, is_number, pin_numbered, IsNumbered}

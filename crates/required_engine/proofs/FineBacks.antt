@@ -7,10 +7,12 @@ use Rattle.std.specs.List.{list_any}
 use Rattle.timing_defs.specs.declared.kinds.Split.{Split}
 use Rattle.timing_defs.specs.declared.design.Design.{Design}
 use Rattle.timing_defs.specs.Netlist.{Node, pins}
-use Rattle.timing_defs.specs.Rows.{launch_edges}
-use Rattle.timing_defs.specs.Required.{arcs_out, kind_of}
-use Rattle.timing_defs.specs.Range.{is_need_origin, is_required_origin}
-use Rattle.timing_defs.specs.Cones.{Touch, is_backward}
+use Rattle.timing_rules.specs.Rows.{launch_edges}
+use Rattle.timing_rules.specs.Required.{arcs_out}
+use Rattle.timing_defs.specs.Kinds.{kind_of}
+use Rattle.timing_rules.specs.Range.{is_need_origin, is_required_origin}
+use Rattle.timing_defs.specs.Touches.{Touch}
+use Rattle.timing_rules.specs.Cones.{is_backward}
 use Rattle.netlist_store.specs.Linked.{IsLinked}
 use Rattle.netlist_store.specs.Numbering.{IsNumbered}
 use Rattle.netlist_store.specs.Applying.{IsEditOf}

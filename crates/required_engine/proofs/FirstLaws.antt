@@ -16,13 +16,14 @@ use Rattle.timing_defs.specs.declared.library.CellTest.{CellTest}
 use Rattle.timing_defs.specs.declared.netlist.Inst.{Inst}
 use Rattle.timing_defs.specs.declared.design.Design.{Design}
 use Rattle.timing_defs.specs.Netlist.{Pin, Node, name_of, full_name, same_dir, same_tran, cell_of, cell_pin, cell_pins, pins, nodes}
-use Rattle.timing_defs.specs.Clocking.{cell_tests}
-use Rattle.timing_defs.specs.Rows.{arcs_in}
-use Rattle.timing_defs.specs.Required.{arcs_out}
+use Rattle.timing_rules.specs.Clocking.{cell_tests}
+use Rattle.timing_rules.specs.Rows.{arcs_in}
+use Rattle.timing_rules.specs.Required.{arcs_out}
 use Rattle.timing_defs.specs.Lookup.{is_well_formed}
 use Rattle.timing_defs.specs.Documents.{is_cell_test, has_pin, is_pin_of}
-use Rattle.timing_defs.specs.Paths.{named, node_named, same_named}
-use Rattle.timing_defs.specs.Cones.{Touch, is_seed, row_differs, back_differs, led_to_before, leads_to_seed, tests_by, is_tested_by, has_changed_clock, is_backward}
+use Rattle.timing_rules.specs.Paths.{named, node_named, same_named}
+use Rattle.timing_defs.specs.Touches.{Touch}
+use Rattle.timing_rules.specs.Cones.{is_seed, row_differs, back_differs, led_to_before, leads_to_seed, tests_by, is_tested_by, has_changed_clock, is_backward}
 use Rattle.timing_defs.proofs.SameNames.{same_is, same_self}
 use Rattle.timing_defs.proofs.Members.{some_is, none_in, any_in, any_back, all_in, found_in, found_passes}
 use Rattle.timing_defs.specs.Edits.{inst_named}

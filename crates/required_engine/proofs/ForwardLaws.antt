@@ -10,8 +10,8 @@ use Rattle.timing_defs.specs.declared.kinds.Tran.{Tran}
 use Rattle.timing_defs.specs.declared.kinds.Tran.TheVariants.{Rise, Fall}
 use Rattle.timing_defs.specs.declared.design.Design.{Design}
 use Rattle.timing_defs.specs.Netlist.{Pin, Node, pins, nodes, both_nodes, is_driver}
-use Rattle.timing_defs.specs.Rows.{arcs_in, slew, slew_of, arrival_of, launch_edges, row}
-use Rattle.timing_defs.specs.Range.{within_some, looked_within, is_loaded, fine_slew, has_raw_delay, scaled_delay, fine_delay}
+use Rattle.timing_rules.specs.Rows.{arcs_in, slew, slew_of, arrival_of, launch_edges, row}
+use Rattle.timing_rules.specs.Range.{within_some, looked_within, is_loaded, fine_slew, has_raw_delay, scaled_delay, fine_delay}
 use Rattle.netlist_store.specs.Linked.{IsLinked}
 use Rattle.netlist_store.specs.Numbering.{Stored, IsNumbered}
 use Rattle.node_rows.specs.Evaluation.{is_wide_looked, is_wide_scaled, is_wide_in}

@@ -15,7 +15,7 @@ use Rattle.timing_defs.specs.declared.faults.Fault.{Fault}
 use Rattle.timing_defs.specs.declared.faults.Fault.TheVariants as fault
 use Rattle.timing_defs.specs.declared.rows.BackRow.{BackRow}
 use Rattle.timing_defs.specs.Netlist.{Pin, Node, pins, both_nodes}
-use Rattle.timing_defs.specs.Required.{back_row, empty_back}
+use Rattle.timing_rules.specs.Required.{back_row, empty_back}
 use Rattle.netlist_store.specs.Linked.{IsLinked}
 use Rattle.netlist_store.specs.Numbering.{Stored, IsNumbered}
 use Rattle.cow_table.specs.Writes.{put_at, written, first_refused}

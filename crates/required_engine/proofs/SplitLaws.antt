@@ -20,10 +20,13 @@ use Rattle.timing_defs.specs.declared.faults.Fault.{Fault}
 use Rattle.timing_defs.specs.declared.faults.Fault.TheVariants as fault
 use Rattle.timing_defs.specs.declared.faults.Place.TheVariants.{Pin as at_pin}
 use Rattle.timing_defs.specs.Netlist.{Pin, Node, name_of, nodes}
-use Rattle.timing_defs.specs.Rows.{outermost, time_on, times_in, launch_edges, delay, row, empty_row}
-use Rattle.timing_defs.specs.Tests.{Test, tests_at, is_endpoint}
-use Rattle.timing_defs.specs.Required.{arcs_out, kind_of, other_split, limit_of, back_times, less_some, required_of, back_row, empty_back}
-use Rattle.timing_defs.specs.Range.{fine_required, required_inputs, is_required_origin, is_need_origin, is_back_origin, is_forward_origin, is_node_origin, is_origin}
+use Rattle.timing_rules.specs.Rows.{outermost, launch_edges, delay, row, empty_row}
+use Rattle.timing_defs.specs.RowTimes.{time_on, times_in}
+use Rattle.timing_rules.specs.Tests.{Test, tests_at, is_endpoint}
+use Rattle.timing_rules.specs.Required.{arcs_out, limit_of, less_some, required_of, back_row, empty_back}
+use Rattle.timing_defs.specs.Kinds.{kind_of, other_split}
+use Rattle.timing_defs.specs.RowTimes.{back_times}
+use Rattle.timing_rules.specs.Range.{fine_required, required_inputs, is_required_origin, is_need_origin, is_back_origin, is_forward_origin, is_node_origin, is_origin}
 use Rattle.netlist_store.specs.Linked.{IsLinked}
 use Rattle.netlist_store.specs.Numbering.{Stored, name_at, pin_numbered, is_number, IsNumbered}
 use Rattle.arc_delays.specs.Delays.{AreDelays}

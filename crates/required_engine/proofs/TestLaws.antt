@@ -14,11 +14,12 @@ use Rattle.timing_defs.specs.declared.netlist.Inst.{Inst}
 use Rattle.timing_defs.specs.declared.constraints.PortDelay.{PortDelay}
 use Rattle.timing_defs.specs.declared.design.Design.{Design}
 use Rattle.timing_defs.specs.Netlist.{Node, nodes, both_nodes, inst_pins, is_driver, same_split, same_tran}
-use Rattle.timing_defs.specs.Clocking.{is_network}
-use Rattle.timing_defs.specs.Rows.{launch_edges, outermost, outer_some, arrival, is_clock_at}
-use Rattle.timing_defs.specs.Range.{fine_slew, fine_arrival, need_within, is_need_origin_at, is_need_origin, fine_test}
-use Rattle.timing_defs.specs.Required.{limit_of}
-use Rattle.timing_defs.specs.Tests.{Test, data_split, clock_split, network_walk, walk_within, first_edge, library_tests, need_at, test_on, test_along, register_tests, output_test, port_tests, tests_at, separation_on, uncertainty_on}
+use Rattle.timing_rules.specs.Clocking.{is_network}
+use Rattle.timing_rules.specs.Rows.{launch_edges, outermost, outer_some, arrival, is_clock_at}
+use Rattle.timing_rules.specs.Range.{fine_slew, fine_arrival, need_within, is_need_origin_at, is_need_origin, fine_test}
+use Rattle.timing_rules.specs.Required.{limit_of}
+use Rattle.timing_rules.specs.Tests.{Test, network_walk, walk_within, first_edge, library_tests, need_at, test_on, test_along, register_tests, output_test, port_tests, tests_at, separation_on, uncertainty_on}
+use Rattle.timing_defs.specs.Kinds.{data_split, clock_split}
 use Rattle.std.specs.Str.{bytes_eq}
 use Rattle.netlist_store.specs.Numbering.{Stored}
 use Rattle.node_tests.specs.declared.node_test.NodeTest.{NodeTest}

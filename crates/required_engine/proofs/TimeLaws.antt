@@ -11,9 +11,9 @@ use Rattle.sta_units.specs.Numbers.{is_within}
 use Rattle.timing_defs.specs.declared.kinds.Tran.{Tran}
 use Rattle.timing_defs.specs.declared.kinds.Tran.TheVariants.{Rise}
 use Rattle.timing_defs.specs.declared.edge_times.EdgeTime.{EdgeTime}
-use Rattle.timing_defs.specs.Rows.{edge_time}
-use Rattle.timing_defs.specs.Range.{within_some}
-use Rattle.timing_defs.proofs.RowLaws.{first_in, later_in}
+use Rattle.timing_rules.specs.Rows.{edge_time}
+use Rattle.timing_rules.specs.Range.{within_some}
+use Rattle.timing_rules.proofs.RowLaws.{first_in, later_in}
 use Rattle.node_rows.specs.Evaluation.{times_on, are_wide_times}
 use Rattle.timing_defs.proofs.Members.{in_map, any_in}
 use Rattle.required_engine.specs.declared.unfit.Unfit.{Unfit}

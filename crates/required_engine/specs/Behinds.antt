@@ -8,9 +8,12 @@ use Rattle.timing_defs.specs.declared.kinds.Kind.{Kind}
 use Rattle.timing_defs.specs.declared.kinds.Kind.TheVariants.{Setup, Hold}
 use Rattle.timing_defs.specs.declared.edge_times.EdgeTime.{EdgeTime}
 use Rattle.timing_defs.specs.declared.design.Design.{Design}
-use Rattle.timing_defs.specs.Rows.{outermost, time_on}
-use Rattle.timing_defs.specs.Tests.{separation_on, uncertainty_on}
-use Rattle.timing_defs.specs.Required.{kind_of, other_split, back_times, less_some}
+use Rattle.timing_rules.specs.Rows.{outermost}
+use Rattle.timing_defs.specs.RowTimes.{time_on}
+use Rattle.timing_rules.specs.Tests.{separation_on, uncertainty_on}
+use Rattle.timing_defs.specs.Kinds.{kind_of, other_split}
+use Rattle.timing_defs.specs.RowTimes.{back_times}
+use Rattle.timing_rules.specs.Required.{less_some}
 use Rattle.node_tests.specs.declared.node_test.NodeTest.{NodeTest}
 use Rattle.pin_graph.specs.declared.arcs.GraphArc.{GraphArc}
 use Rattle.arc_delays.specs.Delays.{delay_told}

@@ -11,9 +11,10 @@ use Rattle.timing_defs.specs.declared.kinds.Tran.{Tran}
 use Rattle.timing_defs.specs.declared.library.CellTest.{CellTest}
 use Rattle.timing_defs.specs.declared.netlist.Inst.{Inst}
 use Rattle.timing_defs.specs.Netlist.{Node, full_name, cell_of}
-use Rattle.timing_defs.specs.Clocking.{cell_tests}
-use Rattle.timing_defs.specs.Required.{empty_back}
-use Rattle.timing_defs.specs.Cones.{Touch, same_back, is_seed, row_differs, leads_to_seed, has_changed_clock, is_backward}
+use Rattle.timing_rules.specs.Clocking.{cell_tests}
+use Rattle.timing_rules.specs.Required.{empty_back}
+use Rattle.timing_defs.specs.Touches.{Touch}
+use Rattle.timing_rules.specs.Cones.{same_back, is_seed, row_differs, leads_to_seed, has_changed_clock, is_backward}
 use Rattle.netlist_store.specs.declared.touched.Touched.{Touched}
 use Rattle.netlist_store.specs.Numbering.{Stored, is_number, inst_numbered, owner_number, IsNumbered}
 use Rattle.pin_graph.specs.declared.arcs.GraphArc.{GraphArc}

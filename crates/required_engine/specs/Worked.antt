@@ -15,10 +15,10 @@ use Rattle.timing_defs.specs.declared.faults.Fault.{Fault}
 use Rattle.timing_defs.specs.declared.faults.Fault.TheVariants.{OutOfRange, Memory as no_room}
 use Rattle.timing_defs.specs.declared.faults.Place.TheVariants.{Pin as at_pin}
 use Rattle.timing_defs.specs.Netlist.{Node}
-use Rattle.timing_defs.specs.Rows.{launch_edges}
-use Rattle.timing_defs.specs.Tests.{is_endpoint}
-use Rattle.timing_defs.specs.Required.{empty_back}
-use Rattle.timing_defs.specs.Range.{is_origin, fine_required, is_required_origin, is_back_origin}
+use Rattle.timing_rules.specs.Rows.{launch_edges}
+use Rattle.timing_rules.specs.Tests.{is_endpoint}
+use Rattle.timing_rules.specs.Required.{empty_back}
+use Rattle.timing_rules.specs.Range.{is_origin, fine_required, is_required_origin, is_back_origin}
 use Rattle.netlist_store.specs.Numbering.{Stored, name_at, is_number, pin_numbered}
 use Rattle.pin_graph.specs.declared.arcs.GraphArc.{GraphArc}
 use Rattle.pin_graph.specs.Nodes.{node_at, node_bound, pin_under}

@@ -1,7 +1,7 @@
 //! The required times that the arcs out of a node give.
 
 ghost use Rattle.std.specs.Prelude.{◌≡◌, All};
-ghost use Rattle.timing_defs.specs.Required.{less_some};
+ghost use Rattle.timing_rules.specs.Required.{less_some};
 ghost use Rattle.required_engine.specs.Behinds.{IsTabled, over_arc, over_arcs};
 
 use crate::limits::{difference, outer_some, wide};

@@ -2,9 +2,9 @@
 
 ghost use Rattle.std.specs.Prelude.{◌≡◌, Some, ◌+◌, ◌≤◌, ◌^◌, ◌+ℤ◌, ◌-ℤ◌, unsigned_abs, slice_get};
 ghost use Rattle.std.specs.Option.{option_copied};
-ghost use Rattle.timing_defs.specs.Required.{kind_of, other_split};
-ghost use Rattle.timing_defs.specs.Rows.{outer, outer_some};
-ghost use Rattle.timing_defs.specs.Tests.{separation_on, uncertainty_on};
+ghost use Rattle.timing_defs.specs.Kinds.{kind_of, other_split};
+ghost use Rattle.timing_rules.specs.Rows.{outer, outer_some};
+ghost use Rattle.timing_rules.specs.Tests.{separation_on, uncertainty_on};
 ghost use Rattle.required_engine.specs.Behinds.{told_limit, over_tests};
 
 use netlist_store::Store;

@@ -1,8 +1,10 @@
 //! The evaluation of one node.
 
 ghost use Rattle.std.specs.Prelude.{ℕ, List, Bool, ◌≡◌, ◌+◌, ◌<◌, ◌||◌, true, false, Some, IfOk, IfErr, OnOk};
-ghost use Rattle.timing_defs.specs.Checks.{IsSound};
-ghost use Rattle.timing_defs.specs.Required.{kind_of, back_times, empty_back};
+ghost use Rattle.timing_rules.specs.Checks.{IsSound};
+ghost use Rattle.timing_defs.specs.Kinds.{kind_of};
+ghost use Rattle.timing_defs.specs.RowTimes.{back_times};
+ghost use Rattle.timing_rules.specs.Required.{empty_back};
 ghost use Rattle.netlist_store.specs.Numbering.{is_number, name_at};
 ghost use Rattle.node_rows.specs.Evaluation.{IsPlaced};
 ghost use Rattle.node_tests.specs.NodeTests.{AreTests, tests_numbered, is_wide_numbered};

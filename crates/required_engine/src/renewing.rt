@@ -2,7 +2,7 @@
 
 ghost use Rattle.std.specs.Prelude.{ℕ, ◌≡◌, ◌+◌, ◌<◌, ◌≤◌, ◌||◌, ◌&&◌, not, All, map, length, IfErr, OnOk};
 ghost use Rattle.std.specs.Cmp.Lexicographic.{pointwise};
-ghost use Rattle.timing_defs.specs.Cones.{same_time, same_back};
+ghost use Rattle.timing_rules.specs.Cones.{same_time, same_back};
 ghost use Rattle.netlist_store.specs.Applying.{IsEditOf};
 ghost use Rattle.level_workers.specs.Mapped.{IsMap};
 ghost use Rattle.level_cone.specs.Cone.{affected_count, put_all, stands_in};

@@ -1,7 +1,7 @@
 //! The required times of all nodes.
 
 ghost use Rattle.std.specs.Prelude.{ℕ, ◌≡◌, ◌<◌, ◌≤◌, Some, length, slice_get, slice_set, IfOk, IfErr, OnOk, OnErr};
-ghost use Rattle.timing_defs.specs.Checks.{IsSound};
+ghost use Rattle.timing_rules.specs.Checks.{IsSound};
 ghost use Rattle.pin_graph.specs.RowTables.{AreRows, AreRowsFine, AreBackRows, AreBacksFine, IsRangeFault};
 ghost use Rattle.arc_delays.specs.Delays.{AreDelays};
 ghost use Rattle.required_engine.specs.Worked.{sized_rows, AreBacksWithin};

@@ -3,8 +3,8 @@
 ghost use Rattle.std.specs.Prelude.{◌≡◌, ◌++◌, true, false, not, map, option_map, IfOk, IfErr, OnOk};
 ghost use Rattle.std.specs.Option.{option_to_list};
 ghost use Rattle.sta_units.specs.Numbers.{is_within};
-ghost use Rattle.timing_defs.specs.Rows.{edge_time};
-ghost use Rattle.timing_defs.specs.Range.{within_some};
+ghost use Rattle.timing_rules.specs.Rows.{edge_time};
+ghost use Rattle.timing_rules.specs.Range.{within_some};
 ghost use Rattle.node_rows.specs.Evaluation.{times_on, are_wide_times};
 ghost use Rattle.required_engine.specs.Behinds.{AreTabled, over_behind, edge_of};
 ghost use Rattle.required_engine.specs.Worked.{IsUnfit};

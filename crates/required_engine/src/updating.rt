@@ -1,9 +1,9 @@
 //! Required times of an edited store over those of its base.
 
 ghost use Rattle.std.specs.Prelude.{ℕ, ◌≡◌, ◌==◌, ◌+◌, ◌*◌, ◌<◌, ◌≤◌, if◌then◌else◌, length, IfOk, IfErr, OnOk};
-ghost use Rattle.timing_defs.specs.Checks.{IsSound};
-ghost use Rattle.timing_defs.specs.Required.{empty_back};
-ghost use Rattle.timing_defs.specs.Cones.{row_differs, backward_count};
+ghost use Rattle.timing_rules.specs.Checks.{IsSound};
+ghost use Rattle.timing_rules.specs.Required.{empty_back};
+ghost use Rattle.timing_rules.specs.Cones.{row_differs, backward_count};
 ghost use Rattle.netlist_store.specs.Applying.{IsEditOf};
 ghost use Rattle.pin_graph.specs.Nodes.{node_bound, pin_under};
 ghost use Rattle.pin_graph.specs.Seeds.{AreSeeds};

@@ -18,7 +18,7 @@ use Rattle.timing_defs.specs.declared.scripts.Command.TheVariants.{Take, Await, 
 use Rattle.timing_defs.specs.declared.scripts.Script.{Script}
 use Rattle.timing_defs.specs.declared.kinds.Kind.{Kind}
 use Rattle.timing_defs.specs.Documents.{is_edit, is_eco, is_count, is_trial, is_question}
-use Rattle.timing_defs.specs.Reports.{is_plain}
+use Rattle.timing_defs.specs.Documents.{is_plain}
 use Rattle.sta_text.specs.declared.faults.Wrong.{Wrong}
 use Rattle.sta_text.specs.Faults.{least_from}
 use Rattle.sta_text.proofs.FaultsLemmas.{least_none}

@@ -2,7 +2,7 @@
 use Rattle.std.specs.Prelude.{Bool, true, ◌&&◌, length}
 use Rattle.std.specs.List.{list_all}
 use Rattle.timing_defs.specs.Documents.{is_eco, is_count, is_trial}
-use Rattle.timing_defs.specs.Reports.{is_plain}
+use Rattle.timing_defs.specs.Documents.{is_plain}
 use Rattle.timing_defs.specs.Trials.{trials_in}
 use Rattle.timing_defs.specs.declared.reports.Query.{Query}
 use Rattle.timing_defs.specs.declared.reports.Query.TheVariants.{Through, Paths, WhatIf', Advise}

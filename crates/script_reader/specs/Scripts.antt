@@ -11,7 +11,7 @@ use Rattle.timing_defs.specs.declared.reports.Trial.TheVariants.{Try, Drop, Ask 
 use Rattle.timing_defs.specs.declared.scripts.Command.{Command}
 use Rattle.timing_defs.specs.declared.scripts.Command.TheVariants.{Take, Await, Ask, Change}
 use Rattle.timing_defs.specs.declared.scripts.Script.{Script}
-use Rattle.timing_defs.specs.Reports.{is_plain}
+use Rattle.timing_defs.specs.Documents.{is_plain}
 use Rattle.sta_text.specs.Bytes.{begins}
 use Rattle.sta_text.specs.declared.faults.Wrong.{Wrong}
 use Rattle.sta_text.specs.Faults.{least_from, told_fault}

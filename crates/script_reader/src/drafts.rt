@@ -1,7 +1,7 @@
 //! The trials of a draft, line by line.
 
 ghost use Rattle.std.specs.Prelude.{◌≡◌, ◌++◌, ◌∷◌, [], List, true, length, IfOk};
-ghost use Rattle.timing_defs.specs.Reports.{is_plain};
+ghost use Rattle.timing_defs.specs.Documents.{is_plain};
 ghost use Rattle.timing_defs.specs.declared.scripts.Command.TheVariants.{Ask};
 ghost use Rattle.script_reader.specs.Scripts.{Event, single, change, group_begin, group_end, draft_end, drafted, trial};
 ghost use Rattle.script_reader.specs.Progress.{said_events, in_draft, in_draft_group, behind_progress, behind_limit, whole};

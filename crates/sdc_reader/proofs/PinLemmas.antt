@@ -4,7 +4,7 @@ use Rattle.std.specs.List.{list_any, list_all}
 use Rattle.std.proofs.lemmas.Bool.{cases_Bool, and_parts}
 use Rattle.std.proofs.lemmas.List.Folds.{list_any_at}
 use Rattle.timing_defs.specs.Names.{is_graphic, is_name}
-use Rattle.timing_defs.specs.Rules.{is_split, as_pin}
+use Rattle.timing_defs.specs.Names.{is_split, as_pin}
 use Rattle.sdc_reader.specs.Words.{IsLastSplit}
 
 -- no mark at all

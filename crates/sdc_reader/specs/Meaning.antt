@@ -5,7 +5,7 @@ use Rattle.std.specs.List.{list_any}
 use Rattle.std.specs.Option.{option_map_or, option_or, unwrap_or}
 use Rattle.std.specs.Str.{bytes_eq}
 use Rattle.sta_units.specs.declared.units.Fs.{Fs}
-use Rattle.timing_defs.specs.Rules.{as_pin}
+use Rattle.timing_defs.specs.Names.{as_pin}
 use Rattle.timing_defs.specs.declared.library.Units.{Units}
 use Rattle.timing_defs.specs.declared.constraints.Clock.{Clock}
 use Rattle.timing_defs.specs.declared.constraints.Object.{Object}

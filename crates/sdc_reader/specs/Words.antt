@@ -5,7 +5,7 @@ use Rattle.std.specs.List.{list_any, starts_with}
 use Rattle.std.specs.Option.{option_map_or}
 use Rattle.std.specs.Str.{bytes_eq}
 use Rattle.timing_defs.specs.Names.{is_name}
-use Rattle.timing_defs.specs.Rules.{is_split}
+use Rattle.timing_defs.specs.Names.{is_split}
 use Rattle.timing_defs.specs.declared.texts.Sort.{Sort}
 use Rattle.timing_defs.specs.declared.texts.Sort.TheVariants.{Word, Mark, LineEnd}
 use Rattle.sta_text.specs.Bytes.{begins}

@@ -2,7 +2,7 @@
 
 ghost use Rattle.std.specs.Prelude.{◌≡◌, [], ◌∷◌, ◌++◌, IfOk, OnOk, MatchOption, Some, None};
 ghost use Rattle.timing_defs.specs.Names.{is_name};
-ghost use Rattle.timing_defs.specs.Rules.{as_pin};
+ghost use Rattle.timing_defs.specs.Names.{as_pin};
 ghost use Rattle.sdc_reader.specs.declared.draft.Figure.TheVariants as figures;
 ghost use Rattle.sdc_reader.specs.Meaning.{no_flags, no_wave, empty_draft, with_flag, with_number, with_objects, object_of, added, with_object, named, first, clock_name};
 

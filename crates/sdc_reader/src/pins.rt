@@ -1,7 +1,7 @@
 //! The names of pins.
 
 ghost use Rattle.std.specs.Prelude.{◌≡◌, ◌≤◌, ◌<◌, length, slice_set, IfOk};
-ghost use Rattle.timing_defs.specs.Rules.{is_split, as_pin};
+ghost use Rattle.timing_defs.specs.Names.{is_split, as_pin};
 ghost use Rattle.sdc_reader.specs.Words.{IsLastSplit};
 
 use crate::words::is_split;

@@ -4,7 +4,7 @@ ghost use Rattle.std.specs.Prelude.{◌≡◌, true, IfOk};
 ghost use Rattle.std.specs.List.{list_any};
 ghost use Rattle.sta_text.specs.Tokens.{tok_of, is_bad};
 ghost use Rattle.timing_defs.specs.Names.{is_name};
-ghost use Rattle.timing_defs.specs.Rules.{is_split};
+ghost use Rattle.timing_defs.specs.Names.{is_split};
 ghost use Rattle.sdc_reader.specs.Words.{is_word_sort, is_mark_sort, is_line_end_sort, is_word, is_mark, ends_command, is_text, is_variable, begins_number, is_option, is_wild_byte, is_wild, ends_split, is_pin, gets_objects};
 
 use sta_text::{Token, begins};

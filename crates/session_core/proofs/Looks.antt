@@ -5,7 +5,7 @@ use Rattle.std.specs.List.{list_all}
 use Rattle.std.proofs.lemmas.Bool.{and_parts}
 use Rattle.std.proofs.lemmas.Option.{none-some, same_Some}
 use Rattle.std.proofs.lemmas.List.{length-drop}
-use Rattle.timing_defs.specs.Sessions.{Looks}
+use Rattle.timing_rules.specs.Sessions.{Looks}
 use Rattle.session_core.specs.Machine.{last_of}
 
 -- the looks never fall, from the number before to the newest, and the last is held; without one the number before is held, once a row stands there

@@ -8,7 +8,7 @@ use Rattle.std.proofs.lemmas.List.Elements.{filter-append}
 use Rattle.std.proofs.lemmas.Option.{none-some, same_Some}
 use Rattle.timing_defs.specs.declared.edits.Entry.{Entry}
 use Rattle.timing_defs.specs.declared.scripts.Command.{Command}
-use Rattle.timing_defs.specs.Sessions.{Mark, Suits, OrderedFrom, ecos_of}
+use Rattle.timing_rules.specs.Sessions.{Mark, Suits, OrderedFrom, ecos_of}
 use Rattle.session_core.specs.declared.rows.CoreRow.{CoreRow}
 use Rattle.session_core.specs.Law.{accepted_by, accepted_of}
 

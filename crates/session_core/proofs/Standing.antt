@@ -10,7 +10,7 @@ use Rattle.timing_defs.specs.declared.edits.Entry.{Entry}
 use Rattle.timing_defs.specs.declared.scripts.Command.{Command}
 use Rattle.timing_defs.specs.declared.scripts.Command.TheVariants.{Take as take_command, Await, Ask, Change}
 use Rattle.timing_defs.specs.declared.scripts.Script.{Script}
-use Rattle.timing_defs.specs.Sessions.{Mark, Suits, Ordered, ecos_of}
+use Rattle.timing_rules.specs.Sessions.{Mark, Suits, Ordered, ecos_of}
 use Rattle.session_core.specs.declared.rows.CoreRow.{CoreRow}
 use Rattle.session_core.specs.declared.rows.CoreDraft.{CoreDraft}
 use Rattle.session_core.specs.declared.rows.CoreSession.{CoreSession}
@@ -19,7 +19,7 @@ use Rattle.session_core.specs.declared.rows.RowSort.TheVariants.{Taken, Reached,
 use Rattle.session_core.specs.Machine.{next_command, with_look, draft_on, with_row, after_take, published_eco, after_publish, last_of, await_answer, after_answer, may_end, is_runnable, unstarted}
 use Rattle.session_core.specs.Law.{sort_of_row, mark_of_row, accepted_by, accepted_of, IsLawful}
 use Rattle.session_core.proofs.Places.{all_at, get_end}
-use Rattle.timing_defs.proofs.LongerJournals.{ordered_longer}
+use Rattle.timing_rules.proofs.LongerJournals.{ordered_longer}
 use Rattle.session_core.proofs.Ordering.{last_number, has_row, last_number-push, has_row-push, ordered_push, accepted_of-push, ecos_of-own, ecos_of-other, accepted_none}
 use Rattle.session_core.proofs.Looks.{Seen, seen_push, seen_more, seen_within, seen_held, seen_some, last_short, length-last_of}
 

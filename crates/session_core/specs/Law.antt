@@ -7,7 +7,7 @@ use Rattle.timing_defs.specs.declared.edits.Entry.{Entry}
 use Rattle.timing_defs.specs.declared.scripts.Command.{Command}
 use Rattle.timing_defs.specs.declared.scripts.Command.TheVariants.{Change}
 use Rattle.timing_defs.specs.declared.scripts.Script.{Script}
-use Rattle.timing_defs.specs.Sessions.{Sort, taken, reached, not_yet, accepted, refused, asked, Mark, Ordered, ecos_of}
+use Rattle.timing_rules.specs.Sessions.{Sort, taken, reached, not_yet, accepted, refused, asked, Mark, Ordered, ecos_of}
 use Rattle.session_core.specs.declared.events.Event.{Event}
 use Rattle.session_core.specs.declared.rows.CoreRow.{CoreRow}
 use Rattle.session_core.specs.declared.rows.CoreSession.{CoreSession}

@@ -6,9 +6,9 @@ use Rattle.std.specs.List.{slice_get, list_all}
 use Rattle.std.proofs.lemmas.Bool.{and_parts}
 use Rattle.timing_defs.specs.declared.design.Design.{Design}
 use Rattle.timing_defs.specs.declared.edits.Entry.{Entry}
-use Rattle.timing_defs.specs.Checks.{Accepts}
-use Rattle.timing_defs.specs.Sessions.{DesignAfter}
-use Rattle.timing_defs.proofs.LongerJournals.{after_longer}
+use Rattle.timing_rules.specs.Checks.{Accepts}
+use Rattle.timing_rules.specs.Sessions.{DesignAfter}
+use Rattle.timing_rules.proofs.LongerJournals.{after_longer}
 
 module _ {X : Type 0} where
   get_end : (xs : List X) (x : X) → slice_get (xs ++ x ∷ []) (length xs) ≡ Some x

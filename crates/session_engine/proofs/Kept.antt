@@ -8,8 +8,8 @@ use Rattle.timing_defs.specs.declared.scripts.Command.{Command}
 use Rattle.timing_defs.specs.declared.scripts.Script.{Script}
 use Rattle.timing_defs.specs.declared.scripts.Row.{Row}
 use Rattle.timing_defs.specs.declared.scripts.Transcript.{Transcript}
-use Rattle.timing_defs.specs.Sessions.{Mark, OrderedFrom, AreTrue, Legal}
-use Rattle.timing_defs.proofs.LongerJournals.{ordered_longer, true_longer, legal_longer}
+use Rattle.timing_rules.specs.Sessions.{Mark, OrderedFrom, AreTrue, Legal}
+use Rattle.timing_rules.proofs.LongerJournals.{ordered_longer, true_longer, legal_longer}
 
 module _ (J L : List Entry) (p : IsPrefix J L) where
   pub ordered_kept : (first session : ℕ) (begun : Bool) (place before : ℕ) (commands : List Command) (marks : List Mark)

@@ -2,7 +2,7 @@
 
 use Rattle.std.proofs.Common.{◌≡◌, ℕ, ◌+◌, ◌<◌, ◌≤◌, List, [], ◌∷◌, ◌++◌, length, refl, sym, ap, ◌∙◌, inl, inr, arith, append_assoc, append-nil, length-append}
 use mathlib.Core.List.{IsPrefix}
-use Rattle.timing_defs.specs.Sessions.{Looks, StandIn, GrewBy}
+use Rattle.timing_rules.specs.Sessions.{Looks, StandIn, GrewBy}
 
 module _ {X : Type 0} where
   pub prefix_self : (xs : List X) → IsPrefix xs xs

@@ -7,9 +7,9 @@ use Rattle.std.proofs.lemmas.Option.{slice_get_read}
 use Rattle.timing_defs.specs.declared.design.Design.{Design}
 use Rattle.timing_defs.specs.declared.edits.Entry.{Entry}
 use Rattle.timing_defs.specs.declared.faults.Fault.{Fault}
-use Rattle.timing_defs.specs.Checks.{Faulty, Refuses}
-use Rattle.timing_defs.specs.Sessions.{DesignAfter, IsRefusedEntry}
-use Rattle.timing_defs.proofs.LongerJournals.{after_longer}
+use Rattle.timing_rules.specs.Checks.{Faulty, Refuses}
+use Rattle.timing_rules.specs.Sessions.{DesignAfter, IsRefusedEntry}
+use Rattle.timing_rules.proofs.LongerJournals.{after_longer}
 use Rattle.session_engine.specs.declared.replaying.ReplayFault.{ReplayFault}
 use Rattle.session_engine.specs.declared.replaying.ReplayFault.TheVariants.{First, Refused, Memory as no_memory}
 use Rattle.session_engine.specs.Versions.{Versioned, IsVersion}

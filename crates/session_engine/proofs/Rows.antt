@@ -16,8 +16,8 @@ use Rattle.timing_defs.specs.declared.scripts.Answer.{Answer}
 use Rattle.timing_defs.specs.declared.scripts.Answer.TheVariants.{Taken, Reached, NotYet, Accepted, Refused, No, Told}
 use Rattle.timing_defs.specs.declared.scripts.Row.{Row}
 use Rattle.timing_defs.specs.declared.scripts.Script.{Script}
-use Rattle.timing_defs.specs.Sessions.{DesignAfter, sort_of, mark_of, query_of, Suits, OrderedFrom, IsTrueAnswer, IsTrueRow, AreTrue, asked as of_question, accepted_eco, accepted_ecos, entry_by, added_entries, shown_looks, row_looks, StandIn, GrewBy}
-use Rattle.timing_defs.proofs.LongerJournals.{entry_behind}
+use Rattle.timing_rules.specs.Sessions.{DesignAfter, sort_of, mark_of, query_of, Suits, OrderedFrom, IsTrueAnswer, IsTrueRow, AreTrue, asked as of_question, accepted_eco, accepted_ecos, entry_by, added_entries, shown_looks, row_looks, StandIn, GrewBy}
+use Rattle.timing_rules.proofs.LongerJournals.{entry_behind}
 use Rattle.timing_defs.proofs.Members.{some_is}
 use Rattle.session_engine.specs.Versions.{Versioned, IsVersion}
 use Rattle.session_engine.specs.Looking.{Sight, Holds, Saw, Looked, Adds, Waits, Changes, Answers}

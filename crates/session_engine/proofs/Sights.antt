@@ -10,8 +10,8 @@ use Rattle.timing_defs.specs.declared.edits.Eco.{Eco}
 use Rattle.timing_defs.specs.declared.edits.Entry.{Entry}
 use Rattle.timing_defs.specs.declared.scripts.Answer.{Answer}
 use Rattle.timing_defs.specs.declared.scripts.Answer.TheVariants.{Accepted, Refused}
-use Rattle.timing_defs.specs.Checks.{Refuses}
-use Rattle.timing_defs.specs.Sessions.{Looks, entry_by}
+use Rattle.timing_rules.specs.Checks.{Refuses}
+use Rattle.timing_rules.specs.Sessions.{Looks, entry_by}
 use Rattle.session_engine.specs.declared.commands.Attempt.{Attempt}
 use Rattle.session_engine.specs.declared.commands.Attempt.TheVariants.{Done, Moved}
 use Rattle.timing_defs.proofs.Members.{some_is}

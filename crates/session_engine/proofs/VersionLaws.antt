@@ -5,9 +5,9 @@ use Rattle.timing_defs.specs.declared.design.Design.{Design}
 use Rattle.timing_defs.specs.declared.edits.Eco.{Eco}
 use Rattle.timing_defs.specs.declared.edits.Entry.{Entry}
 use Rattle.timing_defs.specs.Documents.{is_eco}
-use Rattle.timing_defs.specs.Checks.{Accepts}
-use Rattle.timing_defs.specs.Sessions.{DesignAfter}
-use Rattle.timing_defs.specs.Cones.{IsCounted}
+use Rattle.timing_rules.specs.Checks.{Accepts}
+use Rattle.timing_rules.specs.Sessions.{DesignAfter}
+use Rattle.timing_rules.specs.Cones.{IsCounted}
 use Rattle.netlist_store.specs.Numbering.{Stored}
 use Rattle.affected_cone.specs.Analysed.{Analysed, IsAnalysis}
 use Rattle.eco_analysis.specs.Soundness.{IsFaultless}

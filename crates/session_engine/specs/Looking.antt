@@ -10,9 +10,9 @@ use Rattle.timing_defs.specs.declared.scripts.Command.{Command}
 use Rattle.timing_defs.specs.declared.scripts.Command.TheVariants.{Take, Await, Ask, Change}
 use Rattle.timing_defs.specs.declared.scripts.Answer.{Answer}
 use Rattle.timing_defs.specs.declared.scripts.Answer.TheVariants.{Taken, Reached, NotYet, Accepted, Refused, No, Told as told_answer}
-use Rattle.timing_defs.specs.Checks.{Refuses}
-use Rattle.timing_defs.specs.Questions.{Told, query_fault}
-use Rattle.timing_defs.specs.Sessions.{Looks, entry_by}
+use Rattle.timing_rules.specs.Checks.{Refuses}
+use Rattle.timing_rules.specs.Questions.{Told, query_fault}
+use Rattle.timing_rules.specs.Sessions.{Looks, entry_by}
 use Rattle.version_board.specs.declared.views.View.{View}
 use Rattle.version_board.specs.History.{Meaning}
 use Rattle.version_board.specs.Callers.{meaning}

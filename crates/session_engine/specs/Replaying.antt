@@ -4,8 +4,8 @@ use Rattle.std.specs.Prelude.{ℕ, ◌≡◌, List, ⊤}
 use Rattle.timing_defs.specs.declared.design.Design.{Design}
 use Rattle.timing_defs.specs.declared.edits.Eco.{Eco}
 use Rattle.timing_defs.specs.declared.edits.Entry.{Entry}
-use Rattle.timing_defs.specs.Checks.{Faulty, Refuses}
-use Rattle.timing_defs.specs.Sessions.{IsRefusedEntry}
+use Rattle.timing_rules.specs.Checks.{Faulty, Refuses}
+use Rattle.timing_rules.specs.Sessions.{IsRefusedEntry}
 use Rattle.session_engine.specs.declared.replaying.ReplayFault.{ReplayFault}
 use Rattle.session_engine.specs.declared.replaying.ReplayFault.TheVariants.{First, Refused, Memory as no_memory}
 

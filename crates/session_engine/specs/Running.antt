@@ -14,8 +14,8 @@ use Rattle.timing_defs.specs.declared.scripts.Row.{Row}
 use Rattle.timing_defs.specs.declared.scripts.Transcript.{Transcript}
 use Rattle.timing_defs.specs.Documents.{is_eco, is_count, is_trial}
 use Rattle.timing_defs.specs.Trials.{trials_in}
-use Rattle.timing_defs.specs.Reports.{is_plain}
-use Rattle.timing_defs.specs.Sessions.{OrderedFrom, AreTrue, Legal, GrewBy, mark_of, row_looks, added_entries}
+use Rattle.timing_defs.specs.Documents.{is_plain}
+use Rattle.timing_rules.specs.Sessions.{OrderedFrom, AreTrue, Legal, GrewBy, mark_of, row_looks, added_entries}
 use Rattle.session_engine.specs.Versions.{Versioned}
 use Rattle.session_engine.specs.Looking.{Sight}
 

@@ -4,8 +4,8 @@ use Rattle.std.specs.Prelude.{ℕ, ◌≡◌, [], ◌∷◌}
 use Rattle.std.specs.Arc.{arc_value}
 use Rattle.timing_defs.specs.declared.edits.Eco.{Eco}
 use Rattle.timing_defs.specs.declared.scripts.Answer.TheVariants.{Accepted, Refused}
-use Rattle.timing_defs.specs.Checks.{Refuses}
-use Rattle.timing_defs.specs.Sessions.{entry_by}
+use Rattle.timing_rules.specs.Checks.{Refuses}
+use Rattle.timing_rules.specs.Sessions.{entry_by}
 use Rattle.session_engine.specs.declared.commands.Attempt.{Attempt}
 use Rattle.session_engine.specs.declared.commands.Attempt.TheVariants.{Done, Moved}
 use Rattle.session_engine.specs.Versions.{Versioned}

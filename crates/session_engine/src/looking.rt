@@ -4,7 +4,7 @@ ghost use Rattle.std.specs.Prelude.{◌≡◌, ◌≤◌, [], ◌∷◌, IfOk, O
 ghost use Rattle.std.specs.Arc.{arc_value};
 ghost use Rattle.std.specs.Option.{option_map};
 ghost use Rattle.timing_defs.specs.declared.edits.Eco.{Eco};
-ghost use Rattle.timing_defs.specs.Sessions.{entry_by};
+ghost use Rattle.timing_rules.specs.Sessions.{entry_by};
 ghost use Rattle.version_board.specs.Callers.{IsSeatOf, IsSame};
 ghost use Rattle.session_engine.specs.Versions.{IsNext};
 ghost use Rattle.session_engine.specs.Looking.{meant, Holds, Saw, Looked, Offers};

@@ -3,7 +3,7 @@
 ghost use Rattle.std.specs.Prelude.{◌≡◌, ◌-◌, ◌≤◌, true, IfOk, IfErr};
 ghost use Rattle.std.specs.Arc.{arc_value};
 ghost use Rattle.timing_defs.specs.Documents.{is_eco};
-ghost use Rattle.timing_defs.specs.Cones.{IsCounted};
+ghost use Rattle.timing_rules.specs.Cones.{IsCounted};
 ghost use Rattle.eco_analysis.specs.Soundness.{IsRefusal};
 ghost use Rattle.eco_analysis.specs.Counting.{is_told};
 ghost use Rattle.session_engine.specs.Versions.{IsNext};

@@ -4,7 +4,7 @@ ghost use Rattle.std.specs.Prelude.{◌≡◌, ◌+◌, ◌^◌, ◌≤◌, true
 ghost use Rattle.std.specs.Arc.{arc_value};
 ghost use Rattle.std.specs.List.{list_all};
 ghost use Rattle.timing_defs.specs.Documents.{is_eco};
-ghost use Rattle.timing_defs.specs.Sessions.{IsInitial};
+ghost use Rattle.timing_rules.specs.Sessions.{IsInitial};
 ghost use Rattle.eco_analysis.specs.Soundness.{IsFaultless};
 ghost use Rattle.session_engine.specs.Versions.{IsNext};
 ghost use Rattle.session_engine.specs.declared.replaying.ReplayFault.TheVariants.{Memory as no_memory};

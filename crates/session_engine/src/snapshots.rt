@@ -3,8 +3,8 @@
 ghost use Rattle.std.specs.Prelude.{◌≡◌, ◌⊎◌, ◌||◌, true, Some, IfOk, IfErr};
 ghost use Rattle.std.specs.Arc.{arc_value};
 ghost use Rattle.timing_defs.specs.declared.faults.QueryFault.TheVariants.{Memory as no_answer};
-ghost use Rattle.timing_defs.specs.Reports.{is_plain};
-ghost use Rattle.timing_defs.specs.Questions.{Told, query_fault};
+ghost use Rattle.timing_defs.specs.Documents.{is_plain};
+ghost use Rattle.timing_rules.specs.Questions.{Told, query_fault};
 ghost use Rattle.session_engine.specs.Running.{is_further};
 
 use crate::further::{Further, is_plain};

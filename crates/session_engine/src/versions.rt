@@ -3,8 +3,8 @@
 ghost use Rattle.std.specs.Prelude.{◌≡◌, ◌+◌, ◌^◌, ◌<◌, ◌≤◌, true, [], ◌∷◌, ◌++◌, length, IfOk, IfErr, OnOk};
 ghost use Rattle.std.specs.Arc.{arc_value};
 ghost use Rattle.timing_defs.specs.Documents.{is_eco};
-ghost use Rattle.timing_defs.specs.Checks.{Accepts};
-ghost use Rattle.timing_defs.specs.Reports.{AreTotals};
+ghost use Rattle.timing_rules.specs.Checks.{Accepts};
+ghost use Rattle.timing_rules.specs.Reports.{AreTotals};
 ghost use Rattle.eco_analysis.specs.Soundness.{IsUnsound};
 ghost use Rattle.session_engine.specs.Versions.{IsVersion, IsNext, entry_of, version_of};
 

@@ -4,8 +4,8 @@ use Rattle.std.specs.List.{All}
 use Rattle.timing_defs.specs.declared.design.Design.{Design}
 use Rattle.timing_defs.specs.declared.scripts.Script.{Script}
 use Rattle.timing_defs.specs.declared.scripts.Transcript.{Transcript}
-use Rattle.timing_defs.specs.Sessions.{DesignAfter, IsWhole, IsOutput}
-use Rattle.timing_defs.specs.Reports.{AreTotals}
+use Rattle.timing_rules.specs.Sessions.{DesignAfter, IsWhole, IsOutput}
+use Rattle.timing_rules.specs.Reports.{AreTotals}
 use Rattle.eco_analysis.specs.Soundness.{IsFaultless}
 use Rattle.session_engine.specs.Versions.{Versioned, IsVersion}
 use Rattle.shell_core.specs.Scripts.{IsScript}

@@ -17,7 +17,7 @@ use Rattle.timing_defs.specs.declared.scripts.Script.{Script}
 use Rattle.timing_defs.specs.declared.scripts.Transcript.{Transcript}
 use Rattle.timing_defs.specs.declared.design.Design.{Design}
 use Rattle.timing_defs.specs.Output.{journal_text}
-use Rattle.timing_defs.specs.Sessions.{ecos_of, accepted_eco, accepted_ecos, AreLegal}
+use Rattle.timing_rules.specs.Sessions.{ecos_of, accepted_eco, accepted_ecos, AreLegal}
 use Rattle.eco_journal.specs.Written.{IsEco, AreEntries}
 use Rattle.eco_journal.specs.Journal.{entries_of}
 use Rattle.eco_journal.proofs.JournalBack.{journal_back}

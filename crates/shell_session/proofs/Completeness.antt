@@ -10,7 +10,7 @@ use Rattle.timing_defs.specs.declared.library.Units.{Units}
 use Rattle.timing_defs.specs.declared.edits.Entry.{Entry}
 use Rattle.timing_defs.specs.declared.faults.Fault.{Fault}
 use Rattle.timing_defs.specs.declared.scripts.Script.{Script}
-use Rattle.timing_defs.specs.Sessions.{IsInitial}
+use Rattle.timing_rules.specs.Sessions.{IsInitial}
 use Rattle.sta_text.specs.declared.faults.Wrong.{Wrong}
 use Rattle.sta_text.specs.Faults.{least_from}
 use Rattle.liberty_cells.specs.Faults.{units_of_text}

@@ -8,7 +8,7 @@ use Rattle.timing_defs.specs.declared.design.Design.{Design}
 use Rattle.timing_defs.specs.declared.faults.Fault.{Fault}
 use Rattle.timing_defs.specs.declared.faults.Fault.TheVariants.{Memory as no_room}
 use Rattle.timing_defs.specs.declared.scripts.Script.{Script}
-use Rattle.timing_defs.specs.Checks.{Faulty}
+use Rattle.timing_rules.specs.Checks.{Faulty}
 use Rattle.timing_defs.specs.declared.codes.Code.{Code}
 use Rattle.command_words.specs.Asked.{RunWords, GenerateWords, Words}
 use Rattle.command_words.specs.Asked.{run as run_asked, generate as generate_asked}

@@ -4,7 +4,7 @@ use Rattle.std.specs.Prelude.{IfOk}
 use Rattle.timing_defs.specs.declared.design.Design.{Design}
 use Rattle.timing_defs.specs.declared.scripts.Script.{Script}
 use Rattle.timing_defs.specs.declared.scripts.Transcript.{Transcript}
-use Rattle.timing_defs.specs.Sessions.{DesignAfter, IsWhole}
+use Rattle.timing_rules.specs.Sessions.{DesignAfter, IsWhole}
 use Rattle.eco_analysis.specs.Soundness.{IsFaultless}
 use Rattle.session_engine.specs.Versions.{Versioned, IsVersion}
 use Rattle.shell_core.specs.declared.documents.Documents.{Documents}

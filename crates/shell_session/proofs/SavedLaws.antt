@@ -13,11 +13,11 @@ use Rattle.timing_defs.specs.declared.faults.Fault.{Fault}
 use Rattle.timing_defs.specs.declared.scripts.Script.{Script}
 use Rattle.timing_defs.specs.declared.scripts.Transcript.{Transcript}
 use Rattle.timing_defs.specs.Documents.{are_constraints, are_derates}
-use Rattle.timing_defs.specs.Checks.{Accepts, Refuses}
-use Rattle.timing_defs.specs.Reports.{AreTotals}
-use Rattle.timing_defs.specs.Sessions.{DesignAfter, IsInitial, IsRefusedEntry, IsWhole}
+use Rattle.timing_rules.specs.Checks.{Accepts, Refuses}
+use Rattle.timing_rules.specs.Reports.{AreTotals}
+use Rattle.timing_rules.specs.Sessions.{DesignAfter, IsInitial, IsRefusedEntry, IsWhole}
 use Rattle.timing_defs.specs.Saved.{saved_output_text}
-use Rattle.timing_defs.proofs.LongerJournals.{design_once, not_both}
+use Rattle.timing_rules.proofs.LongerJournals.{design_once, not_both}
 use Rattle.netlist_store.proofs.Untouched.{framed_by_eco}
 use Rattle.eco_journal.specs.Blocks.{Block, AreFactors}
 use Rattle.eco_journal.proofs.BlockBack.{block_back}

@@ -9,8 +9,8 @@ use Rattle.timing_defs.specs.declared.edits.Eco.{Eco}
 use Rattle.timing_defs.specs.declared.edits.Entry.{Entry}
 use Rattle.timing_defs.specs.declared.scripts.Script.{Script}
 use Rattle.timing_defs.specs.declared.scripts.Transcript.{Transcript}
-use Rattle.timing_defs.specs.Sessions.{DesignAfter, Legal, AreLegal, IsWhole, ecos_of, accepted_ecos, entry_by, added_entries}
-use Rattle.timing_defs.proofs.LongerJournals.{legal_longer}
+use Rattle.timing_rules.specs.Sessions.{DesignAfter, Legal, AreLegal, IsWhole, ecos_of, accepted_ecos, entry_by, added_entries}
+use Rattle.timing_rules.proofs.LongerJournals.{legal_longer}
 use Rattle.sta_units.specs.declared.units.Memory.{Memory}
 use Rattle.version_board.specs.History.{own}
 use Rattle.version_board.specs.Callers.{Standing, Sitting, IsSeatOf, IsNew, AgreesWith, number}

@@ -7,8 +7,8 @@ use Rattle.timing_defs.specs.declared.scripts.Script.{Script}
 use Rattle.timing_defs.specs.declared.scripts.Transcript.{Transcript}
 use Rattle.timing_defs.specs.declared.scripts.Totals.{Totals}
 use Rattle.timing_defs.specs.Output.{generated_text}
-use Rattle.timing_defs.specs.Reports.{AreTotals}
-use Rattle.timing_defs.specs.Sessions.{DesignAfter, IsWhole}
+use Rattle.timing_rules.specs.Reports.{AreTotals}
+use Rattle.timing_rules.specs.Sessions.{DesignAfter, IsWhole}
 use Rattle.eco_analysis.specs.Soundness.{IsFaultless}
 use Rattle.session_engine.specs.Versions.{Versioned}
 use Rattle.shell_core.specs.declared.documents.Documents.{Documents}

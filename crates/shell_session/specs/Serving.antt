@@ -10,11 +10,11 @@ use Rattle.timing_defs.specs.declared.scripts.Script.{Script}
 use Rattle.timing_defs.specs.declared.scripts.Transcript.{Transcript}
 use Rattle.timing_defs.specs.declared.scripts.Totals.{Totals}
 use Rattle.timing_defs.specs.Documents.{are_constraints}
-use Rattle.timing_defs.specs.Checks.{Faulty}
+use Rattle.timing_rules.specs.Checks.{Faulty}
 use Rattle.timing_defs.specs.Output.{journal_text, output_text}
-use Rattle.timing_defs.specs.Reports.{AreTotals}
+use Rattle.timing_rules.specs.Reports.{AreTotals}
 use Rattle.timing_defs.specs.Saved.{block_text, saved_output_text}
-use Rattle.timing_defs.specs.Sessions.{IsWhole, IsOutput, IsSavedOutput, IsInitial, IsRefusedEntry}
+use Rattle.timing_rules.specs.Sessions.{IsWhole, IsOutput, IsSavedOutput, IsInitial, IsRefusedEntry}
 use Rattle.sta_text.specs.declared.faults.Wrong.{Wrong}
 use Rattle.eco_journal.specs.Blocks.{block_of}
 use Rattle.eco_journal.specs.Journal.{entries_of}

@@ -5,7 +5,7 @@ ghost use Rattle.std.specs.Arc.{arc_value};
 ghost use Rattle.std.specs.List.{All};
 ghost use Rattle.timing_defs.specs.declared.design.Design.{Design};
 ghost use Rattle.timing_defs.specs.declared.edits.Entry.{Entry};
-ghost use Rattle.timing_defs.specs.Sessions.{IsWhole};
+ghost use Rattle.timing_rules.specs.Sessions.{IsWhole};
 ghost use Rattle.version_board.specs.Callers.{Sitting, IsSeatOf};
 ghost use Rattle.session_engine.specs.Looking.{meant};
 ghost use Rattle.session_engine.specs.Versions.{IsVersion};

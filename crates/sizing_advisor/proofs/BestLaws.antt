@@ -6,8 +6,8 @@ use Rattle.timing_defs.specs.declared.kinds.Kind.{Kind}
 use Rattle.timing_defs.specs.declared.design.Design.{Design}
 use Rattle.timing_defs.specs.declared.reports.Candidate.{Candidate}
 use Rattle.timing_defs.specs.declared.reports.Advice.{Advice}
-use Rattle.timing_defs.specs.Advice.{candidate_eco, IsValue, AreValues, better, best_from}
-use Rattle.timing_defs.specs.Cones.{IsCounted, AreCounted}
+use Rattle.timing_rules.specs.Advice.{candidate_eco, IsValue, AreValues, better, best_from}
+use Rattle.timing_rules.specs.Cones.{IsCounted, AreCounted}
 use Rattle.sizing_advisor.specs.declared.choices.Best.{Best}
 use Rattle.sizing_advisor.specs.Trying.{as_number, as_advice, IsTried, IsBest}
 

@@ -5,8 +5,8 @@ use Rattle.std.specs.Prelude.{◌⊎◌}
 use Rattle.timing_defs.specs.declared.kinds.Kind.{Kind}
 use Rattle.timing_defs.specs.declared.design.Design.{Design}
 use Rattle.timing_defs.specs.declared.reports.Candidate.{Candidate}
-use Rattle.timing_defs.specs.Advice.{candidate_eco, better}
-use Rattle.timing_defs.specs.Cones.{IsCounted}
+use Rattle.timing_rules.specs.Advice.{candidate_eco, better}
+use Rattle.timing_rules.specs.Cones.{IsCounted}
 use Rattle.level_workers.specs.Mapped.{IsMap}
 use Rattle.sizing_advisor.specs.declared.choices.Best.{Best}
 use Rattle.sizing_advisor.specs.declared.trials.Tried.{Tried}

@@ -10,9 +10,9 @@ use Rattle.timing_defs.specs.declared.edits.Eco.{Eco}
 use Rattle.timing_defs.specs.declared.faults.Fault.{Fault}
 use Rattle.timing_defs.specs.declared.faults.Fault.TheVariants.{Memory as no_room}
 use Rattle.timing_defs.specs.declared.reports.Candidate.{Candidate}
-use Rattle.timing_defs.specs.Checks.{Refuses}
-use Rattle.timing_defs.specs.Cones.{IsCounted}
-use Rattle.timing_defs.specs.Advice.{candidate_eco}
+use Rattle.timing_rules.specs.Checks.{Refuses}
+use Rattle.timing_rules.specs.Cones.{IsCounted}
+use Rattle.timing_rules.specs.Advice.{candidate_eco}
 use Rattle.netlist_store.specs.Numbering.{Stored}
 use Rattle.eco_analysis.specs.Counting.{tells}
 use Rattle.sizing_advisor.specs.Trying.{IsTried}

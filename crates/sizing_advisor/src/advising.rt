@@ -1,8 +1,8 @@
 //! The advised resize.
 
 ghost use Rattle.std.specs.Prelude.{◌≡◌, ◌-◌, ◌≤◌, map, IfOk, OnOk};
-ghost use Rattle.timing_defs.specs.Advice.{candidate_eco, IsAdvice};
-ghost use Rattle.timing_defs.specs.Cones.{AreCounted};
+ghost use Rattle.timing_rules.specs.Advice.{candidate_eco, IsAdvice};
+ghost use Rattle.timing_rules.specs.Cones.{AreCounted};
 ghost use Rattle.sizing_advisor.specs.Trying.{IsBest};
 
 use crate::bases::Base;

@@ -1,7 +1,7 @@
 //! The best candidate so far.
 
 ghost use Rattle.std.specs.Prelude.{◌≡◌, IfOk};
-ghost use Rattle.timing_defs.specs.Advice.{better, advice_of};
+ghost use Rattle.timing_rules.specs.Advice.{better, advice_of};
 ghost use Rattle.sizing_advisor.specs.Trying.{as_number, as_advice};
 
 use sta_units::{Fs, Memory};

@@ -1,9 +1,9 @@
 //! The trial of one candidate.
 
 ghost use Rattle.std.specs.Prelude.{◌≡◌, ◌-◌, ◌≤◌, true, None, IfOk, OnOk};
-ghost use Rattle.timing_defs.specs.Advice.{candidate_eco};
-ghost use Rattle.timing_defs.specs.Cones.{IsCounted};
-ghost use Rattle.timing_defs.specs.Reports.{IsWns};
+ghost use Rattle.timing_rules.specs.Advice.{candidate_eco};
+ghost use Rattle.timing_rules.specs.Cones.{IsCounted};
+ghost use Rattle.timing_rules.specs.Reports.{IsWns};
 ghost use Rattle.eco_analysis.specs.Counting.{tells};
 ghost use Rattle.sizing_advisor.specs.Trying.{as_number, IsTried, IsTrial};
 

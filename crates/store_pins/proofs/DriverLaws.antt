@@ -11,7 +11,7 @@ use Rattle.timing_defs.specs.declared.design.Design.{Design}
 use Rattle.timing_defs.specs.declared.faults.Fault.TheVariants.{TooLarge, ManyDrivers}
 use Rattle.timing_defs.specs.declared.faults.Large.{Large}
 use Rattle.timing_defs.specs.Netlist.{Pin, name_of, pins, net_of, is_on, is_driver, drivers, driver, is_listed}
-use Rattle.timing_defs.specs.Checks.{is_before, least_from, least, large, many_drivers, first_of_two, net_fault}
+use Rattle.timing_defs.specs.NetChecks.{is_before, least_from, least, large, many_drivers, first_of_two, net_fault}
 use Rattle.netlist_store.specs.Linked.{IsLinked}
 use Rattle.netlist_store.specs.Numbering.{Stored, name_at, number_of, is_number, pin_numbered, net_number, is_on_number, IsNumbered}
 use Rattle.store_pins.specs.Drivers.{driver_number, driver_at}

@@ -2,7 +2,7 @@
 
 ghost use Rattle.std.specs.Prelude.{◌≡◌, ◌+◌, ◌≤◌, ℕ, All, Contains, None, Some, true, count_by, drop, length, nat_eq, option_and_then, option_map, if◌then◌else◌, IfSome};
 ghost use Rattle.timing_defs.specs.Netlist.{same_dir, is_driver, driver};
-ghost use Rattle.timing_defs.specs.Checks.{net_fault};
+ghost use Rattle.timing_defs.specs.NetChecks.{net_fault};
 ghost use Rattle.netlist_store.specs.Numbering.{name_at, is_number, is_on_number, pin_numbered};
 ghost use Rattle.store_pins.specs.Drivers.{driver_at, drives_at};
 

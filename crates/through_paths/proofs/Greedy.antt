@@ -5,8 +5,8 @@ use Rattle.std.specs.Prelude.{slice_get, ◌&&◌, ◌||◌}
 use Rattle.std.specs.Option.{option_map_or}
 use Rattle.std.specs.Str.{bytes_eq}
 use Rattle.std.proofs.lemmas.Bool.{or_cases, false≢true, ne_eqb}
-use Rattle.timing_defs.specs.Paths.{Named}
-use Rattle.timing_defs.specs.Through.{passes}
+use Rattle.timing_rules.specs.Paths.{Named}
+use Rattle.timing_rules.specs.Through.{passes}
 
 -- the count of items of a list that are met in their order, where so many were met before
 abbrev pub next_by : {A X : Type 0} → (A → X → Bool) → List A → ℕ → X → ℕ

@@ -7,7 +7,7 @@ use Rattle.std.specs.Str.{bytes_eq}
 use Rattle.std.proofs.lemmas.Bool.{cases_Bool, eq-eqb, eqb-true, or_cases, true≢false}
 use Rattle.std.proofs.lemmas.List.{append_assoc}
 use Rattle.std.proofs.lemmas.List.Elements.{All-head, All-tail}
-use Rattle.timing_defs.specs.Through.{passes as path_passes}
+use Rattle.timing_rules.specs.Through.{passes as path_passes}
 use Rattle.timing_defs.proofs.Members.{some_is}
 use Rattle.timing_defs.proofs.SameNames.{same_is, same_self}
 use Rattle.netlist_store.specs.Numbering.{Stored, name_at, number_of, AreNumbers}

@@ -6,10 +6,10 @@ use Rattle.std.specs.Ordering.{is_gt}
 use Rattle.std.proofs.lemmas.Int.{ints}
 use Rattle.timing_defs.specs.declared.kinds.Kind.{Kind}
 use Rattle.timing_defs.specs.declared.rows.Path.{Path}
-use Rattle.timing_defs.specs.Tests.{Test}
-use Rattle.timing_defs.specs.Paths.{Named, nodes_cmp, path_named}
-use Rattle.timing_defs.specs.Ranking.{Ranked}
-use Rattle.timing_defs.specs.Through.{passes as path_passes, LeadsThrough, IsThrough}
+use Rattle.timing_rules.specs.Tests.{Test}
+use Rattle.timing_rules.specs.Paths.{Named, nodes_cmp, path_named}
+use Rattle.timing_rules.specs.Ranking.{Ranked}
+use Rattle.timing_rules.specs.Through.{passes as path_passes, LeadsThrough, IsThrough}
 use Rattle.sta_units.specs.declared.units.Memory.{Memory}
 use Rattle.netlist_store.specs.Numbering.{Stored, number_of, AreNumbers, IsNumbered}
 use Rattle.pin_graph.specs.Graphs.{Graphed}

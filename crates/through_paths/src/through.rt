@@ -1,10 +1,10 @@
 //! The worst walk of an endpoint's cone that passes given pins, and the path that is read off it.
 
 ghost use Rattle.std.specs.Prelude.{◌≡◌, ◌<◌, ◌^◌, Contains, None, Some, length, map, IfOk};
-ghost use Rattle.timing_defs.specs.Checks.{IsSound};
-ghost use Rattle.timing_defs.specs.Range.{NoOrigin};
-ghost use Rattle.timing_defs.specs.Reports.{endpoints};
-ghost use Rattle.timing_defs.specs.Through.{IsThrough};
+ghost use Rattle.timing_rules.specs.Checks.{IsSound};
+ghost use Rattle.timing_rules.specs.Range.{NoOrigin};
+ghost use Rattle.timing_rules.specs.Reports.{endpoints};
+ghost use Rattle.timing_rules.specs.Through.{IsThrough};
 ghost use Rattle.arc_delays.specs.Delays.{AreDelays};
 ghost use Rattle.pin_graph.specs.RowTables.{AreRows};
 ghost use Rattle.path_search.specs.PinCones.{IsPinCone};

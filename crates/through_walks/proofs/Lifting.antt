@@ -7,7 +7,7 @@ use Rattle.std.proofs.lemmas.Bool.{cases_eq, eq-eqb, ne_eqb, eqb-true, lt-ltb, l
 use Rattle.std.proofs.lemmas.Option.{none-some, same_Some, option_and_then_some, slice_get_within, get_or_from_slice_get, slice_get-map}
 use Rattle.std.proofs.lemmas.List.{map-append}
 use Rattle.std.proofs.lemmas.List.Elements.{All-cons, All-head, All-tail, All-map, All-weaker}
-use Rattle.timing_defs.specs.Rows.{plus_some}
+use Rattle.timing_defs.specs.RowTimes.{plus_some}
 use Rattle.worst_walks.specs.declared.cones.Launch.{Launch}
 use Rattle.worst_walks.specs.declared.cones.WalkEnd.{WalkEnd}
 use Rattle.worst_walks.specs.declared.cones.Cone.{Cone}

@@ -1,4 +1,5 @@
 -- The printed codes of the faults of reading.
+
 use Rattle.std.specs.Prelude.{ℕ, List, codes}
 use Rattle.timing_defs.specs.declared.codes.Code.{Code}
 use Rattle.timing_defs.specs.declared.codes.Code.TheVariants.{LibertyUnbalanced, LibertyBadToken, LibertyEncoding, LibertyBadUnit, LibertyUnknownTemplate, LibertyBadTable, LibertyDoubleName, LibertyIndexNotRising, LibertyOtherDelayModel, LibertyTooMany, VerilogBadToken, VerilogLeftOut, VerilogUndeclared, VerilogDoubleName, VerilogNoModule, VerilogTooMany, SdcBadWord, SdcUnknownCommand, SdcLeftOut, SdcBadNumber, SdcUnknownClock, SdcTooManyClocks, SpefBadHeader, SpefUnknownName, SpefLeftOut, SpefBadNumber, SpefDoubleNet, ScriptBadCommand, ScriptTooLong, JournalBadLine, JournalBadNumber, JournalVersion, JournalOtherDerates}

@@ -2,11 +2,13 @@
 -- of their forms, and netlists with distinct names (Liberty reference manual, SDC, IEEE 1481, IEEE 1364). Of scripts the
 -- counts that engines ask for (own); a script that is read keeps more.
 
-use Rattle.std.specs.Prelude.{ℕ, ◌≤◌, ◌≡◌, ℤ, pos, ◌+ℤ◌, int_le, int_lt, nat_lt, nat_le, Bool, true, false, not, ◌&&◌, List, [], ◌∷◌, map, length}
+use Rattle.std.specs.Prelude.{ℕ, ◌≡◌, ℤ, pos, ◌+ℤ◌, int_lt, nat_lt, Bool, true, false, not, List, [], ◌∷◌, map, length, ◌≤◌, int_le, nat_le, ◌&&◌}
 use Rattle.std.specs.List.{list_all, list_any, filter_map}
 use Rattle.std.specs.Option.{option_map_or}
 use Rattle.std.specs.Str.{bytes_eq}
 use Rattle.sta_units.specs.Numbers.{is_within}
+use Rattle.timing_defs.specs.declared.reports.Query.{Query}
+use Rattle.timing_defs.specs.declared.reports.Query.TheVariants.{Slew, At, Rat, Slack, Endpoint, WorstPath, Wns, Tns, Worst, Through, Paths, WhatIf', Advise}
 use Rattle.timing_defs.specs.declared.kinds.Dir.{Dir}
 use Rattle.timing_defs.specs.declared.kinds.Dir.TheVariants.{Input, Output}
 use Rattle.timing_defs.specs.declared.library.Cell.{Cell}
@@ -23,22 +25,35 @@ use Rattle.timing_defs.specs.declared.constraints.Derates.{Derates}
 use Rattle.timing_defs.specs.declared.constraints.Constraints.{Constraints}
 use Rattle.timing_defs.specs.declared.parasitics.NetRc.{NetRc}
 use Rattle.timing_defs.specs.declared.netlist.Inst.{Inst}
-use Rattle.timing_defs.specs.Lookup.{is_well_formed}
-use Rattle.timing_defs.specs.Netlist.{same_dir, same_split, same_tran, is_listed, are_distinct}
-use Rattle.timing_defs.specs.Edits.{direction_in, has_colon}
-use Rattle.timing_defs.specs.Reports.{is_plain}
-use Rattle.timing_defs.specs.Trials.{trials_in}
 use Rattle.timing_defs.specs.declared.netlist.Module.{Module}
 use Rattle.timing_defs.specs.declared.edits.Edit.{Edit}
 use Rattle.timing_defs.specs.declared.edits.Edit.TheVariants.{SetParasitics}
 use Rattle.timing_defs.specs.declared.edits.Eco.{Eco}
-use Rattle.timing_defs.specs.declared.reports.Query.{Query}
-use Rattle.timing_defs.specs.declared.reports.Query.TheVariants.{Worst, Through, Paths, WhatIf', Advise}
 use Rattle.timing_defs.specs.declared.reports.Trial.{Trial}
 use Rattle.timing_defs.specs.declared.reports.Trial.TheVariants.{Try, Drop, Ask as ask_draft}
 use Rattle.timing_defs.specs.declared.scripts.Command.{Command}
 use Rattle.timing_defs.specs.declared.scripts.Command.TheVariants.{Take, Await, Ask, Change}
 use Rattle.timing_defs.specs.declared.scripts.Script.{Script}
+use Rattle.timing_defs.specs.Netlist.{pins, same_dir, same_split, same_tran, is_listed, are_distinct}
+use Rattle.timing_defs.specs.Lookup.{is_well_formed}
+use Rattle.timing_defs.specs.Edits.{direction_in, has_colon}
+use Rattle.timing_defs.specs.Trials.{trials_in}
+
+-- whether a question is plain
+abbrev pub is_plain : Query → Bool
+is_plain (Through pin kind pins) = false
+is_plain (Paths pin kind count) = false
+is_plain (WhatIf' shape trials) = false
+is_plain (Advise kind candidates) = false
+is_plain (Slew pin split tran) = true
+is_plain (At pin split tran) = true
+is_plain (Rat pin split tran) = true
+is_plain (Slack pin split tran) = true
+is_plain (Endpoint pin kind) = true
+is_plain (WorstPath pin kind) = true
+is_plain (Wns kind) = true
+is_plain (Tns kind) = true
+is_plain (Worst kind count) = true
 
 -- a whole number from 0 to 10^12, as capacitances and resistances are
 abbrev pub is_amount : ℤ → Bool

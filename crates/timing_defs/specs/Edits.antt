@@ -26,8 +26,7 @@ use Rattle.timing_defs.specs.declared.faults.Fault.{Fault}
 use Rattle.timing_defs.specs.declared.faults.Fault.TheVariants.{UnknownInstance, UnknownNet, UnknownCell, UnknownPin, NameTaken, PinsDiffer, AlreadyConnected, NotConnected, InUse}
 use Rattle.timing_defs.specs.Netlist.{same_dir, same_tran, cell_named, conn_net, is_listed}
 use Rattle.timing_defs.specs.Wires.{first_some}
-use Rattle.timing_defs.specs.Clocking.{is_comb}
-use Rattle.timing_defs.specs.Tests.{same_kind}
+use Rattle.timing_defs.specs.Kinds.{is_comb, same_kind}
 
 abbrev pub inst_named : List Inst → List ℕ → Option Inst
 inst_named insts name = find (λ inst. bytes_eq inst.name name) insts

@@ -1,7 +1,16 @@
 -- Names: the identifiers of a netlist (IEEE 1364, "Identifiers"), as lists of bytes.
-use Rattle.std.specs.Prelude.{ℕ, List, Bool, ◌==◌, ◌&&◌, not, nat_le, length}
-use Rattle.std.specs.List.{list_all}
+
+use Rattle.std.specs.Prelude.{ℕ, nat_eq, Bool, not, ◌&&◌, ◌||◌, if◌then◌else◌, List, [], ◌∷◌, ◌==◌, nat_le, length}
+use Rattle.std.specs.List.{list_any, list_all}
 use Rattle.std.specs.Cmp.Lexicographic.{pointwise}
+
+-- a word as a pin: split at its last slash or colon
+abbrev pub is_split : ℕ → Bool
+is_split byte = nat_eq byte 47 || nat_eq byte 58
+
+abbrev pub as_pin : List ℕ → List ℕ
+as_pin [] = []
+as_pin (b ∷ bs) = (if is_split b && not (list_any is_split bs) then 58 ∷ bs else b ∷ as_pin bs)
 
 -- A printable byte of ASCII that is no blank.
 abbrev pub is_graphic : ℕ → Bool

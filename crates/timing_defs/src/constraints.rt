@@ -3,7 +3,7 @@
 ghost use Rattle.std.specs.Prelude.{◌≡◌, false, slice_get};
 ghost use Rattle.std.specs.Option.{option_copied, option_map_or};
 ghost use Rattle.std.specs.Str.{bytes_eq};
-ghost use Rattle.timing_defs.specs.Tests.{uncertainty};
+ghost use Rattle.timing_defs.specs.Kinds.{uncertainty};
 ghost use Rattle.timing_defs.specs.Documents.{no_derates};
 
 use crate::items::Items;

@@ -2,7 +2,7 @@
 
 ghost use Rattle.std.specs.Prelude.{◌≡◌, [], ◌∷◌, ◌++◌, ◌<◌, ◌↔◌, length, slice_get, IsTrue, IfOk, OnOk, OnErr, OnSome};
 ghost use Rattle.std.specs.Option.{option_copied, option_map};
-ghost use Rattle.timing_defs.specs.Rows.{time_on, edge_of};
+ghost use Rattle.timing_defs.specs.RowTimes.{time_on, edge_of};
 
 use crate::kinds::Tran;
 use smallvec::SmallVec;

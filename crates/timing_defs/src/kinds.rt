@@ -2,9 +2,9 @@
 
 ghost use Rattle.std.specs.Prelude.{◌≡◌};
 ghost use Rattle.timing_defs.specs.Netlist.{same_split, same_tran, same_dir};
-ghost use Rattle.timing_defs.specs.Clocking.{comb_kind};
-ghost use Rattle.timing_defs.specs.Tests.{data_split, clock_split};
-ghost use Rattle.timing_defs.specs.Required.{kind_of, other_split};
+ghost use Rattle.timing_defs.specs.Kinds.{comb_kind};
+ghost use Rattle.timing_defs.specs.Kinds.{data_split, clock_split};
+ghost use Rattle.timing_defs.specs.Kinds.{kind_of, other_split};
 
 /// Which library and which bound of an arrival: early is the least, late the greatest.
 #[derive(Clone, Copy, Drop)]

@@ -1,8 +1,8 @@
 //! Rows of an analysis: what a pin has, what a node has, and paths.
 
 ghost use Rattle.std.specs.Prelude.{◌≡◌, ◌<◌, Some, length, slice_get, option_map};
-ghost use Rattle.timing_defs.specs.Rows.{slew_in, times_in};
-ghost use Rattle.timing_defs.specs.Required.{back_times};
+ghost use Rattle.timing_defs.specs.RowTimes.{slew_in, times_in};
+ghost use Rattle.timing_defs.specs.RowTimes.{back_times};
 
 use crate::edge_times::EdgeTimes;
 use crate::items::Items;

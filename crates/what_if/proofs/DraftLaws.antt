@@ -14,13 +14,13 @@ use Rattle.timing_defs.specs.declared.reports.Trial.{Trial}
 use Rattle.timing_defs.specs.declared.reports.Trial.TheVariants.{Try, Drop, Ask}
 use Rattle.timing_defs.specs.declared.reports.TrialRow.{TrialRow}
 use Rattle.timing_defs.specs.declared.reports.TrialAnswer.TheVariants.{Tried, Refused, Dropped, NoDraft, No, Told as told_answer}
-use Rattle.timing_defs.specs.Checks.{Accepts}
+use Rattle.timing_rules.specs.Checks.{Accepts}
 use Rattle.timing_defs.specs.Documents.{is_trial}
-use Rattle.timing_defs.specs.Drafts.{shown_design, AreTrials}
-use Rattle.timing_defs.specs.Questions.{Told, query_fault}
-use Rattle.timing_defs.specs.Reports.{is_plain}
+use Rattle.timing_rules.specs.Drafts.{shown_design, AreTrials}
+use Rattle.timing_rules.specs.Questions.{Told, query_fault}
+use Rattle.timing_defs.specs.Documents.{is_plain}
 use Rattle.timing_defs.proofs.Members.{some_is}
-use Rattle.timing_defs.proofs.TrialLaws.{plain_told, plain_refused}
+use Rattle.timing_rules.proofs.TrialLaws.{plain_told, plain_refused}
 use Rattle.eco_analysis.specs.Soundness.{IsRefusal}
 use Rattle.eco_analysis.specs.Counting.{tells}
 use Rattle.what_if.specs.Layers.{OfLast, Drops, Follows, IsRowOf, AreSoFar}

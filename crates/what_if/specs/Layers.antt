@@ -5,7 +5,7 @@ use Rattle.timing_defs.specs.declared.design.Design.{Design}
 use Rattle.timing_defs.specs.declared.reports.Trial.{Trial}
 use Rattle.timing_defs.specs.declared.reports.TrialRow.{TrialRow}
 use Rattle.timing_defs.specs.declared.reports.TrialAnswer.{TrialAnswer}
-use Rattle.timing_defs.specs.Drafts.{shown_design, Tries, AreTrials, asked}
+use Rattle.timing_rules.specs.Drafts.{shown_design, Tries, AreTrials, asked}
 
 -- what stands of the last design
 abbrev pub OfLast : List Design → (Design → Type 0) → Type 0

@@ -3,11 +3,11 @@
 ghost use Rattle.std.specs.Prelude.{◌≡◌, ◌⊎◌, ◌-◌, ◌≤◌, [], ◌∷◌, ◌++◌, true, Some, IfOk, IfErr, OnOk, OnErr};
 ghost use Rattle.timing_defs.specs.declared.design.Design.{Design};
 ghost use Rattle.timing_defs.specs.declared.faults.QueryFault.TheVariants.{Memory as no_answer};
-ghost use Rattle.timing_defs.specs.Checks.{Accepts};
-ghost use Rattle.timing_defs.specs.Cones.{IsCounted};
+ghost use Rattle.timing_rules.specs.Checks.{Accepts};
+ghost use Rattle.timing_rules.specs.Cones.{IsCounted};
 ghost use Rattle.timing_defs.specs.Documents.{is_eco};
-ghost use Rattle.timing_defs.specs.Questions.{Told, query_fault};
-ghost use Rattle.timing_defs.specs.Reports.{is_plain};
+ghost use Rattle.timing_rules.specs.Questions.{Told, query_fault};
+ghost use Rattle.timing_defs.specs.Documents.{is_plain};
 ghost use Rattle.eco_analysis.specs.Counting.{is_told};
 ghost use Rattle.eco_analysis.specs.Soundness.{IsRefusal};
 ghost use Rattle.what_if.specs.Layers.{OfLast, Drops};

@@ -5,8 +5,8 @@ ghost use Rattle.std.specs.List.{list_all};
 ghost use Rattle.timing_defs.specs.declared.design.Design.{Design};
 ghost use Rattle.timing_defs.specs.declared.reports.Trial.TheVariants.{Try, Drop as drop_trial, Ask};
 ghost use Rattle.timing_defs.specs.Documents.{is_eco, is_trial};
-ghost use Rattle.timing_defs.specs.Drafts.{AreTrials};
-ghost use Rattle.timing_defs.specs.Reports.{is_plain};
+ghost use Rattle.timing_rules.specs.Drafts.{AreTrials};
+ghost use Rattle.timing_defs.specs.Documents.{is_plain};
 ghost use Rattle.what_if.specs.Layers.{Follows, IsRowOf};
 
 use crate::bases::Base;

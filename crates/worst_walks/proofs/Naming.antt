@@ -9,7 +9,7 @@ use Rattle.std.specs.Cmp.Lexicographic.{slice_cmp}
 use Rattle.std.proofs.lemmas.Bool.{eqb-true}
 use Rattle.std.proofs.lemmas.List.Elements.{All-nil, All-cons, All-head, All-tail}
 use Rattle.std.proofs.lemmas.Option.{cond_some}
-use Rattle.timing_defs.specs.Rows.{plus_some}
+use Rattle.timing_defs.specs.RowTimes.{plus_some}
 use Rattle.worst_walks.specs.declared.cones.Cone.{Cone}
 use Rattle.worst_walks.specs.Walks.{count_of, arcs_into, delay_between, walk_sum, IsCone}
 use Rattle.worst_walks.proofs.Filling.{arcs_there, delay_there}

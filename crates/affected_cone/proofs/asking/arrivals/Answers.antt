@@ -1,7 +1,8 @@
 use Rattle.std.proofs.Common.{ap, ◌∙◌}
 use Rattle.timing_defs.specs.declared.reports.Report.TheVariants.{Times}
 use Rattle.timing_defs.specs.Netlist.{Node}
-use Rattle.timing_defs.specs.Rows.{row, times_in}
+use Rattle.timing_rules.specs.Rows.{row}
+use Rattle.timing_defs.specs.RowTimes.{times_in}
 use Rattle.affected_cone.proofs.NodeAnswers.{node_told, row_is, row_low}
 use Rattle.affected_cone.proofs.asking.arrivals.Goals as goal
 

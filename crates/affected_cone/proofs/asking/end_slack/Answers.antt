@@ -1,5 +1,5 @@
 use Rattle.std.proofs.Common.{◌≡◌, ℕ, None, Some, refl, sym, ap, subst, ◌∙◌}
-use Rattle.timing_defs.specs.Reports.{fs_value}
+use Rattle.timing_rules.specs.Reports.{fs_value}
 use Rattle.timing_defs.proofs.Members.{some_is}
 use Rattle.affected_cone.specs.declared.ends.EndSlacks.{EndSlacks}
 use Rattle.affected_cone.specs.Analysed.{ends_of, slack_in, IsEnd}

@@ -1,5 +1,5 @@
 use Rattle.std.proofs.Common.{None, map, refl, ap, ◌∙◌}
-use Rattle.timing_defs.specs.Reports.{fs_value, least_slack}
+use Rattle.timing_rules.specs.Reports.{fs_value, least_slack}
 use Rattle.affected_cone.specs.Analysed.{slack_in}
 use Rattle.affected_cone.proofs.TotalLaws.{least_told}
 use Rattle.affected_cone.proofs.asking.least_slack.Goals as goal

@@ -1,7 +1,8 @@
 use Rattle.std.proofs.Common.{ap, ◌∙◌}
 use Rattle.timing_defs.specs.declared.reports.Report.TheVariants.{Times}
 use Rattle.timing_defs.specs.Netlist.{Node}
-use Rattle.timing_defs.specs.Required.{back_row, back_times}
+use Rattle.timing_rules.specs.Required.{back_row}
+use Rattle.timing_defs.specs.RowTimes.{back_times}
 use Rattle.affected_cone.proofs.NodeAnswers.{node_told, back_is, back_low}
 use Rattle.affected_cone.proofs.asking.required_times.Goals as goal
 

@@ -1,6 +1,6 @@
 use Rattle.timing_defs.specs.Netlist.{Node}
-use Rattle.timing_defs.specs.Required.{graph_slack}
-use Rattle.timing_defs.specs.Reports.{fs_value}
+use Rattle.timing_rules.specs.Required.{graph_slack}
+use Rattle.timing_rules.specs.Reports.{fs_value}
 use Rattle.affected_cone.proofs.NodeAnswers.{node_told}
 use Rattle.affected_cone.proofs.asking.slack.Goals as goal
 

@@ -1,6 +1,6 @@
 use Rattle.std.proofs.Common.{ap, ◌∙◌}
 use Rattle.timing_defs.specs.declared.constraints.Constraints.{Constraints}
-use Rattle.timing_defs.specs.Reports.{fs_value}
+use Rattle.timing_rules.specs.Reports.{fs_value}
 use Rattle.affected_cone.proofs.NodeAnswers.{row_is, back_is, slack_is}
 use Rattle.affected_cone.proofs.WithinLaws.{row_within}
 use Rattle.affected_cone.proofs.asking.slack_at.Goals as goal

@@ -1,7 +1,8 @@
 use Rattle.std.proofs.Common.{ap, ◌∙◌}
 use Rattle.timing_defs.specs.Netlist.{Node}
-use Rattle.timing_defs.specs.Rows.{slew, slew_in}
-use Rattle.timing_defs.specs.Reports.{fs_value}
+use Rattle.timing_rules.specs.Rows.{slew}
+use Rattle.timing_defs.specs.RowTimes.{slew_in}
+use Rattle.timing_rules.specs.Reports.{fs_value}
 use Rattle.affected_cone.proofs.NodeAnswers.{node_told, row_is, row_low}
 use Rattle.affected_cone.proofs.asking.slew.Goals as goal
 

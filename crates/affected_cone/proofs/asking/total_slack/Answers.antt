@@ -1,5 +1,5 @@
 use Rattle.std.proofs.Common.{pos, map, refl, ap, ◌∙◌}
-use Rattle.timing_defs.specs.Reports.{fs_value}
+use Rattle.timing_rules.specs.Reports.{fs_value}
 use Rattle.affected_cone.specs.Analysed.{slack_in}
 use Rattle.affected_cone.specs.Floors.{floored}
 use Rattle.affected_cone.proofs.TotalLaws.{total_told}

@@ -2,8 +2,8 @@ use Rattle.std.proofs.Common.{◌≡◌, ◌<◌, List, length, refl, sym, subst
 use Rattle.std.specs.Prelude.{All}
 use Rattle.timing_defs.specs.declared.constraints.Constraints.{Constraints}
 use Rattle.timing_defs.specs.declared.edge_times.EdgeTime.{EdgeTime}
-use Rattle.timing_defs.specs.Rows.{times_in}
-use Rattle.timing_defs.specs.Tests.{data_split}
+use Rattle.timing_defs.specs.RowTimes.{times_in}
+use Rattle.timing_defs.specs.Kinds.{data_split}
 use Rattle.timing_defs.proofs.Members.{some_is}
 use Rattle.netlist_store.specs.Linked.{IsLinked}
 use Rattle.netlist_store.specs.Numbering.{Stored, IsNumbered}

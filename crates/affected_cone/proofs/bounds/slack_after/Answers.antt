@@ -1,6 +1,6 @@
 use Rattle.std.proofs.Common.{ℕ, List, sym, subst, ◌∙◌}
 use Rattle.std.specs.Prelude.{option_map}
-use Rattle.timing_defs.specs.Paths.{IsSlack}
+use Rattle.timing_rules.specs.Paths.{IsSlack}
 use Rattle.timing_defs.proofs.Members.{some_is}
 use Rattle.affected_cone.proofs.BoundLaws.{told_some}
 use Rattle.affected_cone.proofs.EndNumbers.{end_named}

@@ -1,6 +1,6 @@
 use Rattle.std.proofs.Common.{◌≡◌, None, drop}
 use Rattle.timing_defs.specs.declared.kinds.Split.TheVariants.{Early}
-use Rattle.timing_defs.specs.Rows.{outermost, clock_edges}
+use Rattle.timing_rules.specs.Rows.{outermost, clock_edges}
 use Rattle.affected_cone.specs.GraphSlacks.{slack_between}
 use Rattle.affected_cone.proofs.graph_slacks.graph_slack.Given as goal
 

@@ -2,7 +2,7 @@ use Rattle.std.proofs.Common.{◌≡◌, List, map, sym, subst}
 use Rattle.std.specs.Vec.Iter.{into_iter_items}
 use Rattle.itertools.specs.Extremes.{IsKLeast}
 use Rattle.timing_defs.specs.declared.reports.EndRow.{EndRow}
-use Rattle.timing_defs.specs.Reports.{goes_before}
+use Rattle.timing_rules.specs.Reports.{goes_before}
 use Rattle.affected_cone.specs.Ranks.{end_row}
 use Rattle.affected_cone.proofs.RankLaws.{ok_more, least_mapped}
 use Rattle.affected_cone.proofs.ranking.worst_rows.Goals as goal

@@ -1,5 +1,5 @@
 use Rattle.std.proofs.Common.{◌≡◌, None, map, drop}
-use Rattle.timing_defs.specs.Reports.{least_slack}
+use Rattle.timing_rules.specs.Reports.{least_slack}
 use Rattle.affected_cone.specs.Analysed.{slack_in}
 use Rattle.affected_cone.proofs.totals.worst_slack_of.Given as goal
 

@@ -1,5 +1,5 @@
 use Rattle.std.proofs.Common.{◌≡◌, ◌-◌, ◌≤◌, ◌++◌, replicate, length}
-use Rattle.timing_defs.specs.Rows.{empty_row}
+use Rattle.timing_rules.specs.Rows.{empty_row}
 use Rattle.arrival_engine.proofs.tables.lengthen.Given as goal
 
 abbrev pub invariant-loop-at : goal.invariant-loop-at

@@ -1,7 +1,7 @@
 use Rattle.std.proofs.Common.{ℕ, ◌≡◌, ◌<◌, get_or, length, take}
 use Rattle.std.specs.Prelude.{nat_eq, if◌then◌else◌}
 use Rattle.std.specs.List.{list_any}
-use Rattle.timing_defs.specs.Rows.{empty_row}
+use Rattle.timing_rules.specs.Rows.{empty_row}
 use Rattle.pin_graph.specs.Nodes.{pin_under}
 use Rattle.arrival_engine.proofs.updates.empty_pins.Given as goal
 

@@ -1,5 +1,5 @@
 use Rattle.std.proofs.Common.{ℕ, ◌≡◌, ◌+◌, ◌≤◌}
-use Rattle.timing_defs.specs.Cones.{forward_count}
+use Rattle.timing_rules.specs.Cones.{forward_count}
 use Rattle.level_cone.specs.Waiting.{room}
 use Rattle.arrival_engine.proofs.RenewLaws.{IsEdit, IsRenewed}
 use Rattle.arrival_engine.proofs.updates.renew.Given as goal

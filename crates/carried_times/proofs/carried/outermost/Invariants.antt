@@ -1,6 +1,6 @@
 use Rattle.std.proofs.Common.{◌≡◌, Some, drop}
 use Rattle.timing_defs.specs.declared.edge_times.EdgeTime.{EdgeTime}
-use Rattle.timing_defs.specs.Rows.{outermost}
+use Rattle.timing_rules.specs.Rows.{outermost}
 use Rattle.carried_times.specs.Times.{outermost_time}
 use Rattle.carried_times.proofs.carried.outermost.Given as goal
 

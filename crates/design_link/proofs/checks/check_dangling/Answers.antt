@@ -1,7 +1,7 @@
 use Rattle.std.proofs.Common.{◌∙◌, ap, sym, inr, Option, List, ℕ}
 use Rattle.std.specs.Prelude.{option_map}
 use Rattle.timing_defs.specs.declared.faults.Fault.TheVariants.{ConstraintDangling}
-use Rattle.timing_defs.specs.Checks.{least}
+use Rattle.timing_defs.specs.NetChecks.{least}
 use Rattle.design_link.proofs.checks.check_dangling.Goals as goal
 
 pub returns-in-Some : goal.returns-in-Some

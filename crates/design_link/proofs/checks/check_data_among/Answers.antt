@@ -1,7 +1,7 @@
 use Rattle.std.specs.Prelude.{option_map}
 use Rattle.std.specs.Option.{option_copied}
 use Rattle.timing_defs.specs.declared.faults.Fault.TheVariants.{ConstraintDangling, RcNotTree, RcPinsDiffer}
-use Rattle.timing_defs.specs.Checks.{first_of_two}
+use Rattle.timing_defs.specs.NetChecks.{first_of_two}
 use Rattle.design_link.specs.declared.net_tests.NetTest.TheVariants.{NoTree, OtherPins}
 use Rattle.design_link.specs.Failing.{least_among}
 use Rattle.design_link.specs.After.{dangling_among, data_fault_among}

@@ -2,7 +2,7 @@ use Rattle.std.specs.Prelude.{option_map}
 use Rattle.std.specs.Option.{option_copied}
 use Rattle.timing_defs.specs.declared.faults.Fault.TheVariants.{TooLarge, ManyDrivers}
 use Rattle.timing_defs.specs.declared.faults.Large.TheVariants.{Net as large_net}
-use Rattle.timing_defs.specs.Checks.{first_of_two}
+use Rattle.timing_defs.specs.NetChecks.{first_of_two}
 use Rattle.design_link.specs.declared.net_tests.NetTest.TheVariants.{TooManyNodes, TooManyDrivers}
 use Rattle.design_link.specs.Counts.{large_count}
 use Rattle.design_link.specs.Failing.{least_among}

@@ -1,7 +1,7 @@
 use Rattle.std.proofs.Common.{◌≡◌, ◌++◌, ◌∷◌, [], not}
 use Rattle.std.specs.List.{filter_map}
 use Rattle.timing_defs.specs.declared.kinds.Dir.TheVariants.{Input}
-use Rattle.timing_defs.specs.Checks.{is_port, not_ports}
+use Rattle.timing_rules.specs.Checks.{is_port, not_ports}
 use Rattle.design_link.proofs.DanglingLaws.{clock_added, no_clock_port}
 use Rattle.design_link.proofs.Results.{on_ok}
 use Rattle.design_link.proofs.dangling.add_clock.Goals as goal

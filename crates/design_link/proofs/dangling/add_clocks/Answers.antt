@@ -2,7 +2,7 @@ use Rattle.std.proofs.Common.{List, not}
 use Rattle.std.specs.List.{filter_map}
 use Rattle.timing_defs.specs.declared.kinds.Dir.TheVariants.{Input}
 use Rattle.timing_defs.specs.declared.constraints.Clock.{Clock}
-use Rattle.timing_defs.specs.Checks.{is_port, not_ports}
+use Rattle.timing_rules.specs.Checks.{is_port, not_ports}
 use Rattle.design_link.proofs.DanglingLaws.{grown, some_filter}
 use Rattle.design_link.proofs.dangling.add_clocks.Goals as goal
 

@@ -1,6 +1,6 @@
 use Rattle.std.proofs.Common.{List, not, map}
 use Rattle.timing_defs.specs.declared.constraints.PortDelay.{PortDelay}
-use Rattle.timing_defs.specs.Checks.{is_port, not_ports}
+use Rattle.timing_rules.specs.Checks.{is_port, not_ports}
 use Rattle.design_link.proofs.DanglingLaws.{grown, mapped_filter}
 use Rattle.design_link.proofs.dangling.add_delays.Goals as goal
 

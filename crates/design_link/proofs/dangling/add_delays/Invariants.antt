@@ -1,5 +1,5 @@
 use Rattle.std.proofs.Common.{◌≡◌, ◌++◌, map, take}
-use Rattle.timing_defs.specs.Checks.{not_ports}
+use Rattle.timing_rules.specs.Checks.{not_ports}
 use Rattle.design_link.proofs.dangling.add_delays.Given as goal
 
 abbrev pub invariant-loop-delay : goal.invariant-loop-delay

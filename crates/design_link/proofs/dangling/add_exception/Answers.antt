@@ -1,5 +1,5 @@
 use Rattle.timing_defs.specs.declared.kinds.Dir.TheVariants.{Input, Output}
-use Rattle.timing_defs.specs.Checks.{dangling_objects}
+use Rattle.timing_rules.specs.Checks.{dangling_objects}
 use Rattle.design_link.proofs.DanglingLaws.{two_lists}
 use Rattle.design_link.proofs.dangling.add_exception.Goals as goal
 

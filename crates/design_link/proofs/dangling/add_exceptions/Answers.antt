@@ -1,7 +1,7 @@
 use Rattle.std.proofs.Common.{◌++◌, ◌∙◌, ap, sym, append-nil}
 use Rattle.std.specs.List.{flat_map}
 use Rattle.std.proofs.lemmas.Grind.{flat_map-append}
-use Rattle.timing_defs.specs.Checks.{dangling_exception}
+use Rattle.timing_rules.specs.Checks.{dangling_exception}
 use Rattle.design_link.proofs.DanglingLaws.{grown}
 use Rattle.design_link.proofs.dangling.add_exceptions.Goals as goal
 

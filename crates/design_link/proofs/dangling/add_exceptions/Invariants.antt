@@ -1,6 +1,6 @@
 use Rattle.std.proofs.Common.{◌≡◌, ◌++◌, take}
 use Rattle.std.specs.List.{flat_map}
-use Rattle.timing_defs.specs.Checks.{dangling_exception}
+use Rattle.timing_rules.specs.Checks.{dangling_exception}
 use Rattle.design_link.proofs.dangling.add_exceptions.Given as goal
 
 abbrev pub invariant-loop-exception : goal.invariant-loop-exception

@@ -1,6 +1,6 @@
 use Rattle.std.proofs.Common.{◌∙◌, ap, sym}
 use Rattle.std.specs.Prelude.{is_none, is_some}
-use Rattle.timing_defs.specs.Checks.{port_named}
+use Rattle.timing_rules.specs.Checks.{port_named}
 use Rattle.design_link.proofs.DanglingLaws.{name_added, is_unnamed}
 use Rattle.design_link.proofs.dangling.add_load.Goals as goal
 

@@ -1,7 +1,7 @@
 use Rattle.std.proofs.Common.{List, map, filter}
 use Rattle.std.specs.Prelude.{is_none}
 use Rattle.timing_defs.specs.declared.constraints.PortLoad.{PortLoad}
-use Rattle.timing_defs.specs.Checks.{port_named}
+use Rattle.timing_rules.specs.Checks.{port_named}
 use Rattle.design_link.proofs.DanglingLaws.{grown, mapped_filter}
 use Rattle.design_link.proofs.dangling.add_loads.Goals as goal
 

@@ -1,6 +1,6 @@
 use Rattle.std.proofs.Common.{◌≡◌, ◌++◌, map, filter, take}
 use Rattle.std.specs.Prelude.{is_none}
-use Rattle.timing_defs.specs.Checks.{port_named}
+use Rattle.timing_rules.specs.Checks.{port_named}
 use Rattle.design_link.proofs.dangling.add_loads.Given as goal
 
 abbrev pub invariant-loop-load : goal.invariant-loop-load

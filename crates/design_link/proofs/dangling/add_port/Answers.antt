@@ -1,5 +1,5 @@
 use Rattle.std.proofs.Common.{not, ap}
-use Rattle.timing_defs.specs.Checks.{is_port}
+use Rattle.timing_rules.specs.Checks.{is_port}
 use Rattle.design_link.proofs.DanglingLaws.{name_added}
 use Rattle.design_link.proofs.dangling.add_port.Goals as goal
 

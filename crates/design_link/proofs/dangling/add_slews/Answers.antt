@@ -1,7 +1,7 @@
 use Rattle.std.proofs.Common.{List, not, map}
 use Rattle.timing_defs.specs.declared.kinds.Dir.TheVariants.{Input}
 use Rattle.timing_defs.specs.declared.constraints.PortSlew.{PortSlew}
-use Rattle.timing_defs.specs.Checks.{is_port, not_ports}
+use Rattle.timing_rules.specs.Checks.{is_port, not_ports}
 use Rattle.design_link.proofs.DanglingLaws.{grown, mapped_filter}
 use Rattle.design_link.proofs.dangling.add_slews.Goals as goal
 

@@ -1,6 +1,6 @@
 use Rattle.std.proofs.Common.{◌≡◌, ◌++◌, map, take}
 use Rattle.timing_defs.specs.declared.kinds.Dir.TheVariants.{Input}
-use Rattle.timing_defs.specs.Checks.{not_ports}
+use Rattle.timing_rules.specs.Checks.{not_ports}
 use Rattle.design_link.proofs.dangling.add_slews.Given as goal
 
 abbrev pub invariant-loop-slew : goal.invariant-loop-slew

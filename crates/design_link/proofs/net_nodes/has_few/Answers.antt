@@ -1,5 +1,5 @@
 use Rattle.std.proofs.Common.{◌≤◌, ◌*◌, [], arith}
-use Rattle.timing_defs.specs.Checks.{nodes_of_rc, different}
+use Rattle.timing_defs.specs.NetChecks.{nodes_of_rc, different}
 use Rattle.design_link.proofs.NetPinLaws.{pins_on_net}
 use Rattle.design_link.proofs.NetNodeLaws.{few_on_net}
 use Rattle.design_link.proofs.net_nodes.has_few.Goals as goal

@@ -1,5 +1,5 @@
 use Rattle.std.proofs.Common.{◌∙◌, nat_lt, ap}
-use Rattle.timing_defs.specs.Checks.{nodes_of_rc}
+use Rattle.timing_defs.specs.NetChecks.{nodes_of_rc}
 use Rattle.design_link.specs.Nodes.{nodes_in}
 use Rattle.design_link.proofs.NodeLaws.{different_same}
 use Rattle.design_link.proofs.net_nodes.is_large.Goals as goal

@@ -2,7 +2,7 @@ use Rattle.std.proofs.Common.{◌∷◌, ◌++◌, [], map, filter, ap, sym, sub
 use Rattle.std.specs.List.{flat_map}
 use Rattle.timing_defs.specs.Netlist.{pins, is_on}
 use Rattle.timing_defs.specs.Wires.{is_lumped, root_node}
-use Rattle.timing_defs.specs.Checks.{named_nodes}
+use Rattle.timing_defs.specs.NetChecks.{named_nodes}
 use Rattle.design_link.specs.Nodes.{nodes_in, is_node, HaveSameNodes}
 use Rattle.design_link.proofs.NodeLaws.{all_nodes}
 use Rattle.design_link.proofs.NetNodeLaws.{lumped_or}

@@ -1,6 +1,6 @@
 use Rattle.std.proofs.Common.{◌≡◌, ◌∙◌, sym, ap, filter, length}
 use Rattle.std.specs.Option.{option_copied}
-use Rattle.timing_defs.specs.Checks.{least}
+use Rattle.timing_defs.specs.NetChecks.{least}
 use Rattle.design_link.specs.Counts.{names_below}
 use Rattle.design_link.specs.Failing.{fails, least_among}
 use Rattle.design_link.proofs.FailLaws.{least_found}

@@ -1,5 +1,5 @@
 use Rattle.std.proofs.Common.{◌≡◌, ◌∙◌, sym}
-use Rattle.timing_defs.specs.Checks.{is_large_net}
+use Rattle.timing_defs.specs.NetChecks.{is_large_net}
 use Rattle.design_link.specs.declared.net_tests.NetTest.TheVariants.{TooManyNodes}
 use Rattle.design_link.specs.Failing.{fails_at}
 use Rattle.design_link.proofs.NetNodeLaws.{rc_test, no_rc_test}

@@ -1,6 +1,6 @@
 use Rattle.std.proofs.Common.{◌≡◌, ◌∙◌, not, sym}
 use Rattle.timing_defs.specs.declared.parasitics.NetRc.{NetRc}
-use Rattle.timing_defs.specs.Checks.{is_tree}
+use Rattle.timing_defs.specs.NetChecks.{is_tree}
 use Rattle.design_link.specs.declared.net_tests.NetTest.TheVariants.{NoTree}
 use Rattle.design_link.specs.Failing.{fails_at}
 use Rattle.design_link.proofs.NetNodeLaws.{rc_test, no_rc_test}

@@ -1,6 +1,6 @@
 use Rattle.std.proofs.Common.{◌≡◌, ◌∙◌, not, sym}
 use Rattle.timing_defs.specs.declared.parasitics.NetRc.{NetRc}
-use Rattle.timing_defs.specs.Checks.{pins_agree}
+use Rattle.timing_defs.specs.NetChecks.{pins_agree}
 use Rattle.design_link.specs.declared.net_tests.NetTest.TheVariants.{OtherPins}
 use Rattle.design_link.specs.Failing.{fails_at}
 use Rattle.design_link.proofs.NetNodeLaws.{rc_test, no_rc_test}

@@ -1,5 +1,5 @@
 use Rattle.std.proofs.Common.{◌≡◌, ◌∙◌}
-use Rattle.timing_defs.specs.Checks.{is_tree}
+use Rattle.timing_defs.specs.NetChecks.{is_tree}
 use Rattle.design_link.specs.Rooted.{is_rooted}
 use Rattle.design_link.proofs.TreeLaws.{is_good_rc, tree_is, no_tree_is}
 use Rattle.design_link.proofs.Results.{if_ok}

@@ -1,5 +1,5 @@
 use Rattle.std.proofs.Common.{◌∙◌, ap}
-use Rattle.timing_defs.specs.Checks.{least}
+use Rattle.timing_defs.specs.NetChecks.{least}
 use Rattle.design_link.proofs.net_tests.least_net.Goals as goal
 
 pub returns : goal.returns

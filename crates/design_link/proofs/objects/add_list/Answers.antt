@@ -1,6 +1,6 @@
 use Rattle.std.specs.List.{filter_map}
 use Rattle.std.proofs.lemmas.List.Elements.{filter_map-append}
-use Rattle.timing_defs.specs.Checks.{dangling_object}
+use Rattle.timing_rules.specs.Checks.{dangling_object}
 use Rattle.design_link.proofs.DanglingLaws.{grown}
 use Rattle.design_link.proofs.objects.add_list.Goals as goal
 

@@ -1,6 +1,6 @@
 use Rattle.std.proofs.Common.{◌≡◌, ◌++◌, take}
 use Rattle.std.specs.List.{filter_map}
-use Rattle.timing_defs.specs.Checks.{dangling_object}
+use Rattle.timing_rules.specs.Checks.{dangling_object}
 use Rattle.design_link.proofs.objects.add_list.Given as goal
 
 abbrev pub invariant-loop-object : goal.invariant-loop-object

@@ -1,7 +1,8 @@
 use Rattle.std.proofs.Common.{◌≡◌, ◌∙◌, ap, sym}
 use Rattle.std.specs.Prelude.{◌||◌}
-use Rattle.timing_defs.specs.Rules.{as_pin, is_clock_name}
-use Rattle.timing_defs.specs.Checks.{is_pin, is_inst, is_any}
+use Rattle.timing_defs.specs.Names.{as_pin}
+use Rattle.timing_rules.specs.Rules.{is_clock_name}
+use Rattle.timing_rules.specs.Checks.{is_pin, is_inst, is_any}
 use Rattle.design_link.proofs.DanglingLaws.{any_clock, any_port, any_other}
 use Rattle.design_link.proofs.Results.{if_ok}
 use Rattle.design_link.proofs.objects.is_any.Goals as goal

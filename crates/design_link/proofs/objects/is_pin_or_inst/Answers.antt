@@ -1,8 +1,8 @@
 use Rattle.std.proofs.Common.{◌∙◌, ap, sym}
 use Rattle.std.specs.Prelude.{◌||◌}
 use Rattle.std.proofs.lemmas.Bool.{or_left}
-use Rattle.timing_defs.specs.Rules.{as_pin}
-use Rattle.timing_defs.specs.Checks.{is_pin, is_inst}
+use Rattle.timing_defs.specs.Names.{as_pin}
+use Rattle.timing_rules.specs.Checks.{is_pin, is_inst}
 use Rattle.design_link.proofs.objects.is_pin_or_inst.Goals as goal
 
 pub returns-then-is_pin : goal.returns-then-is_pin

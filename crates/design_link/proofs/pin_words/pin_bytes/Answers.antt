@@ -1,6 +1,6 @@
 use Rattle.std.proofs.Common.{◌∙◌, ap, sym}
 use Rattle.timing_defs.specs.Names.{is_name}
-use Rattle.timing_defs.specs.Rules.{as_pin}
+use Rattle.timing_defs.specs.Names.{as_pin}
 use Rattle.design_link.proofs.WordLaws.{pin_split, pin_name}
 use Rattle.design_link.proofs.pin_words.pin_bytes.Goals as goal
 

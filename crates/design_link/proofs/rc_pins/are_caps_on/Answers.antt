@@ -2,7 +2,7 @@ use Rattle.std.proofs.Common.{◌∙◌, ap, sym}
 use Rattle.std.specs.List.{list_all}
 use Rattle.std.proofs.lemmas.List.{take_all}
 use Rattle.timing_defs.specs.declared.parasitics.RcCap.{RcCap}
-use Rattle.timing_defs.specs.Checks.{is_pin_of}
+use Rattle.timing_defs.specs.NetChecks.{is_pin_of}
 use Rattle.design_link.proofs.RcPinLaws.{all_more, not_all}
 use Rattle.design_link.proofs.rc_pins.are_caps_on.Goals as goal
 

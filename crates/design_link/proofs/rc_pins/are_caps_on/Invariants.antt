@@ -1,6 +1,6 @@
 use Rattle.std.proofs.Common.{◌≡◌, ℕ, List, Some, true, take}
 use Rattle.std.specs.List.{list_all}
-use Rattle.timing_defs.specs.Checks.{is_pin_of}
+use Rattle.timing_defs.specs.NetChecks.{is_pin_of}
 use Rattle.netlist_store.specs.Numbering.{name_at}
 use Rattle.design_link.proofs.rc_pins.are_caps_on.Given as goal
 

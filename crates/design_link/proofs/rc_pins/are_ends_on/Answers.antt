@@ -3,7 +3,7 @@ use Rattle.std.specs.Prelude.{◌&&◌}
 use Rattle.std.specs.List.{list_all}
 use Rattle.std.proofs.lemmas.List.{take_all}
 use Rattle.timing_defs.specs.declared.parasitics.RcRes.{RcRes}
-use Rattle.timing_defs.specs.Checks.{is_pin_of}
+use Rattle.timing_defs.specs.NetChecks.{is_pin_of}
 use Rattle.design_link.proofs.RcPinLaws.{all_more, not_all}
 use Rattle.design_link.proofs.rc_pins.are_ends_on.Goals as goal
 

@@ -1,6 +1,6 @@
 use Rattle.std.proofs.Common.{◌∙◌, ap, sym}
 use Rattle.std.specs.Prelude.{◌&&◌}
-use Rattle.timing_defs.specs.Checks.{is_pin_of}
+use Rattle.timing_defs.specs.NetChecks.{is_pin_of}
 use Rattle.design_link.proofs.rc_pins.has_ends_on.Goals as goal
 
 pub returns-then-not-is_pin_of : goal.returns-then-not-is_pin_of

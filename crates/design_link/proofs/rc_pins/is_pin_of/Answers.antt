@@ -1,5 +1,5 @@
 use Rattle.std.proofs.Common.{◌∙◌, ap, sym}
-use Rattle.timing_defs.specs.Checks.{is_pin_of}
+use Rattle.timing_defs.specs.NetChecks.{is_pin_of}
 use Rattle.design_link.proofs.rc_pins.is_pin_of.Goals as goal
 
 pub returns-in-Pin : goal.returns-in-Pin

@@ -1,7 +1,7 @@
 use Rattle.std.proofs.Common.{◌≡◌, ◌∙◌, ℕ, List, Some, filter, sym}
 use Rattle.std.specs.List.{list_all}
 use Rattle.timing_defs.specs.Netlist.{pins, is_on}
-use Rattle.timing_defs.specs.Checks.{has_resistor, pins_agree}
+use Rattle.timing_defs.specs.NetChecks.{has_resistor, pins_agree}
 use Rattle.netlist_store.specs.Numbering.{name_at}
 use Rattle.design_link.proofs.NetNodeLaws.{rc_net}
 use Rattle.design_link.proofs.RcPinLaws.{not_agree, lumped_agree, ends_agree}

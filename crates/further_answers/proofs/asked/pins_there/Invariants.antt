@@ -1,6 +1,6 @@
 use Rattle.std.proofs.Common.{◌≡◌, drop}
 use Rattle.timing_defs.specs.Wires.{first_some}
-use Rattle.timing_defs.specs.Reports.{unknown_pin}
+use Rattle.timing_rules.specs.Reports.{unknown_pin}
 use Rattle.further_answers.proofs.asked.pins_there.Given as goal
 
 abbrev pub invariant-loop-pin : goal.invariant-loop-pin

@@ -2,7 +2,7 @@ use Rattle.std.proofs.Common.{◌<◌, [], ◌∷◌, List, length, subst, ap, �
 use Rattle.timing_defs.specs.declared.constraints.Clock.{Clock}
 use Rattle.timing_defs.specs.declared.constraints.Constraints.{Constraints}
 use Rattle.timing_defs.specs.declared.kinds.Tran.TheVariants.{Rise, Fall}
-use Rattle.timing_defs.specs.Rows.{launch_edges}
+use Rattle.timing_rules.specs.Rows.{launch_edges}
 use Rattle.node_rows.specs.Evaluation.{IsUnfit, arrival_over, are_wide_times}
 use Rattle.node_rows.proofs.ConstraintLaws.{few_clocks}
 use Rattle.node_rows.proofs.StepLaws.{timed, wide_time}

@@ -1,6 +1,6 @@
 use Rattle.std.proofs.Common.{◌≡◌, drop, None, true}
-use Rattle.timing_defs.specs.Rows.{outermost}
-use Rattle.timing_defs.specs.Range.{within_some}
+use Rattle.timing_rules.specs.Rows.{outermost}
+use Rattle.timing_rules.specs.Range.{within_some}
 use Rattle.node_rows.specs.declared.arcs.ArcValues.{ArcValues}
 use Rattle.node_rows.proofs.merges.merged_slew.Given as goal
 

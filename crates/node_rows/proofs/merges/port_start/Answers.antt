@@ -3,7 +3,7 @@ use Rattle.std.specs.List.{list_any}
 use Rattle.timing_defs.specs.declared.constraints.Clock.{Clock}
 use Rattle.timing_defs.specs.declared.constraints.Constraints.{Constraints}
 use Rattle.timing_defs.specs.Netlist.{same_tran}
-use Rattle.timing_defs.specs.Rows.{is_clock_at}
+use Rattle.timing_rules.specs.Rows.{is_clock_at}
 use Rattle.node_rows.specs.Evaluation.{has_clock}
 use Rattle.node_rows.proofs.ConstraintLaws.{inputs_apart}
 use Rattle.node_rows.proofs.SlewForms.{clock_starts, delay_starts, none_starts}

@@ -1,5 +1,5 @@
 use Rattle.std.proofs.Common.{◌≡◌, drop}
-use Rattle.timing_defs.specs.Rows.{time_on}
+use Rattle.timing_defs.specs.RowTimes.{time_on}
 use Rattle.node_rows.proofs.merges.time_on.Given as goal
 
 abbrev pub invariant-loop-time : goal.invariant-loop-time

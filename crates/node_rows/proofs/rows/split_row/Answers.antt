@@ -1,6 +1,6 @@
 use Rattle.std.proofs.Common.{List, map, sym, ap, ◌∙◌}
 use Rattle.std.specs.List.{list_any}
-use Rattle.timing_defs.specs.Rows.{launch_edges}
+use Rattle.timing_rules.specs.Rows.{launch_edges}
 use Rattle.node_rows.specs.declared.arcs.ArcValues.{ArcValues}
 use Rattle.node_rows.specs.Evaluation.{IsUnfit, arrival_over, are_wide_times, told_values, told_wide, is_wide_split}
 use Rattle.node_rows.proofs.StepLaws.{rows_within}

@@ -1,7 +1,7 @@
 use Rattle.std.proofs.Common.{◌≡◌, true, false, Some, sym, ap, ◌∙◌, rules, FitsSigned, w64}
 use Rattle.std.specs.List.{list_all}
 use Rattle.std.proofs.lemmas.Int.{to_z-of_z}
-use Rattle.timing_defs.specs.Range.{within_some}
+use Rattle.timing_rules.specs.Range.{within_some}
 use Rattle.node_rows.specs.declared.arcs.ArcValues.{ArcValues}
 use Rattle.node_rows.specs.Between.{has_tables, are_within}
 use Rattle.node_rows.specs.Evaluation.{IsAlong, told_wide, scaled_values}

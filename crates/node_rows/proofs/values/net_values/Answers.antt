@@ -1,6 +1,6 @@
 use Rattle.std.proofs.Common.{◌≡◌, true, false, ap, ◌∙◌, rules, FitsSigned, w64}
 use Rattle.std.proofs.lemmas.Int.{to_z-of_z}
-use Rattle.timing_defs.specs.Rows.{factor_of}
+use Rattle.timing_rules.specs.Rows.{factor_of}
 use Rattle.timing_defs.specs.declared.constraints.Constraints.{Constraints}
 use Rattle.node_rows.specs.Evaluation.{IsAlong, told_wide}
 use Rattle.node_rows.proofs.ValueForms.{wire_low, delay_wrong}

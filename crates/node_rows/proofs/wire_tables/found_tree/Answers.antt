@@ -1,6 +1,6 @@
 use Rattle.std.proofs.Common.{◌∙◌}
 use Rattle.timing_defs.specs.declared.kinds.Split.TheVariants.{Early, Late}
-use Rattle.timing_defs.specs.Range.{is_net_origin}
+use Rattle.timing_rules.specs.Range.{is_net_origin}
 use Rattle.node_rows.specs.declared.unfit.Unfit.TheVariants.{Memory}
 use Rattle.node_rows.specs.Evaluation.{IsUnfit}
 use Rattle.node_rows.specs.NetTrees.{is_wide_net, late_of}

@@ -1,5 +1,5 @@
 use Rattle.timing_defs.specs.declared.kinds.Split.TheVariants.{Early, Late}
-use Rattle.timing_defs.specs.Range.{is_net_origin}
+use Rattle.timing_rules.specs.Range.{is_net_origin}
 use Rattle.node_rows.specs.Evaluation.{IsUnfit}
 use Rattle.node_rows.specs.NetTrees.{is_wide_tree}
 use Rattle.node_rows.proofs.TreeNets.{no_origin, early_origin, late_origin}

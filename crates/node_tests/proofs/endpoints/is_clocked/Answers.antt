@@ -1,7 +1,7 @@
 use Rattle.std.proofs.Common.{◌≡◌, Some, refl}
 use Rattle.std.specs.Prelude.{option_map}
 use Rattle.std.specs.List.{list_any}
-use Rattle.timing_defs.specs.Tests.{is_clocked}
+use Rattle.timing_rules.specs.Tests.{is_clocked}
 use Rattle.netlist_store.specs.Numbering.{pin_numbered}
 use Rattle.node_rows.proofs.ResultLaws.{ok_more}
 use Rattle.node_tests.specs.Endpoints.{is_clocked_by}

@@ -1,5 +1,5 @@
 use Rattle.std.proofs.Common.{◌≡◌, take, map, filter}
-use Rattle.timing_defs.specs.Tests.{data_split}
+use Rattle.timing_defs.specs.Kinds.{data_split}
 use Rattle.node_tests.specs.Outputs.{is_delay_of, delay_test}
 use Rattle.node_tests.proofs.outputs.output_tests.Given as goal
 

@@ -1,5 +1,5 @@
 use Rattle.std.proofs.Common.{Bool, sym, subst}
-use Rattle.timing_defs.specs.Tests.{data_split, clock_split}
+use Rattle.timing_defs.specs.Kinds.{data_split, clock_split}
 use Rattle.node_rows.specs.Evaluation.{IsPlaced}
 use Rattle.node_tests.specs.NodeTests.{name_numbered}
 use Rattle.node_tests.proofs.AskedLaws.{target_slew, pin_number, name_is}

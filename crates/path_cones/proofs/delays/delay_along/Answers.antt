@@ -2,7 +2,7 @@ use Rattle.std.proofs.Common.{◌≡◌, ◌<◌, ℕ, ℤ, Option, sym, subst, 
 use Rattle.std.specs.Prelude.{IfSome}
 use Rattle.sta_units.specs.Numbers.{Within}
 use Rattle.timing_defs.specs.declared.kinds.Split.{Split}
-use Rattle.timing_defs.specs.Tests.{data_split}
+use Rattle.timing_defs.specs.Kinds.{data_split}
 use Rattle.arc_delays.specs.Delays.{delay_numbered}
 use Rattle.path_cones.proofs.Growing.{from_low}
 use Rattle.path_cones.proofs.delays.delay_along.Goals as goal

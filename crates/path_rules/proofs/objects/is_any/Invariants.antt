@@ -1,6 +1,6 @@
 use Rattle.std.proofs.Common.{◌≡◌, false, take}
 use Rattle.std.specs.List.{list_any}
-use Rattle.timing_defs.specs.Rules.{is_object}
+use Rattle.timing_rules.specs.Rules.{is_object}
 use Rattle.path_rules.specs.Ends.{end_of}
 use Rattle.path_rules.proofs.objects.is_any.Given as goal
 

@@ -1,5 +1,5 @@
 use Rattle.std.proofs.Common.{◌≡◌, ℕ, ◌<◌, ◌≤◌, false, length, get_or}
-use Rattle.timing_defs.specs.Rules.{is_split}
+use Rattle.timing_defs.specs.Names.{is_split}
 use Rattle.path_rules.proofs.words.last_split.Given as goal
 
 abbrev pub invariant-loop-end : goal.invariant-loop-end

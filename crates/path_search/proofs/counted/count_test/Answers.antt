@@ -1,6 +1,6 @@
 use Rattle.std.proofs.Common.{FitsSigned, refl}
 use Rattle.std.proofs.lemmas.Int.{to_z-of_z}
-use Rattle.timing_defs.specs.Tests.{data_split}
+use Rattle.timing_defs.specs.Kinds.{data_split}
 use Rattle.path_search.proofs.OfferForms.{launch_placed, tests_ready, tests_placed}
 use Rattle.path_search.proofs.CountForms.{tests_known, chosen_placed, chosen_there, chosen_counted}
 use Rattle.path_search.proofs.counted.count_test.Goals as goal

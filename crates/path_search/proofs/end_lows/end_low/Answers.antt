@@ -2,8 +2,9 @@ use Rattle.std.proofs.Common.{◌≡◌, ◌<◌, ℤ, List, length, Option, sym
 use Rattle.std.specs.Prelude.{All, IfSome}
 use Rattle.timing_defs.specs.declared.edge_times.EdgeTime.{EdgeTime}
 use Rattle.timing_defs.specs.declared.kinds.Split.TheVariants.{Early}
-use Rattle.timing_defs.specs.Rows.{outer_some, times_in}
-use Rattle.timing_defs.specs.Tests.{data_split}
+use Rattle.timing_rules.specs.Rows.{outer_some}
+use Rattle.timing_defs.specs.RowTimes.{times_in}
+use Rattle.timing_defs.specs.Kinds.{data_split}
 use Rattle.pin_graph.specs.RowTables.{row_numbered}
 use Rattle.timing_defs.proofs.Members.{some_is}
 use Rattle.bounded_changes.specs.Carried.{IsBeyond}

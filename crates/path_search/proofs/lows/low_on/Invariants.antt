@@ -1,6 +1,6 @@
 use Rattle.std.proofs.Common.{◌≡◌, drop}
 use Rattle.timing_defs.specs.declared.kinds.Split.TheVariants.{Early}
-use Rattle.timing_defs.specs.Rows.{outermost}
+use Rattle.timing_rules.specs.Rows.{outermost}
 use Rattle.path_search.specs.EndLows.{edge_at, low_on}
 use Rattle.path_search.specs.Lows.{low_over}
 use Rattle.path_search.proofs.lows.low_on.Given as goal

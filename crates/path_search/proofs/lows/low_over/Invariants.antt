@@ -1,6 +1,7 @@
 use Rattle.std.proofs.Common.{◌≡◌, Some, drop}
 use Rattle.timing_defs.specs.declared.kinds.Split.TheVariants.{Early}
-use Rattle.timing_defs.specs.Rows.{edge_of, outermost}
+use Rattle.timing_defs.specs.RowTimes.{edge_of}
+use Rattle.timing_rules.specs.Rows.{outermost}
 use Rattle.path_search.specs.Lows.{low_told, low_over}
 use Rattle.path_search.proofs.lows.low_over.Given as goal
 

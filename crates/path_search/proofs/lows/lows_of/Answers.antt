@@ -1,7 +1,8 @@
 use Rattle.std.proofs.Common.{◌++◌, sym, ap, ◌∙◌, arith}
 use Rattle.std.specs.Prelude.{option_map}
 use Rattle.std.specs.Option.{option_to_list}
-use Rattle.timing_defs.specs.Rows.{edge_of, edge_time}
+use Rattle.timing_defs.specs.RowTimes.{edge_of}
+use Rattle.timing_rules.specs.Rows.{edge_time}
 use Rattle.path_search.specs.Lows.{low_over, lows_told}
 use Rattle.path_search.proofs.LowLists.{lows_more, lows_done}
 use Rattle.path_search.proofs.lows.lows_of.Goals as goal

@@ -1,7 +1,7 @@
 use Rattle.std.proofs.Common.{◌≡◌, ◌++◌, drop}
 use Rattle.std.specs.Prelude.{option_map}
 use Rattle.std.specs.List.{filter_map}
-use Rattle.timing_defs.specs.Rows.{clock_edges, edge_time}
+use Rattle.timing_rules.specs.Rows.{clock_edges, edge_time}
 use Rattle.path_search.specs.Lows.{low_over, lows_told}
 use Rattle.path_search.proofs.lows.lows_of.Given as goal
 

@@ -1,4 +1,4 @@
-use Rattle.timing_defs.specs.Tests.{data_split}
+use Rattle.timing_defs.specs.Kinds.{data_split}
 use Rattle.path_search.proofs.OfferForms.{launch_ready, launch_placed, tests_ready, tests_placed, offer_as}
 use Rattle.path_search.proofs.offers.launch_offer.Goals as goal
 

@@ -1,5 +1,5 @@
 use Rattle.std.proofs.Common.{Option, subst}
-use Rattle.timing_defs.specs.Tests.{data_split}
+use Rattle.timing_defs.specs.Kinds.{data_split}
 use Rattle.path_search.specs.declared.launches.LaunchNode.{LaunchNode}
 use Rattle.path_search.specs.Slacks.{MayLaunch}
 use Rattle.path_search.proofs.EndLaws.{rows_fine}

@@ -1,5 +1,5 @@
 use Rattle.std.proofs.Common.{sym, subst}
-use Rattle.timing_defs.specs.Paths.{IsSlack}
+use Rattle.timing_rules.specs.Paths.{IsSlack}
 use Rattle.path_search.proofs.searching.pin_slack.Goals as goal
 
 pub returns : goal.returns

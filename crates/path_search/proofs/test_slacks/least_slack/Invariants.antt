@@ -1,6 +1,6 @@
 use Rattle.std.proofs.Common.{◌≡◌, drop, true}
 use Rattle.timing_defs.specs.declared.kinds.Split.TheVariants.{Early}
-use Rattle.timing_defs.specs.Rows.{outermost}
+use Rattle.timing_rules.specs.Rows.{outermost}
 use Rattle.path_search.specs.Slacks.{slack_where, least_slack, is_low}
 use Rattle.path_search.proofs.test_slacks.least_slack.Given as goal
 

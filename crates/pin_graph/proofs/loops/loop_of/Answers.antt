@@ -1,5 +1,5 @@
 use Rattle.std.proofs.Common.{◌≡◌, ◌++◌, ◌∙◌, List, ℕ, take, drop, sym, ap}
-use Rattle.timing_defs.specs.Checks.{is_loop}
+use Rattle.timing_rules.specs.Checks.{is_loop}
 use Rattle.pin_graph.proofs.LoopLaws.{nodes_are, turned_loop, turned_ok}
 use Rattle.pin_graph.proofs.loops.loop_of.Goals as goal
 

@@ -1,5 +1,5 @@
 use Rattle.std.proofs.Common.{◌≡◌, ◌⊎◌, true, sym, subst}
-use Rattle.timing_defs.specs.Checks.{has_cycle}
+use Rattle.timing_defs.specs.NetChecks.{has_cycle}
 use Rattle.rc_tree.specs.declared.faults.RcFault.TheVariants.{Loop, Memory}
 use Rattle.rc_tree.specs.Numbering.{numbered}
 use Rattle.rc_tree.specs.Growth.{AreSegments}

@@ -1,6 +1,6 @@
 use Rattle.std.proofs.Common.{◌≡◌, drop}
-use Rattle.timing_defs.specs.Rows.{outermost}
-use Rattle.timing_defs.specs.Required.{other_split}
+use Rattle.timing_rules.specs.Rows.{outermost}
+use Rattle.timing_defs.specs.Kinds.{other_split}
 use Rattle.required_engine.specs.Behinds.{over_arc, over_arcs}
 use Rattle.required_engine.proofs.arcs_out.over_arcs.Given as goal
 

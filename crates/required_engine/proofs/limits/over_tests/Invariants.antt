@@ -1,6 +1,6 @@
 use Rattle.std.proofs.Common.{◌≡◌, drop, Some}
-use Rattle.timing_defs.specs.Rows.{outermost}
-use Rattle.timing_defs.specs.Required.{kind_of, other_split}
+use Rattle.timing_rules.specs.Rows.{outermost}
+use Rattle.timing_defs.specs.Kinds.{kind_of, other_split}
 use Rattle.node_tests.specs.declared.node_test.NodeTest.{NodeTest}
 use Rattle.required_engine.specs.Behinds.{told_limit, over_tests}
 use Rattle.required_engine.proofs.limits.over_tests.Given as goal

@@ -1,5 +1,5 @@
 use Rattle.std.proofs.Common.{refl}
-use Rattle.timing_defs.specs.Rows.{times_in}
+use Rattle.timing_defs.specs.RowTimes.{times_in}
 use Rattle.required_engine.specs.declared.arcs_out.ArcsOut.{ArcsOut}
 use Rattle.required_engine.specs.Behinds.{over_behind}
 use Rattle.required_engine.specs.declared.times.Behind.TheVariants.{Tests, Arcs}

@@ -1,8 +1,8 @@
 use Rattle.std.proofs.Common.{not, ap, sym, ◌∙◌, arith}
 use Rattle.std.proofs.lemmas.List.{get_or_past}
 use Rattle.std.proofs.lemmas.Option.{get_or_from_slice_get}
-use Rattle.timing_defs.specs.Required.{empty_back}
-use Rattle.timing_defs.specs.Cones.{same_back}
+use Rattle.timing_rules.specs.Required.{empty_back}
+use Rattle.timing_rules.specs.Cones.{same_back}
 use Rattle.required_engine.specs.Updated.{back_at}
 use Rattle.required_engine.proofs.renewing.is_other.Goals as goal
 

@@ -1,6 +1,6 @@
 use Rattle.std.proofs.Common.{◌≡◌, drop}
 use Rattle.std.specs.Cmp.Lexicographic.{pointwise}
-use Rattle.timing_defs.specs.Cones.{same_time}
+use Rattle.timing_rules.specs.Cones.{same_time}
 use Rattle.required_engine.proofs.renewing.same_times.Given as goal
 
 abbrev pub invariant-loop-time : goal.invariant-loop-time

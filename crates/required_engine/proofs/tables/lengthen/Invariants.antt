@@ -1,5 +1,5 @@
 use Rattle.std.proofs.Common.{◌≡◌, ◌-◌, ◌≤◌, ◌++◌, replicate, length}
-use Rattle.timing_defs.specs.Required.{empty_back}
+use Rattle.timing_rules.specs.Required.{empty_back}
 use Rattle.required_engine.proofs.tables.lengthen.Given as goal
 
 abbrev pub invariant-loop-at : goal.invariant-loop-at

@@ -1,5 +1,5 @@
 use Rattle.std.proofs.Common.{not, map, get_or}
-use Rattle.timing_defs.specs.Range.{within_some}
+use Rattle.timing_rules.specs.Range.{within_some}
 use Rattle.node_rows.specs.Evaluation.{are_wide_times}
 use Rattle.node_rows.proofs.ResultLaws.{handed_up}
 use Rattle.required_engine.specs.Behinds.{over_behind, edge_of}

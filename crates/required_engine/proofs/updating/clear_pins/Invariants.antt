@@ -1,6 +1,6 @@
 use Rattle.std.proofs.Common.{ℕ, ◌≡◌, length, take}
 use Rattle.std.specs.Prelude.{if◌then◌else◌}
-use Rattle.timing_defs.specs.Required.{empty_back}
+use Rattle.timing_rules.specs.Required.{empty_back}
 use Rattle.pin_graph.specs.Nodes.{pin_under}
 use Rattle.required_engine.specs.Updated.{is_in, back_at}
 use Rattle.required_engine.proofs.updating.clear_pins.Given as goal

@@ -1,6 +1,6 @@
 use Rattle.std.proofs.Common.{◌≡◌, length}
 use Rattle.std.specs.Arc.{arc_value}
-use Rattle.timing_defs.specs.Sessions.{Looks}
+use Rattle.timing_rules.specs.Sessions.{Looks}
 use Rattle.version_board.specs.Callers.{IsSame}
 use Rattle.session_engine.specs.Looking.{Holds, Saw}
 use Rattle.session_engine.proofs.commands.wait.Given as goal

@@ -1,5 +1,5 @@
 use Rattle.std.proofs.Common.{subst}
-use Rattle.timing_defs.specs.Reports.{AreTotals}
+use Rattle.timing_rules.specs.Reports.{AreTotals}
 use Rattle.affected_cone.specs.Analysed.{Analysed}
 use Rattle.affected_cone.proofs.TotalLaws.{totals_told}
 use Rattle.affected_cone.proofs.analyses.Analysis.totals.Goals as goal

@@ -1,7 +1,7 @@
 use Rattle.std.proofs.Common.{ℕ, List, get_or, ap, subst, ◌∙◌}
 use Rattle.std.specs.Prelude.{nat_eq, if◌then◌else◌}
 use Rattle.std.specs.List.{list_any}
-use Rattle.timing_defs.specs.Rows.{empty_row}
+use Rattle.timing_rules.specs.Rows.{empty_row}
 use Rattle.netlist_store.specs.Numbering.{Stored, IsNumbered}
 use Rattle.pin_graph.specs.Nodes.{node_bound, pin_under}
 use Rattle.arc_delays.specs.declared.tables.ArcDelay.{ArcDelay}

@@ -1,7 +1,7 @@
 use Rattle.std.proofs.Common.{ap, ◌∙◌, List}
 use Rattle.timing_defs.specs.declared.edits.Edit.{Edit}
 use Rattle.timing_defs.specs.Edits.{edited}
-use Rattle.timing_defs.specs.Cones.{touched_list}
+use Rattle.timing_defs.specs.Touches.{touched_list}
 use Rattle.netlist_store.proofs.EditEnds.{numbers_kept}
 use Rattle.netlist_store.proofs.EcoSteps.{eco_edit, eco_more, eco_end, touch_more, touch_end, end_insts, end_nets}
 use Rattle.netlist_store.proofs.stores.Store.applied.Goals as goal

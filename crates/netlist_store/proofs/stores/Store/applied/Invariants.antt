@@ -1,7 +1,7 @@
 use Rattle.std.proofs.Common.{◌≡◌, drop}
 use Rattle.std.specs.Prelude.{Ok}
 use Rattle.timing_defs.specs.Edits.{edited_list, edited}
-use Rattle.timing_defs.specs.Cones.{touched_list}
+use Rattle.timing_defs.specs.Touches.{touched_list}
 use Rattle.netlist_store.specs.Touching.{touched_with}
 use Rattle.netlist_store.specs.Drafts.{FollowsAll}
 use Rattle.netlist_store.proofs.stores.Store.applied.Given as goal

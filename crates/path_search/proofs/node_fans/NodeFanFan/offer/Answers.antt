@@ -1,6 +1,6 @@
 use Rattle.std.proofs.Common.{◌≡◌, ◌<◌, ◌==◌, true≢false, List, length, Option, sym, ap, subst, ◌∙◌}
 use Rattle.std.specs.Prelude.{All, IfSome}
-use Rattle.timing_defs.specs.Tests.{data_split}
+use Rattle.timing_defs.specs.Kinds.{data_split}
 use Rattle.worst_walks.specs.declared.cones.WalkArc.{WalkArc}
 use Rattle.path_search.specs.declared.ends.EndTest.{EndTest}
 use Rattle.path_search.specs.declared.launches.LaunchNode.{LaunchNode}

@@ -1,5 +1,5 @@
 use Rattle.std.proofs.Common.{ℕ, ap, subst, ◌∙◌}
-use Rattle.timing_defs.specs.Reports.{AreTotals}
+use Rattle.timing_rules.specs.Reports.{AreTotals}
 use Rattle.netlist_store.specs.Numbering.{Stored}
 use Rattle.affected_cone.specs.Analysed.{Analysed}
 use Rattle.session_engine.proofs.versions.Version.totals.Goals as goal

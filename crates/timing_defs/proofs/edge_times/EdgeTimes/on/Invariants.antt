@@ -1,5 +1,5 @@
 use Rattle.std.proofs.Common.{◌≡◌, drop}
-use Rattle.timing_defs.specs.Rows.{time_on, edge_of}
+use Rattle.timing_defs.specs.RowTimes.{time_on, edge_of}
 use Rattle.timing_defs.proofs.edge_times.EdgeTimes.on.Given as goal
 
 abbrev pub invariant-loop-time : goal.invariant-loop-time

@@ -1,5 +1,5 @@
 use Rattle.std.proofs.Common.{◌-◌, true}
-use Rattle.timing_defs.specs.Cones.{IsCounted}
+use Rattle.timing_rules.specs.Cones.{IsCounted}
 use Rattle.eco_analysis.specs.Counting.{tells}
 use Rattle.eco_analysis.specs.Soundness.{IsRefusal}
 use Rattle.what_if.proofs.DraftLaws.{of_last}

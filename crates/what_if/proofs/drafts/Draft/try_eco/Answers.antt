@@ -1,6 +1,6 @@
 use Rattle.std.proofs.Common.{◌-◌, List, ◌∷◌, true, ap, subst, ◌∙◌}
 use Rattle.timing_defs.specs.declared.design.Design.{Design}
-use Rattle.timing_defs.specs.Cones.{IsCounted}
+use Rattle.timing_rules.specs.Cones.{IsCounted}
 use Rattle.eco_analysis.specs.Counting.{tells}
 use Rattle.eco_analysis.specs.Soundness.{IsRefusal}
 use Rattle.what_if.specs.Layers.{OfLast}

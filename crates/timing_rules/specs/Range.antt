@@ -22,10 +22,11 @@ use Rattle.timing_defs.specs.declared.design.Design.{Design}
 use Rattle.timing_defs.specs.Lookup.{look}
 use Rattle.timing_defs.specs.Netlist.{Pin, Node, name_of, net_of, driver, is_driver, inst_pins, both_nodes, nodes}
 use Rattle.timing_defs.specs.Wires.{sum_of, root_node, charges, elmore, res_of, net_load, rc_of, wire_delay}
-use Rattle.timing_defs.specs.Clocking.{is_network}
-use Rattle.timing_defs.specs.Rows.{arcs_in, library_arcs, load_at, net_name, scaled, raw_delay, slew, arrival, launch_edges}
-use Rattle.timing_defs.specs.Tests.{Test, data_split, clock_split, library_tests, tests_at, is_endpoint}
-use Rattle.timing_defs.specs.Required.{kind_of, arcs_out, required}
+use Rattle.timing_defs.specs.Kinds.{data_split, clock_split, kind_of}
+use Rattle.timing_rules.specs.Clocking.{is_network}
+use Rattle.timing_rules.specs.Required.{arcs_out, required}
+use Rattle.timing_rules.specs.Rows.{arcs_in, library_arcs, load_at, net_name, scaled, raw_delay, slew, arrival, launch_edges}
+use Rattle.timing_rules.specs.Tests.{Test, library_tests, tests_at, is_endpoint}
 
 abbrev pub within_some : Option ℤ → Bool
 within_some value = option_map_or is_within value true

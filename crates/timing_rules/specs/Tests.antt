@@ -1,11 +1,10 @@
 -- The tests of a node: setup and hold at registers, and output delays at ports (SDC; TAU 2015 contest).
 
-use Rattle.std.specs.Prelude.{ℕ, ◌%◌, zero, suc, ℤ, pos, ◌+ℤ◌, ◌-ℤ◌, nat_abs, neg_ℤ, nat_eq, nat_lt, Bool, true, false, not, ◌&&◌, if◌then◌else◌, List, [], ◌∷◌, ◌++◌, map, filter, length, slice_get, Option, Some, None, find, option_map, option_and_then}
+use Rattle.std.specs.Prelude.{ℕ, ◌%◌, zero, suc, ℤ, pos, ◌+ℤ◌, ◌-ℤ◌, nat_abs, neg_ℤ, nat_eq, nat_lt, Bool, true, not, ◌&&◌, if◌then◌else◌, List, [], ◌∷◌, ◌++◌, map, filter, length, slice_get, Option, Some, None, find, option_map, option_and_then}
 use Rattle.std.specs.List.{filter_map, flat_map, list_any}
 use Rattle.std.specs.Option.{option_map_or}
 use Rattle.std.specs.Int.{int_rem_euclid}
 use Rattle.std.specs.Str.{bytes_eq}
-use Rattle.timing_defs.specs.declared.kinds.Split.{Split}
 use Rattle.timing_defs.specs.declared.kinds.Split.TheVariants.{Early, Late}
 use Rattle.timing_defs.specs.declared.kinds.Tran.{Tran}
 use Rattle.timing_defs.specs.declared.kinds.Tran.TheVariants.{Rise, Fall}
@@ -19,23 +18,9 @@ use Rattle.timing_defs.specs.declared.design.Design.{Design}
 use Rattle.timing_defs.specs.Lookup.{look}
 use Rattle.timing_defs.specs.Netlist.{Pin, Node, same_tran, same_split, cell_of, inst_pins, both_nodes, is_driver, nodes}
 use Rattle.timing_defs.specs.Wires.{first_some}
-use Rattle.timing_defs.specs.Clocking.{cell_tests, is_network, is_clock_port}
-use Rattle.timing_defs.specs.Rows.{arcs_in, outermost, launch_edges, is_clock_at, slew, arrival}
-
--- setup compares late data with an early clock, hold early data with a late clock
-abbrev pub data_split : Kind → Split
-data_split Setup = Late
-data_split Hold = Early
-
-abbrev pub clock_split : Kind → Split
-clock_split Setup = Early
-clock_split Hold = Late
-
-abbrev pub same_kind : Kind → Kind → Bool
-same_kind Setup Setup = true
-same_kind Setup Hold = false
-same_kind Hold Setup = false
-same_kind Hold Hold = true
+use Rattle.timing_defs.specs.Kinds.{same_kind, data_split, clock_split, uncertainty}
+use Rattle.timing_rules.specs.Clocking.{cell_tests, is_network, is_clock_port}
+use Rattle.timing_rules.specs.Rows.{arcs_in, outermost, launch_edges, is_clock_at, slew, arrival}
 
 -- a test of a node: the clock pin's node with the network walk to it (neither at an output port), the
 -- time that the test needs, the capture edge, and the capture arrivals
@@ -160,10 +145,6 @@ abbrev pub separation : Kind → Clock → Tran → Clock → Tran → ℤ
 separation Setup launch from capture to = setup_separation launch from capture to
 separation Hold launch from capture to =
     setup_separation launch from capture to -ℤ pos (common_period launch.period.0 capture.period.0)
-
-abbrev pub uncertainty : Kind → Clock → ℤ
-uncertainty Setup clock = clock.unc_setup.0
-uncertainty Hold clock = clock.unc_hold.0
 
 -- what a look at two clocks by their places gives, 0 where one is not there
 abbrev pub on_clocks : Design → (Clock → Clock → ℤ) → ℕ → ℕ → ℤ

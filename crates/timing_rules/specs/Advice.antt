@@ -9,8 +9,8 @@ use Rattle.timing_defs.specs.declared.edits.Eco.{Eco}
 use Rattle.timing_defs.specs.declared.faults.Fault.{Fault}
 use Rattle.timing_defs.specs.declared.reports.Candidate.{Candidate}
 use Rattle.timing_defs.specs.declared.reports.Advice.{Advice}
-use Rattle.timing_defs.specs.Checks.{Accepts, Refuses}
-use Rattle.timing_defs.specs.Reports.{IsWns}
+use Rattle.timing_rules.specs.Checks.{Accepts, Refuses}
+use Rattle.timing_rules.specs.Reports.{IsWns}
 
 -- the ECO of a candidate: its one resize
 abbrev pub candidate_eco : Candidate → Eco

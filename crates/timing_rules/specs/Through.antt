@@ -8,8 +8,8 @@ use Rattle.std.specs.List.{Contains}
 use Rattle.timing_defs.specs.declared.kinds.Kind.{Kind}
 use Rattle.timing_defs.specs.declared.rows.Path.{Path}
 use Rattle.timing_defs.specs.declared.design.Design.{Design}
-use Rattle.timing_defs.specs.Tests.{Test}
-use Rattle.timing_defs.specs.Paths.{Named, nodes_cmp, path_slacks, ends_at, path_named, Holds}
+use Rattle.timing_rules.specs.Paths.{Named, nodes_cmp, path_slacks, ends_at, path_named, Holds}
+use Rattle.timing_rules.specs.Tests.{Test}
 
 -- a path passes pins where these are the pins of some of its nodes, each behind the one before
 abbrev pub passes : List (List ℕ) → List Named → Bool

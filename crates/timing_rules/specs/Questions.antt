@@ -14,12 +14,12 @@ use Rattle.timing_defs.specs.declared.reports.Report.TheVariants.{Shown, Paths a
 use Rattle.timing_defs.specs.declared.faults.QueryFault.{QueryFault}
 use Rattle.timing_defs.specs.declared.design.Design.{Design}
 use Rattle.timing_defs.specs.Wires.{first_some}
-use Rattle.timing_defs.specs.Reports.{IsPlainReport, unknown_pin, endpoint_fault, plain_fault}
-use Rattle.timing_defs.specs.Through.{IsThrough}
-use Rattle.timing_defs.specs.Ranking.{AreWorstPaths}
 use Rattle.timing_defs.specs.Trials.{trials_in}
-use Rattle.timing_defs.specs.Drafts.{AreTrials}
-use Rattle.timing_defs.specs.Advice.{IsAdvice}
+use Rattle.timing_rules.specs.Advice.{IsAdvice}
+use Rattle.timing_rules.specs.Drafts.{AreTrials}
+use Rattle.timing_rules.specs.Ranking.{AreWorstPaths}
+use Rattle.timing_rules.specs.Reports.{IsPlainReport, unknown_pin, endpoint_fault, plain_fault}
+use Rattle.timing_rules.specs.Through.{IsThrough}
 
 -- the report that a question is answered
 abbrev pub IsReport : Design → Query → Report → Type 0

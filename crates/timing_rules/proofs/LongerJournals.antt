@@ -13,8 +13,8 @@ use Rattle.timing_defs.specs.declared.scripts.Script.{Script}
 use Rattle.timing_defs.specs.declared.scripts.Row.{Row}
 use Rattle.timing_defs.specs.declared.scripts.Transcript.{Transcript}
 use Rattle.timing_defs.specs.Edits.{edited}
-use Rattle.timing_defs.specs.Checks.{Faulty, Accepts, Refuses}
-use Rattle.timing_defs.specs.Sessions.{DesignAfter, Sort, taken, reached, not_yet, accepted, refused, asked, Mark, Suits, OrderedFrom, AreTrue, Legal, mark_of, ecos_of}
+use Rattle.timing_rules.specs.Checks.{Faulty, Accepts, Refuses}
+use Rattle.timing_rules.specs.Sessions.{DesignAfter, Sort, taken, reached, not_yet, accepted, refused, asked, Mark, Suits, OrderedFrom, AreTrue, Legal, mark_of, ecos_of}
 
 -- an entry that stands stays
 pub entry_longer : (J more : List Entry) (k : ℕ) (P : Entry → Type 0) → IsSomeAnd (slice_get J k) P → IsSomeAnd (slice_get (J ++ more) k) P

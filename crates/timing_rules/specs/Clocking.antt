@@ -1,12 +1,10 @@
 -- Clock networks: the part of the design between the clocks' ports and the registers' clock pins (TAU 2015).
 
-use Rattle.std.specs.Prelude.{ℕ, zero, suc, Bool, true, false, not, ◌&&◌, ◌||◌, if◌then◌else◌, List, [], ◌++◌, filter, length, Option, Some, None}
+use Rattle.std.specs.Prelude.{ℕ, zero, suc, Bool, false, not, ◌&&◌, ◌||◌, if◌then◌else◌, List, [], ◌++◌, filter, length, Option, Some, None}
 use Rattle.std.specs.List.{list_any}
 use Rattle.std.specs.Option.{option_map_or, option_to_list}
 use Rattle.std.specs.Str.{bytes_eq}
 use Rattle.timing_defs.specs.declared.kinds.Split.TheVariants.{Late}
-use Rattle.timing_defs.specs.declared.kinds.ArcKind.{ArcKind}
-use Rattle.timing_defs.specs.declared.kinds.ArcKind.TheVariants.{Comb, Edge}
 use Rattle.timing_defs.specs.declared.kinds.Dir.TheVariants.{Input}
 use Rattle.timing_defs.specs.declared.library.Cell.{Cell}
 use Rattle.timing_defs.specs.declared.library.CellArc.{CellArc}
@@ -15,13 +13,7 @@ use Rattle.timing_defs.specs.declared.constraints.Clock.{Clock}
 use Rattle.timing_defs.specs.declared.netlist.Inst.{Inst}
 use Rattle.timing_defs.specs.declared.design.Design.{Design}
 use Rattle.timing_defs.specs.Netlist.{Pin, cell_of, inst_pins, pins, net_of, driver, sinks, is_driver, same_dir}
-
-abbrev pub comb_kind : ArcKind → Bool
-comb_kind Comb = true
-comb_kind Edge = false
-
-abbrev pub is_comb : CellArc → Bool
-is_comb arc = comb_kind arc.kind
+use Rattle.timing_defs.specs.Kinds.{is_comb}
 
 abbrev pub cell_arcs : Option Cell → List CellArc
 cell_arcs None = []

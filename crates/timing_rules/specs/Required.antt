@@ -11,18 +11,10 @@ use Rattle.timing_defs.specs.declared.edge_times.EdgeTime.{EdgeTime}
 use Rattle.timing_defs.specs.declared.rows.BackRow.{BackRow}
 use Rattle.timing_defs.specs.declared.design.Design.{Design}
 use Rattle.timing_defs.specs.Netlist.{Node, same_node, nodes}
-use Rattle.timing_defs.specs.Rows.{arcs_in, outermost, time_on, edge_time, launch_edges, delay, arrival}
-use Rattle.timing_defs.specs.Tests.{Test, tests_at, is_endpoint, separation_on, uncertainty_on}
-
--- late data is tested by setup, early data by hold
-abbrev pub kind_of : Split → Kind
-kind_of Late = Setup
-kind_of Early = Hold
-
--- late required times are least, early ones greatest
-abbrev pub other_split : Split → Split
-other_split Late = Early
-other_split Early = Late
+use Rattle.timing_defs.specs.Kinds.{other_split, kind_of}
+use Rattle.timing_defs.specs.RowTimes.{time_on, back_times}
+use Rattle.timing_rules.specs.Rows.{arcs_in, outermost, edge_time, launch_edges, delay, arrival}
+use Rattle.timing_rules.specs.Tests.{Test, tests_at, is_endpoint, separation_on, uncertainty_on}
 
 abbrev pub arcs_out : Design → Node → List Node
 arcs_out d from = filter (λ to. list_any (same_node from) (arcs_in d to)) (nodes d)
@@ -35,10 +27,6 @@ limit_by Hold test sep unc = test.late +ℤ sep +ℤ test.need +ℤ unc
 abbrev pub limit_of : Design → Kind → ℕ × Tran → Test → ℤ
 limit_of d kind edge test =
     limit_by kind test (separation_on d kind edge test.capture) (uncertainty_on d kind test.capture.0)
-
-abbrev pub back_times : Split → BackRow → List EdgeTime
-back_times Early row = row.early
-back_times Late row = row.late
 
 abbrev pub less_some : Option ℤ → Option ℤ → Option ℤ
 less_some None y = None

@@ -1,7 +1,7 @@
 -- The row of a node: its slews, and its arrivals for each launch edge, by recursion over the arcs
 -- in (graph-based analysis as in OpenTimer; derates as in SDC). Nothing is stored.
 
-use Rattle.std.specs.Prelude.{ℕ, ◌+◌, ◌^◌, zero, suc, ℤ, pos, ◌+ℤ◌, ◌*ℤ◌, nat_eq, nat_lt, Bool, true, false, not, ◌&&◌, ◌||◌, if◌then◌else◌, List, [], ◌∷◌, map, filter, length, slice_get, Option, Some, None, find, option_map, option_and_then}
+use Rattle.std.specs.Prelude.{ℕ, ◌+◌, ◌^◌, zero, suc, ℤ, pos, ◌*ℤ◌, nat_eq, nat_lt, Bool, true, false, not, ◌&&◌, ◌||◌, if◌then◌else◌, List, [], ◌∷◌, map, filter, length, slice_get, Option, Some, None, find, option_map, option_and_then}
 use Rattle.std.specs.List.{filter_map, flat_map}
 use Rattle.std.specs.Option.{option_map_or, unwrap_or}
 use Rattle.std.specs.Int.{int_max, int_min}
@@ -20,12 +20,13 @@ use Rattle.timing_defs.specs.declared.constraints.Derates.{Derates}
 use Rattle.timing_defs.specs.declared.netlist.Inst.{Inst}
 use Rattle.timing_defs.specs.declared.design.Design.{Design}
 use Rattle.timing_defs.specs.declared.edge_times.EdgeTime.{EdgeTime}
-use Rattle.timing_defs.specs.declared.edge_times.LaunchEdge.{LaunchEdge}
 use Rattle.timing_defs.specs.declared.rows.NodeRow.{NodeRow}
 use Rattle.timing_defs.specs.Lookup.{look}
 use Rattle.timing_defs.specs.Netlist.{Pin, Node, same_tran, same_split, cell_of, inst_pins, both_nodes, net_of, is_driver, nodes}
 use Rattle.timing_defs.specs.Wires.{load_of, wire_delay, wire_slew}
-use Rattle.timing_defs.specs.Clocking.{is_comb, cell_arcs, driver_on, is_network, is_clock_port}
+use Rattle.timing_defs.specs.Kinds.{is_comb}
+use Rattle.timing_defs.specs.RowTimes.{slew_in, times_in, time_on, plus_some}
+use Rattle.timing_rules.specs.Clocking.{cell_arcs, driver_on, is_network, is_clock_port}
 
 -- a register arc stands only where its clock pin is a network pin and its output is not
 abbrev pub stands : Design → Pin → Pin → CellArc → Bool
@@ -105,10 +106,6 @@ scaled d split to delay =
 abbrev pub delay_along : Design → Split → Node → Node → ℤ → Option ℤ
 delay_along d split from to slew = option_map (scaled d split to) (raw_delay d split from to slew)
 
-abbrev pub slew_in : Split → NodeRow → Option ℤ
-slew_in Early row = option_map (λ slew. slew.0) row.early_slew
-slew_in Late row = option_map (λ slew. slew.0) row.late_slew
-
 -- an input port's slew is that of its input transition, or 0
 abbrev pub port_slew : List PortSlew → Split → Pin → Tran → ℤ
 port_slew slews split pin tran =
@@ -149,23 +146,6 @@ start_at d split node edge =
     (if is_clock_port d node.pin
     then (if is_clock_at d.constraints.clocks edge.0 node.pin.own && same_tran edge.1 node.tran then Some (pos 0) else None)
     else (if same_tran edge.1 Rise then input_delay d.constraints.inputs split node edge.0 else None)))
-
--- a launch edge, as the definitions have it
-abbrev pub edge_of : LaunchEdge → ℕ × Tran
-edge_of edge = (edge.clock, edge.tran)
-
-abbrev pub times_in : Split → NodeRow → List EdgeTime
-times_in Early row = row.early
-times_in Late row = row.late
-
-abbrev pub time_on : List EdgeTime → ℕ × Tran → Option ℤ
-time_on times edge =
-    option_map (λ t. t.time.0) (find (λ t. nat_eq t.clock edge.0 && same_tran t.tran edge.1) times)
-
-abbrev pub plus_some : Option ℤ → Option ℤ → Option ℤ
-plus_some None y = None
-plus_some (Some x) None = None
-plus_some (Some x) (Some y) = Some (x +ℤ y)
 
 abbrev pub delay_from : Design → Split → Node → Node → NodeRow → Option ℤ
 delay_from d split from to row = option_and_then (delay_along d split from to) (slew_in split row)

@@ -12,9 +12,12 @@ use Rattle.timing_defs.specs.declared.rows.NodeRow.{NodeRow}
 use Rattle.timing_defs.specs.declared.rows.BackRow.{BackRow}
 use Rattle.timing_defs.specs.declared.design.Design.{Design}
 use Rattle.timing_defs.specs.Netlist.{Node, nodes}
-use Rattle.timing_defs.specs.Tests.{tests_at, is_endpoint}
-use Rattle.timing_defs.specs.Required.{arcs_out, kind_of, other_split, limit_of, back_times, less_some, required_of, required_times, back_step, back_within, back_row}
-use Rattle.timing_defs.specs.Rows.{arcs_in, outermost, delay, arrival, outer_some, slew_along, slew_in, slew_of, is_input_port, port_slew, start_at, plus_some, time_on, times_in, delay_from, arrival_of, arrivals_of, launch_edges, edge_time, step, row_within, row, as_fs, empty_row}
+use Rattle.timing_rules.specs.Tests.{tests_at, is_endpoint}
+use Rattle.timing_rules.specs.Required.{arcs_out, limit_of, less_some, required_of, required_times, back_step, back_within, back_row}
+use Rattle.timing_defs.specs.Kinds.{kind_of, other_split}
+use Rattle.timing_defs.specs.RowTimes.{back_times}
+use Rattle.timing_rules.specs.Rows.{arcs_in, outermost, delay, arrival, outer_some, slew_along, slew_of, is_input_port, port_slew, start_at, delay_from, arrival_of, arrivals_of, launch_edges, edge_time, step, row_within, row, as_fs, empty_row}
+use Rattle.timing_defs.specs.RowTimes.{slew_in, plus_some, time_on, times_in}
 
 pub first_in : {X : Type 0} (x : X) (xs : List X) → Contains (x ∷ xs) x
 first_in x xs = (0, omega arith, refl)

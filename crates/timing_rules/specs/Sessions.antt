@@ -17,11 +17,11 @@ use Rattle.timing_defs.specs.declared.scripts.Answer.TheVariants.{Taken, Reached
 use Rattle.timing_defs.specs.declared.scripts.Row.{Row}
 use Rattle.timing_defs.specs.declared.scripts.Transcript.{Transcript}
 use Rattle.timing_defs.specs.declared.scripts.Totals.{Totals}
-use Rattle.timing_defs.specs.Checks.{Faulty, Accepts, Refuses}
-use Rattle.timing_defs.specs.Reports.{AreTotals}
-use Rattle.timing_defs.specs.Questions.{Told, query_fault}
 use Rattle.timing_defs.specs.Output.{output_text}
 use Rattle.timing_defs.specs.Saved.{saved_output_text}
+use Rattle.timing_rules.specs.Checks.{Faulty, Accepts, Refuses}
+use Rattle.timing_rules.specs.Questions.{Told, query_fault}
+use Rattle.timing_rules.specs.Reports.{AreTotals}
 
 -- the design after the first so many entries of the journal, each accepted in turn
 abbrev pub DesignAfter : Design → List Entry → ℕ → Design → Type 0

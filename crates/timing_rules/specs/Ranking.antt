@@ -1,13 +1,14 @@
 -- The worst paths of an endpoint in order (as `report_timing` of OpenTimer gives them). Nothing is free.
 
-use Rattle.std.specs.Prelude.{ℕ, zero, suc, ◌≡◌, ◌≢◌, ℤ, ◌≤ℤ◌, Bool, true, false, List, [], ◌∷◌, map, ⊤}
+use Rattle.std.specs.Prelude.{ℕ, ◌≡◌, ℤ, ◌≤ℤ◌, Bool, true, List, map}
 use Rattle.std.specs.List.{Contains}
 use Rattle.std.specs.Ordering.{int_cmp, ordering_then, is_lt}
 use Rattle.timing_defs.specs.declared.kinds.Kind.{Kind}
 use Rattle.timing_defs.specs.declared.rows.Path.{Path}
 use Rattle.timing_defs.specs.declared.design.Design.{Design}
-use Rattle.timing_defs.specs.Tests.{Test}
-use Rattle.timing_defs.specs.Paths.{Named, nodes_cmp, path_slacks, ends_at, path_named, Holds}
+use Rattle.timing_defs.specs.Firsts.{AreFirst}
+use Rattle.timing_rules.specs.Paths.{Named, nodes_cmp, path_slacks, ends_at, path_named, Holds}
+use Rattle.timing_rules.specs.Tests.{Test}
 
 -- the slack of a tested path: the least over its tests
 abbrev pub IsPathSlack : Design → Kind → List Named → ℤ → Type 0
@@ -28,15 +29,6 @@ ranked p = (p.slack.0, path_named p)
 -- a tested path to an endpoint
 abbrev pub IsRanked : Design → Kind → List ℕ → Ranked → Type 0
 IsRanked d kind pin r = (ends_at pin r.1 ≡ true) × IsPathSlack d kind r.1 r.0
-
--- the first so many of all that there are: nothing comes before the first, and the others are the first of
--- what is left; fewer only where no more are left
-abbrev pub AreFirst : {X : Type 0} → (X → X → Bool) → ℕ → (X → Type 0) → List X → Type 0
-AreFirst before zero Is [] = ⊤
-AreFirst before zero Is (x ∷ xs) = ⊥
-AreFirst {X} before (suc count) Is [] = (y : X) → Is y → ⊥
-AreFirst {X} before (suc count) Is (x ∷ xs) =
-    Is x × ((y : X) → Is y → before y x ≡ false) × AreFirst before count (λ y. Is y × (y ≢ x)) xs
 
 -- the worst paths of an endpoint, at most so many
 abbrev pub AreWorstPaths : Design → Kind → List ℕ → ℕ → List Path → Type 0

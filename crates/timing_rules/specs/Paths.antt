@@ -21,10 +21,12 @@ use Rattle.timing_defs.specs.declared.rows.Path.{Path}
 use Rattle.timing_defs.specs.declared.design.Design.{Design}
 use Rattle.timing_defs.specs.Netlist.{Node, name_of, same_node, same_tran, pin_named}
 use Rattle.timing_defs.specs.Wires.{first_some}
-use Rattle.timing_defs.specs.Clocking.{is_network}
-use Rattle.timing_defs.specs.Rows.{arcs_in, plus_some, launch_edges, start_at, delay, arrival}
-use Rattle.timing_defs.specs.Tests.{Test, data_split, tests_at, separation_on, uncertainty_on, on_clocks}
-use Rattle.timing_defs.specs.Rules.{is_tested, cycles, with_cycles}
+use Rattle.timing_defs.specs.Kinds.{data_split}
+use Rattle.timing_defs.specs.RowTimes.{plus_some}
+use Rattle.timing_rules.specs.Clocking.{is_network}
+use Rattle.timing_rules.specs.Rows.{arcs_in, launch_edges, start_at, delay, arrival}
+use Rattle.timing_rules.specs.Rules.{is_tested, cycles, with_cycles}
+use Rattle.timing_rules.specs.Tests.{Test, tests_at, separation_on, uncertainty_on, on_clocks}
 
 -- a node by the name of its pin
 abbrev pub Named : Type 0

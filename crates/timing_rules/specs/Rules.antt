@@ -1,6 +1,6 @@
 -- Exceptions: false paths and multicycles between what launches a path and what captures it (SDC).
 
-use Rattle.std.specs.Prelude.{ℕ, ℤ, pos, ◌+ℤ◌, ◌-ℤ◌, ◌*ℤ◌, nat_eq, Bool, true, false, not, ◌&&◌, ◌||◌, if◌then◌else◌, List, [], ◌∷◌, slice_get, Option, Some, None, is_none}
+use Rattle.std.specs.Prelude.{ℕ, ℤ, pos, ◌+ℤ◌, ◌-ℤ◌, ◌*ℤ◌, Bool, true, false, not, ◌&&◌, ◌||◌, if◌then◌else◌, List, [], ◌∷◌, slice_get, Option, Some, None, is_none}
 use Rattle.std.specs.List.{list_any}
 use Rattle.std.specs.Option.{option_map_or, unwrap_or}
 use Rattle.std.specs.Str.{bytes_eq}
@@ -15,6 +15,7 @@ use Rattle.timing_defs.specs.declared.constraints.Exception.{Exception}
 use Rattle.timing_defs.specs.declared.constraints.Constraints.{Constraints}
 use Rattle.timing_defs.specs.declared.rows.Launch.{Launch}
 use Rattle.timing_defs.specs.declared.rows.Capture.{Capture}
+use Rattle.timing_defs.specs.Names.{as_pin}
 
 -- what an object of an exception is compared with: a pin, the instance that owns it, and a clock
 pub record End : Type 0 where
@@ -33,14 +34,6 @@ has_clock clocks place name = option_map_or (λ clock. bytes_eq clock.name name)
 
 abbrev pub is_clock_name : List Clock → List ℕ → Bool
 is_clock_name clocks name = list_any (λ clock. bytes_eq clock.name name) clocks
-
--- a word as a pin: split at its last slash or colon
-abbrev pub is_split : ℕ → Bool
-is_split byte = nat_eq byte 47 || nat_eq byte 58
-
-abbrev pub as_pin : List ℕ → List ℕ
-as_pin [] = []
-as_pin (b ∷ bs) = (if is_split b && not (list_any is_split bs) then 58 ∷ bs else b ∷ as_pin bs)
 
 abbrev pub is_cell : End → List ℕ → Bool
 is_cell e name = option_map_or (bytes_eq name) e.cell false

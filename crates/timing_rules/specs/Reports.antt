@@ -13,7 +13,7 @@ use Rattle.timing_defs.specs.declared.kinds.Kind.{Kind}
 use Rattle.timing_defs.specs.declared.kinds.Kind.TheVariants.{Setup, Hold}
 use Rattle.timing_defs.specs.declared.rows.Path.{Path}
 use Rattle.timing_defs.specs.declared.reports.Query.{Query}
-use Rattle.timing_defs.specs.declared.reports.Query.TheVariants.{Slew, At, Rat, Slack, Endpoint, WorstPath, Wns, Tns, Worst, Through, Paths, WhatIf', Advise}
+use Rattle.timing_defs.specs.declared.reports.Query.TheVariants.{Slew, At, Rat, Slack, Endpoint, WorstPath, Wns, Tns, Worst}
 use Rattle.timing_defs.specs.declared.reports.EndRow.{EndRow}
 use Rattle.timing_defs.specs.declared.reports.Report.{Report}
 use Rattle.timing_defs.specs.declared.reports.Report.TheVariants.{Value, Times, Shown, Ends}
@@ -22,10 +22,11 @@ use Rattle.timing_defs.specs.declared.faults.QueryFault.{QueryFault}
 use Rattle.timing_defs.specs.declared.faults.QueryFault.TheVariants.{UnknownPin, NotEndpoint, NotClocked}
 use Rattle.timing_defs.specs.declared.design.Design.{Design}
 use Rattle.timing_defs.specs.Netlist.{Pin, Node, name_of, pins, pin_named}
-use Rattle.timing_defs.specs.Rows.{as_fs, slew, times_in, row, outer_some}
-use Rattle.timing_defs.specs.Required.{back_times, back_row, graph_slack}
-use Rattle.timing_defs.specs.Tests.{is_endpoint, is_clocked}
-use Rattle.timing_defs.specs.Paths.{IsSlack, IsShown}
+use Rattle.timing_defs.specs.RowTimes.{times_in, back_times}
+use Rattle.timing_rules.specs.Paths.{IsSlack, IsShown}
+use Rattle.timing_rules.specs.Required.{back_row, graph_slack}
+use Rattle.timing_rules.specs.Rows.{as_fs, slew, row, outer_some}
+use Rattle.timing_rules.specs.Tests.{is_endpoint, is_clocked}
 
 abbrev pub endpoints : Design → List (List ℕ)
 endpoints d = map name_of (filter (is_endpoint d) (pins d))
@@ -91,22 +92,6 @@ at_node report tran pin = report (record { pin = pin; tran = tran })
 
 abbrev pub IsAt : Design → List ℕ → Tran → (Node → Report) → Report → Type 0
 IsAt d name tran report r = Some r ≡ option_map (at_node report tran) (pin_named d name)
-
--- whether a question is plain
-abbrev pub is_plain : Query → Bool
-is_plain (Through pin kind pins) = false
-is_plain (Paths pin kind count) = false
-is_plain (WhatIf' shape trials) = false
-is_plain (Advise kind candidates) = false
-is_plain (Slew pin split tran) = true
-is_plain (At pin split tran) = true
-is_plain (Rat pin split tran) = true
-is_plain (Slack pin split tran) = true
-is_plain (Endpoint pin kind) = true
-is_plain (WorstPath pin kind) = true
-is_plain (Wns kind) = true
-is_plain (Tns kind) = true
-is_plain (Worst kind count) = true
 
 -- the report that a plain question is answered; another one has none here
 abbrev pub IsPlainReport : Design → Query → Report → Type 0

@@ -2,9 +2,9 @@
 -- backward (incremental timing as in OpenTimer). It is told by the rows of the base and of the
 -- edited design; no stored result is in it. Free is the count of evaluations between the bounds below.
 
-use Rattle.std.specs.Prelude.{ℕ, ◌≡◌, ◌+◌, ◌≤◌, nat_eq, Bool, true, false, IsTrue, not, ◌&&◌, ◌||◌, List, [], ◌∷◌, ◌++◌, count_by, Option, Some, None, Ok}
-use Rattle.std.specs.List.{list_any, list_all, filter_map}
-use Rattle.std.specs.Option.{option_map_or, option_to_list}
+use Rattle.std.specs.Prelude.{ℕ, ◌≡◌, ◌+◌, ◌≤◌, nat_eq, Bool, true, false, IsTrue, not, ◌&&◌, ◌||◌, List, [], ◌∷◌, count_by, Option, Some, None, Ok}
+use Rattle.std.specs.List.{list_any, list_all}
+use Rattle.std.specs.Option.{option_map_or}
 use Rattle.std.specs.Ordering.{int_eq}
 use Rattle.std.specs.Cmp.Lexicographic.{pointwise}
 use Rattle.std.specs.Str.{bytes_eq}
@@ -16,44 +16,16 @@ use Rattle.timing_defs.specs.declared.rows.NodeRow.{NodeRow}
 use Rattle.timing_defs.specs.declared.rows.BackRow.{BackRow}
 use Rattle.timing_defs.specs.declared.netlist.Inst.{Inst}
 use Rattle.timing_defs.specs.declared.design.Design.{Design}
-use Rattle.timing_defs.specs.declared.edits.Edit.{Edit}
 use Rattle.timing_defs.specs.declared.edits.Eco.{Eco}
-use Rattle.timing_defs.specs.declared.edits.Edit.TheVariants.{Repower, InsertGate, RemoveGate, InsertNet, RemoveNet, Connect, Disconnect, InsertBuffer, SetParasitics}
 use Rattle.timing_defs.specs.Netlist.{Node, same_tran, cell_of, net_of, is_driver, is_listed, nodes}
-use Rattle.timing_defs.specs.Clocking.{is_comb, cell_tests, is_network}
-use Rattle.timing_defs.specs.Rows.{arcs_in, library_arcs, row}
-use Rattle.timing_defs.specs.Required.{arcs_out, back_row}
-use Rattle.timing_defs.specs.Edits.{inst_named, before_last, word_net, changed, edited}
-use Rattle.timing_defs.specs.Checks.{Accepts, IsSound}
-use Rattle.timing_defs.specs.Paths.{named, node_named, same_named}
-
--- what an edit touched: instances and nets by their names
-pub record Touch : Type 0 where
-  pub insts : List (List ℕ)
-  pub nets : List (List ℕ)
-
--- what one edit touches: the instances that it names, adds or removes, and the nets on which it acts
-abbrev pub nets_of_inst : Design → List ℕ → List (List ℕ)
-nets_of_inst d inst = option_map_or (λ i. filter_map (λ conn. conn.net) i.conns) (inst_named d.insts inst) []
-
-abbrev pub touched_by : Design → Edit → Touch
-touched_by d (Repower inst cell) = record { insts = inst ∷ []; nets = nets_of_inst d inst }
-touched_by d (InsertGate inst cell) = record { insts = inst ∷ []; nets = [] }
-touched_by d (RemoveGate inst) = record { insts = inst ∷ []; nets = [] }
-touched_by d (InsertNet net) = record { insts = []; nets = net ∷ [] }
-touched_by d (RemoveNet net) = record { insts = []; nets = net ∷ [] }
-touched_by d (Connect pin net) = record { insts = before_last pin ∷ []; nets = net ∷ [] }
-touched_by d (Disconnect pin) = record { insts = before_last pin ∷ []; nets = option_to_list (word_net d pin) }
-touched_by d (InsertBuffer net inst fresh cell sinks) = record { insts = inst ∷ []; nets = net ∷ fresh ∷ [] }
-touched_by d (SetParasitics net rc) = record { insts = []; nets = net ∷ [] }
-
-abbrev pub both_touches : Touch → Touch → Touch
-both_touches a b = record { insts = a.insts ++ b.insts; nets = a.nets ++ b.nets }
-
--- what the edits of an ECO touch, each in the design that it finds
-abbrev pub touched_list : Design → List Edit → Touch
-touched_list d [] = record { insts = []; nets = [] }
-touched_list d (e ∷ es) = both_touches (touched_by d e) (touched_list (changed d e) es)
+use Rattle.timing_defs.specs.Edits.{edited}
+use Rattle.timing_defs.specs.Kinds.{is_comb}
+use Rattle.timing_defs.specs.Touches.{Touch, touched_list}
+use Rattle.timing_rules.specs.Checks.{Accepts, IsSound}
+use Rattle.timing_rules.specs.Clocking.{cell_tests, is_network}
+use Rattle.timing_rules.specs.Paths.{named, node_named, same_named}
+use Rattle.timing_rules.specs.Required.{arcs_out, back_row}
+use Rattle.timing_rules.specs.Rows.{arcs_in, library_arcs, row}
 
 abbrev pub same_option : {X : Type 0} → (X → X → Bool) → Option X → Option X → Bool
 same_option same None None = true

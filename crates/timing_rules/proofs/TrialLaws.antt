@@ -10,9 +10,10 @@ use Rattle.timing_defs.specs.declared.reports.Trial.{Trial}
 use Rattle.timing_defs.specs.declared.reports.Report.{Report, Drafted}
 use Rattle.timing_defs.specs.declared.reports.TrialRow.{TrialRow}
 use Rattle.timing_defs.specs.Documents.{is_count, is_trial, is_question}
-use Rattle.timing_defs.specs.Drafts.{AreTrials}
-use Rattle.timing_defs.specs.Reports.{is_plain, PlainTold, plain_fault}
-use Rattle.timing_defs.specs.Questions.{Told, query_fault}
+use Rattle.timing_rules.specs.Drafts.{AreTrials}
+use Rattle.timing_defs.specs.Documents.{is_plain}
+use Rattle.timing_rules.specs.Reports.{PlainTold, plain_fault}
+use Rattle.timing_rules.specs.Questions.{Told, query_fault}
 
 pub question_of_trials : (trials : List Trial) → is_question (WhatIf trials) ≡ (is_count 100 (length trials) && list_all is_trial trials)
 question_of_trials trials =

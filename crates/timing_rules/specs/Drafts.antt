@@ -10,8 +10,8 @@ use Rattle.timing_defs.specs.declared.reports.Trial.TheVariants.{Try, Drop, Ask}
 use Rattle.timing_defs.specs.declared.reports.TrialRow.{TrialRow}
 use Rattle.timing_defs.specs.declared.reports.TrialAnswer.{TrialAnswer}
 use Rattle.timing_defs.specs.declared.reports.TrialAnswer.TheVariants.{Tried, Refused, Dropped, NoDraft, No, Told}
-use Rattle.timing_defs.specs.Checks.{Accepts, Refuses}
-use Rattle.timing_defs.specs.Reports.{PlainTold, plain_fault}
+use Rattle.timing_rules.specs.Checks.{Accepts, Refuses}
+use Rattle.timing_rules.specs.Reports.{PlainTold, plain_fault}
 
 -- the design that a draft shows: the last one, or the snapshot's
 abbrev pub shown_design : Design → List Design → Design

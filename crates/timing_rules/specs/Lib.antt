@@ -1,0 +1,16 @@
+pub mod Cones
+pub mod Clocking
+pub mod Rows
+pub mod Paths
+pub mod Range
+pub mod Required
+pub mod Rules
+pub mod Tests
+pub mod Checks
+pub mod Reports
+pub mod Through
+pub mod Ranking
+pub mod Drafts
+pub mod Advice
+pub mod Questions
+pub mod Sessions
