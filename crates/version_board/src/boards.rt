@@ -119,9 +119,9 @@ fn seat_all<T: Stands>(
 
 impl<T: Stands> Board<T> {
     /// A board with its seats, which have the numbers from 1. The value stands for the empty list from
-    /// `first`, and there are 1 to 16 seats.
+    /// `first`, and there are 1 to 17 seats.
     pub fn begin(alloc: Global, first: u64, value: Arc<T>, seats: u32) -> Result<Begun<T>, Memory>
-        requires seats { (1 ≤ seats) × (seats ≤ 16) }
+        requires seats { (1 ≤ seats) × (seats ≤ 17) }
         requires first { first ≤ 2 ^ 62 }
         requires value { (T.entries (arc_value value) ≡ []) × (T.from (arc_value value) ≡ first) }
         ensures board { IfOk result (λ b. (b.board.opening ≡ arc_value value) × (b.board.seats ≡ seats)) }
