@@ -1,7 +1,7 @@
 -- One session of several: the scripts that can be run, the rows of the commands so far, and what a whole script's run
 -- adds to the view of its seat.
 
-use Rattle.std.specs.Prelude.{ℕ, ◌≡◌, ◌≤◌, nat_le, Bool, true, false, ◌||◌, ◌&&◌, IsTrue, if◌then◌else◌, List, [], ◌∷◌, ◌++◌, map, length}
+use Rattle.std.specs.Prelude.{ℕ, ◌≡◌, ◌+◌, ◌≤◌, nat_le, Bool, true, false, ◌||◌, ◌&&◌, IsTrue, if◌then◌else◌, List, [], ◌∷◌, ◌++◌, map, length, Option, Some}
 use Rattle.std.specs.List.{list_all}
 use mathlib.Core.List.{IsPrefix}
 use Rattle.timing_defs.specs.declared.design.Design.{Design}
@@ -59,6 +59,14 @@ pub record IsRun (origin : Design) (first who : ℕ) (v : Sight) (commands : Lis
   pub low : last_number first rows ≤ held.number
   pub last : IsTrue (begun_after false rows) → last_number first rows ≡ held.number
   pub looks : GrewBy v.looks w.looks (row_looks false rows ++ (if begun_after false rows then [] else held.number ∷ []))
+
+-- a command's row goes on with each run: where a session has run some commands and holds a version, with the command and its
+-- row at its place it has run one more, and holds the version after
+abbrev pub RunsOn : ℕ → Sight → Versioned → ℕ → Command → Sight → Versioned → Row → Type 0
+RunsOn who w held place command x after row =
+    (origin : Design) (first : ℕ) (v : Sight) (commands : List Command) (rows : List Row)
+    → w.first ≡ first → w.origin ≡ Some origin → place ≡ length commands + 1 → IsRun origin first who v commands w held rows
+    → IsRun origin first who v (commands ++ command ∷ []) x after (rows ++ row ∷ [])
 
 -- a script was run: its transcript is legal over the list that the seat saw last, the seat's own entries grew by those of
 -- the accepted rows, in order, and the numbers that the rows show stand among the seat's new looks, in order

@@ -7,7 +7,8 @@
 //! Questions beyond the plain ones are answered by what implements `Further`, which stands above this crate.
 //!
 //! `run_script` runs the script of one session at its seat at a board of versions, while other sessions
-//! run theirs: `looking` takes and publishes, `commands` answers a command, `runs` the whole script.
+//! run theirs: `looking` takes and publishes, `commands` answers a command, `runs` the whole script. `begin_session` and
+//! `answer_command` are its parts, for a session whose commands come one by one.
 #![tactic(auto)]
 
 mod commands;
@@ -24,6 +25,6 @@ mod versions;
 pub use further::Further;
 pub use preparing::prepare;
 pub use replaying::{ReplayFault, replay};
-pub use runs::run_script;
+pub use runs::{Answered, answer_command, begin_session, run_script};
 pub use snapshots::Snapshot;
 pub use versions::Version;

@@ -7,7 +7,7 @@ ghost use Rattle.timing_defs.specs.declared.design.Design.{Design};
 ghost use Rattle.timing_defs.specs.declared.scripts.Command.{Command};
 ghost use Rattle.version_board.specs.Callers.{IsSeatOf, IsSame};
 ghost use Rattle.session_engine.specs.Looking.{Sight, meant, Holds, Looked};
-ghost use Rattle.session_engine.specs.Running.{is_runnable, IsRunnable, IsRun, Ran, Stopped};
+ghost use Rattle.session_engine.specs.Running.{is_runnable, IsRunnable, IsRun, RunsOn, Ran, Stopped};
 
 use crate::commands::{answer, query_of, taken};
 use crate::further::Further;
@@ -24,8 +24,97 @@ fn discard_query(_query: Option<Query>) {}
 
 fn discard_rows(_rows: Vec<Row>) {}
 
-/// Answers the command at a place: its row stands behind the others, and the session holds the version.
+/// What a session has after a command: the version that it holds, and the command's row.
+#[derive(Drop)]
+pub struct Answered {
+    pub held: Arc<Version>,
+    pub row: Row,
+}
+
+/// Takes the newest version, as each session does before its first command.
+///
+/// # Errors
+///
+/// Want of memory alone.
+pub fn begin_session<R: Wait, G: Gate>(
+    rt: &R,
+    who: u32,
+    board: &Board<Version>,
+    seat: &mut Seat<Version>,
+    gate: &G,
+) -> Result<Arc<Version>, Memory>
+    requires seat { IsSeatOf meant board.now seat.old }
+    ensures same { IsSame seat.old seat.new }
+    ensures holds { IfOk result (λ held. Holds seat.new.view (arc_value held)) }
+    ensures run { IfOk result (λ held. IsRun board.now.opening.origin board.now.opening.first who seat.old.view [] seat.new.view (arc_value held) []) }
+    ensures looked { OnErr result (Looked seat.old.view seat.new.view) }
+{
+    let held = taken(rt, who, board, seat, gate)?;
+    held.laws();
+    Ok(held)
+}
+
+/// Answers a command with its row, and gives the version that the session holds then. `take` and an ECO look at the newest
+/// version on the board, `await` with at most its looks; a question is answered at the version that the session holds, one that
+/// is not plain by `further`. An accepted ECO is published. The row's number is that of the version that the session then holds.
+///
+/// # Errors
+///
+/// Want of memory alone: the session may have looked at the board then, and has published nothing.
 #[tactic(auto, using(crate::proofs::Sights::looked_none))]
+pub fn answer_command<H: Threads + Wait + Sync, G: Gate, X: Further>(
+    rt: &H,
+    alloc: Global,
+    who: u32,
+    board: &Board<Version>,
+    seat: &mut Seat<Version>,
+    held: Arc<Version>,
+    place: u32,
+    command: &Command,
+    workers: u32,
+    gate: &G,
+    further: &X,
+) -> Result<Answered, Memory>
+    requires seat { IsSeatOf meant board.now seat.old }
+    requires number { seat.old.view.number ≡ who }
+    requires held { Holds seat.old.view (arc_value held) }
+    requires command { is_runnable command.now ≡ true }
+    requires some { 1 ≤ workers }
+    requires most { workers ≤ 32 }
+    ensures same { IsSame seat.old seat.new }
+    ensures holds { IfOk result (λ made. Holds seat.new.view (arc_value made.held)) }
+    ensures run { IfOk result (λ made. RunsOn who seat.old.view (arc_value held) place command.now seat.new.view (arc_value made.held) made.row) }
+    ensures looked { OnErr result (Looked seat.old.view seat.new.view) }
+{
+    held.laws();
+    match query_of(alloc, command) {
+        Ok(query) => match answer(
+            rt, alloc, who, board, seat, held, command, workers, gate, further,
+        ) {
+            Ok((held, answer)) => {
+                held.laws();
+                let number = held.number();
+                let row = Row {
+                    command: place,
+                    query,
+                    number,
+                    answer,
+                };
+                Ok(Answered { held, row })
+            }
+            Err(Memory) => {
+                discard_query(query);
+                Err(Memory)
+            }
+        },
+        Err(Memory) => {
+            Version::discard(held);
+            Err(Memory)
+        }
+    }
+}
+
+/// Answers the command at a place: its row stands behind the others, and the session holds the version.
 fn step<H: Threads + Wait + Sync, G: Gate, X: Further>(
     rt: &H,
     alloc: Global,
@@ -54,35 +143,19 @@ fn step<H: Threads + Wait + Sync, G: Gate, X: Further>(
     ensures run { IfOk result (λ next. (origin : Design) (first : ℕ) (v : Sight) (commands : List Command) → seat.old.view.first ≡ first → seat.old.view.origin ≡ Some origin → place ≡ length commands + 1 → IsRun origin first who v commands seat.old.view (arc_value held) rows.old.items → IsRun origin first who v (commands ++ command.now ∷ []) seat.new.view (arc_value next) rows.new.items) }
     ensures looked { OnErr result (Looked seat.old.view seat.new.view) }
 {
-    held.laws();
-    match query_of(alloc, command) {
-        Ok(query) => match answer(
-            rt, alloc, who, board, seat, held, command, workers, gate, further,
-        ) {
-            Ok((held, answer)) => {
-                held.laws();
-                let number = held.number();
-                rows.push_reserved(Row {
-                    command: place,
-                    query,
-                    number,
-                    answer,
-                });
-                gate.at(Point::Answered {
-                    session: who,
-                    command: place,
-                });
-                Ok(held)
-            }
-            Err(Memory) => {
-                discard_query(query);
-                Err(Memory)
-            }
-        },
-        Err(Memory) => {
-            Version::discard(held);
-            Err(Memory)
+    match answer_command(
+        rt, alloc, who, board, seat, held, place, command, workers, gate, further,
+    ) {
+        Ok(answered) => {
+            let Answered { held, row } = answered;
+            rows.push_reserved(row);
+            gate.at(Point::Answered {
+                session: who,
+                command: place,
+            });
+            Ok(held)
         }
+        Err(Memory) => Err(Memory),
     }
 }
 
@@ -112,8 +185,7 @@ fn steps<H: Threads + Wait + Sync, G: Gate, X: Further>(
     ensures run { IfOk result (λ held. IsRun board.now.opening.origin board.now.opening.first who seat.old.view commands.now seat.new.view (arc_value held) rows.new.items) }
     ensures stopped { OnErr result (Stopped board.now.opening.origin board.now.opening.first who commands.now seat.old.view seat.new.view) }
 {
-    let mut held = taken(rt, who, board, seat, gate)?;
-    held.laws();
+    let mut held = begin_session(rt, who, board, seat, gate)?;
     let mut place = 1u32;
     for command in commands {
         held = step(

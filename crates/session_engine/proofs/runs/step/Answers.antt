@@ -1,12 +1,12 @@
-use Rattle.std.proofs.Common.{rules}
+use Rattle.std.proofs.Common.{◌≡◌, sym, subst}
+use Rattle.std.specs.Prelude.{◌++◌, ◌∷◌, [], List}
 use Rattle.std.specs.Arc.{arc_value}
-use Rattle.session_engine.proofs.Rows.{run_step}
+use Rattle.timing_defs.specs.declared.scripts.Row.{Row}
+use Rattle.session_engine.specs.Running.{IsRun}
 use Rattle.session_engine.proofs.runs.step.Goals as goal
 
-pub returns-in-Ok-answer-clause-run : goal.returns-in-Ok-answer-clause-run
-returns-in-Ok-answer-clause-run g c = λ origin first v commands from over at run.
-    run_step origin first c.args.who v commands c.args.seat.now.view (arc_value c.args.held) c.args.rows.now.items c.answer.new.seat.view (arc_value c.in-Ok-answer.held)
-    c.args.place c.args.command.now c.in-Ok-answer.answer c.deref.result.now c.deref-in-Ok-answer.result.now c.deref-in-Ok-answer-2.result.now c.in-Ok.query c.number-number.result
-    c.push_reserved.new.self.items
-    (search rules) c.laws.ensures c.requires.held (search rules) c.laws-in-Ok-answer.ensures c.in-Ok-answer.ensures.holds c.in-Ok-answer.ensures.same.3 c.in-Ok-answer.ensures.same.2
-    c.requires.command c.in-Ok-answer.ensures.answers c.in-Ok.ensures (search rules) c.number-number.ensures c.push_reserved.ensures.items from over at run
+pub returns-in-Ok-clause-run : goal.returns-in-Ok-clause-run
+returns-in-Ok-clause-run g c = λ origin first v commands from over at run.
+    subst (λ (rows : List Row). IsRun origin first c.args.who v (commands ++ c.args.command.now ∷ []) c.answer_command.new.seat.view (arc_value c.in-Ok.answered.held) rows)
+    (sym c.push_reserved.ensures.items)
+    (c.in-Ok.ensures.run origin first v commands c.args.rows.now.items from over at run)

@@ -5,7 +5,7 @@ use Rattle.timing_defs.specs.declared.scripts.Command.{Command}
 use Rattle.timing_defs.specs.declared.scripts.Row.{Row}
 use Rattle.session_engine.specs.Running.{IsRun}
 use Rattle.session_engine.proofs.Sights.{same_then}
-use Rattle.session_engine.proofs.Rows.{run_none, stopped_behind, on_error}
+use Rattle.session_engine.proofs.Rows.{stopped_behind, on_error}
 use Rattle.session_engine.proofs.runs.steps.Goals as goal
 
 pub loop-command-init : goal.loop-command-init
@@ -17,10 +17,8 @@ loop-command-init g c =
       long = search rules;
       room = refl;
       run =
-          subst (λ (rows : List Row). IsRun c.args.board.now.opening.origin c.args.board.now.opening.first c.args.who c.args.seat.now.view [] c.taken.new.seat.view (arc_value c.in_ok-held.held) rows)
-          (sym c.requires.empty)
-          (run_none c.args.board.now.opening.origin c.args.board.now.opening.first c.args.who c.args.seat.now.view c.taken.new.seat.view (arc_value c.in_ok-held.held) c.deref.result.now
-          (search rules) c.laws.ensures c.in_ok-held.ensures.holds (c.in_ok-held.ensures.same.3 ∙ c.requires.seat.1) c.in_ok-held.ensures.saw);
+          subst (λ (rows : List Row). IsRun c.args.board.now.opening.origin c.args.board.now.opening.first c.args.who c.args.seat.now.view [] c.begin_session.new.seat.view (arc_value c.in_ok-held.held) rows)
+          (sym c.requires.empty) c.in_ok-held.ensures.run;
     }
 
 pub loop-command-preserved : goal.loop-command-preserved
