@@ -39,10 +39,14 @@ pub struct Heard {
 }
 
 impl Model for LiveReader {
+    ghost use Rattle.std.specs.Coded.{codes};
+    ghost use Rattle.timing_defs.specs.contracts.reports.Trial as trial;
     ghost use Rattle.script_reader.specs.Live.{Reading};
     ghost use Rattle.script_reader.specs.LivePlaces.{place_of};
 
     ghost Value = { Reading };
+
+    ghost coded = { Prim.hlevel (codes, trial.the_row.coded) };
 
     ghost view = { λ r. record { place = place_of r.place; lines = r.lines } };
 }
