@@ -78,11 +78,11 @@ IsLimit count place limit = (count < 10000 → limit ≡ []) × (limit ≡ [] �
 data Stepping (count : ℕ) (place : Place) (b : Behind) (fs : List Wrong) (cs : List Command) (rest : List Event) : Type 0 where
   quiet : b ≡ goes_on (stands place) → fs ≡ faults count place rest → cs ≡ commands place rest → Stepping count place b fs cs rest
   goes : (next : Place) (limit : List Wrong) → IsLimit count place limit → IsOpen next → b ≡ goes_on (stands next)
-    → fs ≡ limit ++ faults count next rest → cs ≡ commands next rest → Stepping count place b fs cs rest
+      → fs ≡ limit ++ faults count next rest → cs ≡ commands next rest → Stepping count place b fs cs rest
   ends : (command : Command) (limit : List Wrong) → IsLimit count place limit → b ≡ asks command
-    → fs ≡ limit ++ faults (count + 1) outside rest → cs ≡ command ∷ commands outside rest → Stepping count place b fs cs rest
+      → fs ≡ limit ++ faults (count + 1) outside rest → cs ≡ command ∷ commands outside rest → Stepping count place b fs cs rest
   stops : (next : LivePlace) (wrong : Wrong) (others : List Wrong) → b ≡ fails next wrong
-    → fs ≡ wrong ∷ others → Stepping count place b fs cs rest
+      → fs ≡ wrong ∷ others → Stepping count place b fs cs rest
 
 below : (count n : ℕ) → behind 10000 count n ≡ [] → count < 10000
 below count n none = elim (cases_Bool (nat_le 10000 count)) [
@@ -107,12 +107,12 @@ room : (most before n count : ℕ) (place next : Place) (b : Behind) (fs : List 
     → cs ≡ commands next rest → Stepping count place b fs cs rest
 room most before n count place next b fs cs rest here opened live fault said = elim (cases_Bool (nat_le most before)) [
   | inl hit ↦ stops (given_up place) (excess n) (faults count next rest)
-    (live ∙ ap (λ (full : Bool). cond full (crowded place n) (goes_on (stands next))) hit)
-    (fault ∙ ap (λ (full : Bool). cond full (excess n ∷ []) [] ++ faults count next rest) hit)
+      (live ∙ ap (λ (full : Bool). cond full (crowded place n) (goes_on (stands next))) hit)
+      (fault ∙ ap (λ (full : Bool). cond full (excess n ∷ []) [] ++ faults count next rest) hit)
   | inr miss ↦ goes next [] (uncounted count place here) opened
-    (live ∙ ap (λ (full : Bool). cond full (crowded place n) (goes_on (stands next))) miss)
-    (fault ∙ ap (λ (full : Bool). cond full (excess n ∷ []) [] ++ faults count next rest) miss)
-    said
+      (live ∙ ap (λ (full : Bool). cond full (crowded place n) (goes_on (stands next))) miss)
+      (fault ∙ ap (λ (full : Bool). cond full (excess n ∷ []) [] ++ faults count next rest) miss)
+      said
 ]
 
 -- an event at a place, before others
@@ -124,7 +124,7 @@ question : (count begin : ℕ) (trials : List Trial) (n : ℕ) (q : Query) (rest
 unfolding commands faults
 question count begin trials n q rest = elim (cases_Bool (is_plain q)) [
   | inl hit ↦ room 100 (length trials) n count (drafted begin trials) (drafted begin (trials ++ ask_draft q ∷ [])) _ _ _ rest tt tt
-    (rw hit refl) (rw hit refl) (rw hit refl)
+      (rw hit refl) (rw hit refl) (rw hit refl)
   | inr miss ↦ stops passing_draft (bad n) [] (rw miss refl) (rw miss refl)
 ]
 
@@ -370,9 +370,10 @@ back_step count place b fs cs rest more (ends command limit limits live fault sa
     let same = first_of (Asked command) (Asked c) (more (stands outside)) (map Asked asked)
     (seen more b (asks command) (map Asked (c ∷ asked)) live given) in
     let below : count < 10000 = omega (arith, few) in
-    let behind_line = others (count + 1) outside asked same.1 (omega (arith, few)) in
-    (fault ∙ ap (λ (xs : List Wrong). xs ++ faults (count + 1) outside rest) (limits.0 below) ∙ behind_line.0,
-    said ∙ ap (λ (xs : List Command). command ∷ xs) behind_line.1 ∙ ap (λ (x : Command). x ∷ asked) (same_asked command c same.0))
+    let behind_line = others (count + 1) outside asked same.1 (omega (arith, few)) in (
+      fault ∙ ap (λ (xs : List Wrong). xs ++ faults (count + 1) outside rest) (limits.0 below) ∙ behind_line.0,
+      said ∙ ap (λ (xs : List Command). command ∷ xs) behind_line.1 ∙ ap (λ (x : Command). x ∷ asked) (same_asked command c same.0),
+    )
 back_step count place b fs cs rest more (stops next wrong faults_behind live fault) some others [] given few =
     let same = seen more b (fails next wrong) [] live given in absurd (cc)
 back_step count place b fs cs rest more (stops next wrong faults_behind live fault) some others (c ∷ asked) given few =

@@ -1,10 +1,11 @@
 //! Where a line of a session stands, and what it makes of that.
 
 ghost use Rattle.std.specs.Prelude.{◌≡◌, ◌∷◌, [], IfOk, option_map};
+ghost use Rattle.timing_defs.specs.declared.scripts.Command.TheVariants.{Ask};
 ghost use Rattle.script_reader.specs.declared.live.Item.TheVariants.{Faulty};
-ghost use Rattle.script_reader.specs.Scripts.{long, change, single, eco, bad, excess, outside};
+ghost use Rattle.script_reader.specs.Scripts.{long, change, single, group_begin, eco, bad, excess, outside};
 ghost use Rattle.script_reader.specs.Progress.{said_events, in_group, in_draft, in_draft_group};
-ghost use Rattle.script_reader.specs.Live.{stands, goes_on, asks, fails, more_trials, group_closed, draft_closed, trial_closed, group_event, draft_event, trial_event, live_event, live_said, live_line, live_end};
+ghost use Rattle.script_reader.specs.Live.{stands, passing_eco, passing_draft, goes_on, asks, fails, more_trials, group_closed, draft_closed, trial_closed, group_event, draft_event, trial_event, live_event, live_said, live_line, live_end};
 ghost use Rattle.script_reader.specs.LivePlaces.{place_of, behind_step};
 
 use crate::drafts::{TRIAL_LIMIT, is_plain};
@@ -38,6 +39,7 @@ pub(crate) struct Step {
 
 impl Standing {
     /// The line at which what is open began.
+    #[tactic(auto, unfolding(crate::specs::Live::live_end))]
     pub(crate) fn open_from(&self) -> Option<usize>
         ensures { live_end (place_of self.now) ≡ option_map (λ n. Faulty (bad n)) result }
     {
