@@ -1,6 +1,6 @@
 //! A session that is read line by line.
 
-ghost use Rattle.std.specs.Prelude.{◌≡◌, ◌+◌, ◌<◌, IfOk, OnOk, IfErr};
+ghost use Rattle.std.specs.Prelude.{◌≡◌, ◌+◌, ◌<◌, ◌↔◌, IfOk, OnOk, IfErr};
 ghost use Rattle.script_reader.specs.Live.{beginning, live_line, live_end};
 
 use crate::places::{Standing, Step, heard};

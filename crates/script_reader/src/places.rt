@@ -1,6 +1,6 @@
 //! Where a line of a session stands, and what it makes of that.
 
-ghost use Rattle.std.specs.Prelude.{◌≡◌, ◌∷◌, [], IfOk, option_map};
+ghost use Rattle.std.specs.Prelude.{◌≡◌, ◌∷◌, [], ℕ, IfOk, option_map};
 ghost use Rattle.timing_defs.specs.declared.scripts.Command.TheVariants.{Ask};
 ghost use Rattle.script_reader.specs.declared.live.Item.TheVariants.{Faulty};
 ghost use Rattle.script_reader.specs.Scripts.{long, change, single, group_begin, eco, bad, excess, outside};
