@@ -22,8 +22,8 @@ use Rattle.eco_journal.specs.EditLines.{edit_of}
 use Rattle.script_reader.specs.declared.live.Item.{Item}
 use Rattle.script_reader.specs.declared.live.Item.TheVariants.{Asked, Faulty}
 use Rattle.script_reader.specs.Commands.{words_in, command_of}
-use Rattle.script_reader.specs.Scripts.{Event, long, single, change, group_begin, group_end, draft_begin, draft_end, dropped, unknown, is_ascii, is_passed, is_alone, edit_said, command_said, words_said, line_said, too_long, events, Place, outside, inside, drafted, tried, eco, trial, what_if, commands, bad, excess, behind, if_empty, faults, told, script_of}
-use Rattle.script_reader.specs.Live.{LivePlace, stands, passing_eco, passing_draft, Behind, goes_on, asks, fails, given_up, unfit, crowded, if_room, line_of, live_event, live_said, live_events, live_line, live_end, item_list, items, place_behind, all_items}
+use Rattle.script_reader.specs.Scripts.{Event, long, single, change, group_begin, group_end, draft_begin, draft_end, dropped, is_ascii, is_passed, is_alone, edit_said, command_said, words_said, line_said, too_long, events, Place, outside, inside, drafted, tried, eco, trial, what_if, commands, bad, excess, behind, faults, told, script_of}
+use Rattle.script_reader.specs.Live.{LivePlace, stands, passing_eco, passing_draft, Behind, goes_on, asks, fails, given_up, crowded, if_room, line_of, live_event, live_said, live_line, live_end, item_list, items, place_behind, all_items}
 
 -- the items of more lines
 pub more_items : (place : LivePlace) (n : ℕ) (first others : List (List ℕ))

@@ -1,7 +1,7 @@
 -- A session that is read line by line: each line is a command, or a wrong line, or neither. A command has one line, or the lines
 -- of a group or of a draft, whose last is the command's. Behind a wrong line in a group or in a draft the rest of it, up to its
 -- end, is passed over (own).
-use Rattle.std.specs.Prelude.{ℕ, ◌+◌, List, [], ◌∷◌, ◌++◌, Bool, nat_le, length, if◌then◌else◌, Option, Some, None}
+use Rattle.std.specs.Prelude.{ℕ, ◌+◌, List, [], ◌∷◌, ◌++◌, nat_le, length, if◌then◌else◌, Option, Some, None}
 use Rattle.timing_defs.specs.declared.edits.Edit.{Edit}
 use Rattle.timing_defs.specs.declared.reports.Trial.{Trial}
 use Rattle.timing_defs.specs.declared.reports.Trial.TheVariants.{Drop, Ask as ask_draft}
