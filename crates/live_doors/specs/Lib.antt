@@ -1,0 +1,4 @@
+-- What the contracts of doors, halls and journals cite.
+pub mod Doors
+pub mod Lines
+pub mod Marks
