@@ -4,6 +4,7 @@
 #![tactic(auto)]
 
 mod door;
+mod log;
 mod mark;
 
 pub use door::{Door, Hall, Lost};
