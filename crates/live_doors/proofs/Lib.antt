@@ -1,2 +1,3 @@
--- Steps of a history's walks, and lemmas on lines, deeds and writes.
+-- Steps of a history's walks, and lemmas on writing and reading in pieces.
 mod Walks
+mod Streams

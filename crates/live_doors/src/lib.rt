@@ -3,8 +3,19 @@
 //! those who wait.
 #![tactic(auto)]
 
+mod append_sink;
 mod door;
+mod halls;
+mod history;
+mod lines;
+mod live_gate;
 mod log;
 mod mark;
+mod open_door;
+mod writing;
 
+pub use append_sink::{AppendSink, NotOpened};
 pub use door::{Door, Hall, Lost};
+pub use halls::{NamedDoor, NamedHall, Printed, StandardDoor, StandardHall};
+pub use live_gate::LiveGate;
+pub use open_door::OpenDoor;
