@@ -8,8 +8,8 @@ use std::time::{Clock, Duration};
 /// One place for each of 16 sessions, which count from 1, and one that stays free.
 const PLACES: usize = 17;
 
-/// How long a session pauses: a millisecond.
-const PAUSE: Duration = Duration::from_millis(1);
+/// How many milliseconds a session pauses.
+const PAUSE: u64 = 1;
 
 /// No version has this number.
 const NONE: u64 = u64::MAX;
@@ -43,7 +43,7 @@ impl<R: Clock + Sync> Gate for LiveGate<'_, R> {
     fn at(&self, point: Point) {
         if let Point::Looked { session, number } = point {
             if self.sees_again(session, number) {
-                thread::sleep(self.rt, PAUSE);
+                thread::sleep(self.rt, Duration::from_millis(PAUSE));
             }
         }
     }
