@@ -1,7 +1,7 @@
 -- What writes in a row do to the bytes that a writer holds.
-use Rattle.std.proofs.Common.{ℕ, ◌+◌, ◌-◌, List, ◌++◌, None, Some, sym, ap, ◌∙◌, length, take, drop, append_assoc}
+use Rattle.std.proofs.Common.{ℕ, ◌+◌, le_refl, ◌-◌, List, ◌++◌, None, Some, sym, ap, ◌∙◌, length, take, drop, append_assoc, subst}
 use Rattle.std.proofs.Math.Seq.{take-add}
-use Rattle.std.proofs.lemmas.List.{take_rest}
+use Rattle.std.proofs.lemmas.List.{take_rest, take_all}
 use Rattle.std.specs.declared.option.Option.{Option}
 use Rattle.std.specs.Io.KnownBytes.{Appends}
 
@@ -15,3 +15,7 @@ written_more (Some x) (Some y) (Some z) piece at count first second =
     ∙ ap (λ l. l ++ take count (drop at piece)) first
     ∙ append_assoc x (take at piece) (take count (drop at piece))
     ∙ ap (λ l. x ++ l) (sym (take-add at count piece))
+
+-- all of a piece is a prefix of it
+pub whole_prefix : (a b : Option (List ℕ)) (piece : List ℕ) → Appends a b piece → (n : ℕ) × Appends a b (take n piece)
+whole_prefix a b piece whole = (length piece, subst (Appends a b) (sym (take_all (length piece) piece (le_refl (length piece)))) whole)

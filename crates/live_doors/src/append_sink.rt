@@ -1,6 +1,6 @@
 //! A journal's file: what is put is appended, and stands on the disk before the put returns.
 
-ghost use Rattle.std.specs.Prelude.{◌≡◌, ◌≤◌, None, IfOk, OnOk, OnErr, take};
+ghost use Rattle.std.specs.Prelude.{◌≡◌, ℕ, ◌≤◌, None, IfOk, OnOk, OnErr, take};
 ghost use Rattle.std.specs.Io.KnownBytes.{Appends as Grows};
 ghost use Rattle.sta_outside.specs.Shelf.{Rose};
 
@@ -68,14 +68,18 @@ impl AppendSink<File> {
 }
 
 /// Writes a piece to a file and synchronizes it.
+#[tactic(auto, using(crate::proofs::Streams::whole_prefix))]
 fn append<F: Write + OpenFile>(file: &mut F, piece: &[u8]) -> Result<(), PutFault>
     ensures whole { OnOk result (Grows (F.contents file.old) (F.contents file.new) piece.now) }
     ensures partly { OnErr result ((n : ℕ) × Grows (F.contents file.old) (F.contents file.new) (take n piece.now)) }
 {
-    if write_whole(file, piece).is_err() || file.sync_data().is_err() {
-        return Err(PutFault::Failed);
+    match write_whole(file, piece) {
+        Err(_) => Err(PutFault::Failed),
+        Ok(()) => match file.sync_data() {
+            Ok(()) => Ok(()),
+            Err(_) => Err(PutFault::Failed),
+        },
     }
-    Ok(())
 }
 
 impl<F: Write + OpenFile> Sink for AppendSink<F> {

@@ -15,7 +15,7 @@ pub(crate) struct History {
     nothing: Vec<u8>,
 }
 
-#[tactic(auto, using(std::proofs::lemmas::List::map_append))]
+#[tactic(auto, using(crate::proofs::Pieces::marks))]
 impl History {
     /// The history of nothing.
     pub(crate) fn new(alloc: Global) -> History

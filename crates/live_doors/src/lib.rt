@@ -11,11 +11,16 @@ mod lines;
 mod live_gate;
 mod log;
 mod mark;
+mod mem_door;
 mod open_door;
+mod plan;
+mod record;
 mod writing;
 
 pub use append_sink::{AppendSink, NotOpened};
 pub use door::{Door, Hall, Lost};
 pub use halls::{NamedDoor, NamedHall, Printed, StandardDoor, StandardHall};
 pub use live_gate::LiveGate;
+pub use mem_door::{MemDoor, MemHall, MemSeat};
 pub use open_door::OpenDoor;
+pub use record::Done;
