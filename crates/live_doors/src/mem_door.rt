@@ -20,7 +20,7 @@ pub struct MemDoor {
     lines: Vec<Vec<u8>>,
     next: usize,
     plan: Plan,
-    record: Record,
+    account: Record,
 }
 
 impl MemDoor {
@@ -29,21 +29,21 @@ impl MemDoor {
     pub fn new(alloc: Global, lines: Vec<Vec<u8>>, fails: Vec<u64>) -> MemDoor
         ensures lines { drop result.next result.lines.items ≡ lines.items }
         ensures plan { result.plan ≡ record { fails = fails; calls = 0; faults = 0 } }
-        ensures untouched { deeds result.record.history ≡ [] }
+        ensures untouched { deeds result.account.history ≡ [] }
     {
         MemDoor {
             lines,
             next: 0,
             plan: Plan::new(fails),
-            record: Record::new(alloc),
+            account: Record::new(alloc),
         }
     }
 
     /// What was done, in order; none where memory was wanting for the record.
     pub fn done(&self) -> Option<&[Done]>
-        ensures { IfSome result (λ done. map done_deed done.now ≡ deeds self.now.record.history) }
+        ensures { IfSome result (λ done. map done_deed done.now ≡ deeds self.now.account.history) }
     {
-        self.record.done()
+        self.account.done()
     }
 
     /// How often it failed.
@@ -55,11 +55,12 @@ impl MemDoor {
 }
 
 /// What is kept of a line.
+#[tactic(auto, using(std::proofs::lemmas::List::take_min))]
 fn kept_of(alloc: Global, line: &[u8]) -> Result<Vec<u8>, Lost>
     ensures line { IfOk result (λ copy. copy.items ≡ take kept_length line.now) }
     ensures lost { IfErr result (λ lost. lost ≡ Lost.Memory) }
 {
-    match Vec::from_slice(alloc, &line[..line.len().min(KEPT_LENGTH)]) {
+    match Vec::from_slice(alloc, &line[..KEPT_LENGTH.min(line.len())]) {
         Ok(copy) => Ok(copy),
         Err(_) => Err(Lost::Memory),
     }
@@ -68,15 +69,15 @@ fn kept_of(alloc: Global, line: &[u8]) -> Result<Vec<u8>, Lost>
 impl Door for MemDoor {
     ghost left = { λ door. Some (kept_lines (drop door.next door.lines.items)) };
 
-    ghost trace = { λ door. Some (deeds door.record.history) };
+    ghost trace = { λ door. Some (deeds door.account.history) };
 
     ghost faults = { λ door. door.plan.faults };
 
     fn hear(&mut self, alloc: Global) -> Result<Option<Vec<u8>>, Lost>
-        ensures line { IfOk result (λ got. Hears (Some (kept_lines (drop self.old.next self.old.lines.items))) (Some (kept_lines (drop self.new.next self.new.lines.items))) (Some (deeds self.old.record.history)) (Some (deeds self.new.record.history)) (option_map vec_items got)) }
+        ensures line { IfOk result (λ got. Hears (Some (kept_lines (drop self.old.next self.old.lines.items))) (Some (kept_lines (drop self.new.next self.new.lines.items))) (Some (deeds self.old.account.history)) (Some (deeds self.new.account.history)) (option_map vec_items got)) }
         ensures within { IfOk result (λ got. IfSome got (λ line. length line.items ≤ kept_length)) }
         ensures quiet { OnOk result (self.new.plan.faults ≡ self.old.plan.faults) }
-        ensures none { OnErr result (Loses (Some (kept_lines (drop self.old.next self.old.lines.items))) (Some (kept_lines (drop self.new.next self.new.lines.items))) [] × Grows (Some (deeds self.old.record.history)) (Some (deeds self.new.record.history)) []) }
+        ensures none { OnErr result (Loses (Some (kept_lines (drop self.old.next self.old.lines.items))) (Some (kept_lines (drop self.new.next self.new.lines.items))) [] × Grows (Some (deeds self.old.account.history)) (Some (deeds self.new.account.history)) []) }
         ensures cause { IfErr result (λ lost. HasCause lost self.old.plan.faults self.new.plan.faults) }
         // when it fails
         ensures answer { HearsBy (next_fails self.old.plan) result }
@@ -90,37 +91,37 @@ impl Door for MemDoor {
         };
         let line = kept_of(alloc, line.as_slice())?;
         self.next += 1;
-        self.record.hear(&line);
+        self.account.hear(&line);
         Ok(Some(line))
     }
 
     fn say(&mut self, piece: &Vec<u8>) -> Result<(), Lost>
         ensures same { Loses (Some (kept_lines (drop self.old.next self.old.lines.items))) (Some (kept_lines (drop self.new.next self.new.lines.items))) [] }
-        ensures whole { OnOk result (Grows (Some (deeds self.old.record.history)) (Some (deeds self.new.record.history)) (said piece.now.items ∷ [])) }
+        ensures whole { OnOk result (Grows (Some (deeds self.old.account.history)) (Some (deeds self.new.account.history)) (said piece.now.items ∷ [])) }
         ensures quiet { OnOk result (self.new.plan.faults ≡ self.old.plan.faults) }
-        ensures partly { OnErr result (SaysPart (Some (deeds self.old.record.history)) (Some (deeds self.new.record.history)) piece.now.items) }
+        ensures partly { OnErr result (SaysPart (Some (deeds self.old.account.history)) (Some (deeds self.new.account.history)) piece.now.items) }
         ensures cause { OnErr result (Rose self.old.plan.faults self.new.plan.faults) }
         ensures lost { IfErr result (λ lost. lost ≡ Lost.Output) }
         // when it fails, and what it writes
         ensures answer { is_ok result ≡ not (next_fails self.old.plan) }
-        ensures said { deeds self.new.record.history ≡ deeds self.old.record.history ++ said (said_by (next_fails self.old.plan) piece.now.items) ∷ [] }
+        ensures said { deeds self.new.account.history ≡ deeds self.old.account.history ++ said (said_by (next_fails self.old.plan) piece.now.items) ∷ [] }
         ensures plan { self.new.plan ≡ after_call self.old.plan }
     {
         if self.plan.next_fails() {
-            self.record.cut(piece, piece.len() / 2);
+            self.account.cut(piece, piece.len() / 2);
             return Err(Lost::Output);
         }
-        self.record.say(piece);
+        self.account.say(piece);
         Ok(())
     }
 
     fn note(&mut self, number: u64)
         ensures same { Loses (Some (kept_lines (drop self.old.next self.old.lines.items))) (Some (kept_lines (drop self.new.next self.new.lines.items))) [] }
-        ensures kept { Grows (Some (deeds self.old.record.history)) (Some (deeds self.new.record.history)) (kept number ∷ []) }
+        ensures kept { Grows (Some (deeds self.old.account.history)) (Some (deeds self.new.account.history)) (kept number ∷ []) }
         ensures quiet { self.new.plan.faults ≡ self.old.plan.faults }
         ensures plan { self.new.plan ≡ self.old.plan }
     {
-        self.record.keep(number);
+        self.account.keep(number);
     }
 }
 
@@ -162,7 +163,7 @@ fn copied(alloc: Global, lines: &[Vec<u8>]) -> Result<Vec<Vec<u8>>, Memory>
 fn door_of(alloc: Global, seat: &MemSeat) -> Result<MemDoor, Memory>
     ensures lines { IfOk result (λ door. kept_lines (drop door.next door.lines.items) ≡ kept_lines seat.now.lines.items) }
     ensures plan { IfOk result (λ door. (door.plan.fails.items ≡ seat.now.fails.items) × (door.plan.calls ≡ 0) × (door.plan.faults ≡ 0)) }
-    ensures untouched { IfOk result (λ door. deeds door.record.history ≡ []) }
+    ensures untouched { IfOk result (λ door. deeds door.account.history ≡ []) }
 {
     let lines = copied(alloc, seat.lines.as_slice())?;
     let fails = Vec::from_slice(alloc, seat.fails.as_slice())?;

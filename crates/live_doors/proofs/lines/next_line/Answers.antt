@@ -1,4 +1,6 @@
-use Rattle.std.proofs.Common.{[], rules, arith}
+use Rattle.std.proofs.Common.{[], subst, rules}
+use Rattle.live_doors.specs.Lines.{Reads}
+use Rattle.live_doors.specs.declared.lines.Behind.TheVariants.{InputEnd}
 use Rattle.live_doors.proofs.Pieces.{read_more, line_ended, line_whole, line_none}
 use Rattle.live_doors.proofs.lines.next_line.Goals as goal
 
@@ -10,10 +12,10 @@ returns-in-LineEnd-clause-line g c = line_ended _ _ _ (read_more _ _ _ _ _ _ c.l
 
 pub returns-in-InputEnd-clause-line : goal.returns-in-InputEnd-clause-line
 returns-in-InputEnd-clause-line g c =
-    let read = c.in_ok-read_on.ensures.read in
+    let read : Reads _ _ _ _ InputEnd = subst (Reads _ _ _ _) c.in-InputEnd.is c.in_ok-read_on.ensures.read in
     line_none _ _ _ _ c.read_on.new.line.items c.loop.invariant.1 read.0 read.1.0 read.1.1 (search rules)
 
 pub returns-in-InputEnd-2-clause-line : goal.returns-in-InputEnd-2-clause-line
 returns-in-InputEnd-2-clause-line g c =
-    let read = c.in_ok-read_on.ensures.read in
+    let read : Reads _ _ _ _ InputEnd = subst (Reads _ _ _ _) c.in-InputEnd-2.is c.in_ok-read_on.ensures.read in
     line_whole _ _ _ _ c.read_on.new.line.items c.loop.invariant.1 read.0 read.1.0 read.1.1 (search rules)

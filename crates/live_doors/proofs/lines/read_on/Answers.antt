@@ -15,7 +15,7 @@ returns-then-is_ended-clause-read g c =
     let filled = subst (FillKeeps _ (g.B.Read.remaining rested) (g.B.BufRead.consumable_len rested)) c.in-Ok.is c.fill_buf.follows.holds-at-none in
     let moved =
     Consumes_shown _ _ _ _ c.in-Ok.shown.now (end.result + 1) (omega (arith, some)) c.in-Ok.ensures.front c.in-Ok.ensures.end filled.0 filled.1 c.consume.ensures.bytes in
-    end_read _ _ _ c.in-Ok.shown.now _ end.result c.min-kept.result (omega (arith, c.requires, c.args.line.now.ok.0)) end.ensures.before (search rules) c.extend_from_slice.ensures.items some
+    end_read _ _ _ c.in-Ok.shown.now _ end.result c.min-kept.result (omega (arith, c.requires, c.args.line.now.ok.0)) end.ensures.before (search rules) (search rules) some
     (end.ensures.end some) moved.0
 
 pub returns-else-is_ended-clause-read : goal.returns-else-is_ended-clause-read
@@ -25,4 +25,4 @@ returns-else-is_ended-clause-read g c =
     let filled = subst (FillKeeps _ (g.B.Read.remaining rested) (g.B.BufRead.consumable_len rested)) c.in-Ok.is c.fill_buf.follows.holds-at-none in
     let moved =
     Consumes_shown _ _ _ _ c.in-Ok.shown.now end.result end.ensures.bound c.in-Ok.ensures.front c.in-Ok.ensures.end filled.0 filled.1 c.consume-else-is_ended.ensures.bytes in
-    part_read _ _ _ c.in-Ok.shown.now _ end.result c.min-kept.result (omega (arith, c.requires, c.args.line.now.ok.0)) end.ensures.before (search rules) c.extend_from_slice.ensures.items moved.0
+    part_read _ _ _ c.in-Ok.shown.now _ end.result c.min-kept.result (omega (arith, c.requires, c.args.line.now.ok.0)) end.ensures.before (search rules) (search rules) moved.0
