@@ -58,6 +58,7 @@ impl MemDoor {
 #[tactic(auto, using(std::proofs::lemmas::List::take_min))]
 fn kept_of(alloc: Global, line: &[u8]) -> Result<Vec<u8>, Lost>
     ensures line { IfOk result (λ copy. copy.items ≡ take kept_length line.now) }
+    ensures within { IfOk result (λ copy. length copy.items ≤ kept_length) }
     ensures lost { IfErr result (λ lost. lost ≡ Lost.Memory) }
 {
     match Vec::from_slice(alloc, &line[..KEPT_LENGTH.min(line.len())]) {

@@ -13,9 +13,9 @@ returns-in-LineEnd-clause-line g c = line_ended _ _ _ (read_more _ _ _ _ _ _ c.l
 pub returns-in-InputEnd-clause-line : goal.returns-in-InputEnd-clause-line
 returns-in-InputEnd-clause-line g c =
     let read : Reads _ _ _ _ InputEnd = subst (Reads _ _ _ _) c.in-InputEnd.is c.in_ok-read_on.ensures.read in
-    line_none _ _ _ _ c.read_on.new.line.items c.loop.invariant.1 read.0 read.1.0 read.1.1 (search rules)
+    line_none _ _ _ _ c.read_on.new.line.items c.loop.invariant.1 read.0 read.1 read.2 (search rules)
 
 pub returns-in-InputEnd-2-clause-line : goal.returns-in-InputEnd-2-clause-line
 returns-in-InputEnd-2-clause-line g c =
     let read : Reads _ _ _ _ InputEnd = subst (Reads _ _ _ _) c.in-InputEnd-2.is c.in_ok-read_on.ensures.read in
-    line_whole _ _ _ _ c.read_on.new.line.items c.loop.invariant.1 read.0 read.1.0 read.1.1 (search rules)
+    line_whole _ _ _ _ c.read_on.new.line.items c.loop.invariant.1 read.0 read.1 read.2 (search rules)
