@@ -1,5 +1,6 @@
 -- What reading a line in pieces does to the bytes that an input has left.
-use Rattle.std.proofs.Common.{◌≡◌, ◌≢◌, ◌⊎◌, ℕ, suc, ◌+◌, ◌-◌, ◌<◌, ◌≤◌, min, Bool, true, false, List, [], ◌∷◌, ◌++◌, None, Some, All, cond, length, take, drop, get_or, inl, inr, refl, sym, ap, subst, ◌∙◌, arith, append_assoc, append-nil, length-append, ne_eqb, eqb}
+use Rattle.std.proofs.Common.{◌≡◌, ◌≢◌, ◌⊎◌, ℕ, suc, ◌+◌, ◌-◌, ◌<◌, ◌≤◌, min, Bool, true, false, List, [], ◌∷◌, ◌++◌, None, Some, All, cond, length, take, drop, get_or, inl, inr, refl, sym, ap, subst, ◌∙◌, arith, append_assoc, append-nil, length-append, ne_eqb, zero, true≢false}
+use Rattle.std.specs.Prelude.{◌==◌}
 use Rattle.std.proofs.lemmas.Bool.{cases_lt}
 use Rattle.std.proofs.lemmas.List.{map-append, take_all, take_more, take-take, take-append-le, nil_from_length, length-take}
 use Rattle.std.proofs.lemmas.List.Elements.{All-nil, All-head, All-tail, All-append}
@@ -12,6 +13,10 @@ use Rattle.std.specs.Io.KnownBytes.{Keeps, Consumes, IsAtEnd}
 use Rattle.live_doors.specs.Lines.{kept_length, kept_line, first_line, IsNextLine, ReadsLine, ReadsPart}
 
 pub ruleset marks = (map-append)
+
+pub some_unless_zero : (n : ℕ) → (n == 0) ≡ false → 0 < n
+some_unless_zero zero is = absurd (true≢false is)
+some_unless_zero (suc n) is = omega arith
 
 -- the first bytes of the first bytes
 pub take_both : (a b : ℕ) (xs : List ℕ) → take (min b a) xs ≡ take a (take b xs)
