@@ -145,6 +145,7 @@ fn a_fault_of_the_input_ends_the_hearing(rt: HostRuntime) {
 }
 
 /// An output that takes one byte at a time, as many as it has room for, and is interrupted before each.
+#[derive(Drop)]
 struct Narrow<'a> {
     to: &'a mut Vec<u8>,
     room: usize,

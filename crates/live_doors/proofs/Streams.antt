@@ -1,5 +1,5 @@
 -- What writes in a row do to the bytes that a writer holds.
-use Rattle.std.proofs.Common.{ℕ, ◌+◌, le_refl, ◌-◌, List, ◌++◌, None, Some, sym, ap, ◌∙◌, length, take, drop, append_assoc, subst}
+use Rattle.std.proofs.Common.{◌≡◌, ℕ, ◌+◌, le_refl, ◌-◌, List, ◌++◌, None, Some, sym, ap, ◌∙◌, length, take, drop, append_assoc, subst}
 use Rattle.std.proofs.Math.Seq.{take-add}
 use Rattle.std.proofs.lemmas.List.{take_rest, take_all}
 use Rattle.std.specs.declared.option.Option.{Option}
@@ -17,5 +17,8 @@ written_more (Some x) (Some y) (Some z) piece at count first second =
     ∙ ap (λ l. x ++ l) (sym (take-add at count piece))
 
 -- all of a piece is a prefix of it
-pub whole_prefix : (a b : Option (List ℕ)) (piece : List ℕ) → Appends a b piece → (n : ℕ) × Appends a b (take n piece)
-whole_prefix a b piece whole = (length piece, subst (Appends a b) (sym (take_all (length piece) piece (le_refl (length piece)))) whole)
+pub all_taken : (piece : List ℕ) → take (length piece) piece ≡ piece
+all_taken piece = take_all (length piece) piece (le_refl (length piece))
+
+pub all_written : (a b : Option (List ℕ)) (piece : List ℕ) → Appends a b piece → Appends a b (take (length piece) piece)
+all_written a b piece whole = subst (Appends a b) (sym (all_taken piece)) whole

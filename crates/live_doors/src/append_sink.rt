@@ -1,9 +1,12 @@
 //! A journal's file: what is put is appended, and stands on the disk before the put returns.
 
-ghost use Rattle.std.specs.Prelude.{◌≡◌, ℕ, ◌≤◌, None, IfOk, OnOk, OnErr, take};
+ghost use Rattle.std.specs.Prelude.{◌≡◌, ◌≤◌, [], ◌++◌, Some, IfOk, OnOk, OnErr, length, take};
 ghost use Rattle.std.specs.Io.KnownBytes.{Appends as Grows};
+ghost use Rattle.live_doors.specs.Marks.{IsPut, put_bytes};
 ghost use Rattle.sta_outside.specs.Shelf.{Rose};
+ghost use Rattle.sta_outside.specs.Sink.{AppendsPrefix};
 
+use crate::log::Log;
 use crate::writing::write_whole;
 use sta_outside::{PutFault, Sink};
 use std::fs::{File, OpenFile, TryLockError};
@@ -22,11 +25,12 @@ pub enum NotOpened {
     Unreachable,
 }
 
-/// A file that is appended to, and synchronized behind each put. It does not tell its bytes.
+/// A file that is appended to, and synchronized behind each put. It tells the bytes that its writes took.
 #[derive(Drop)]
 pub struct AppendSink<F> {
     file: F,
     faults: u64,
+    told: Log<u8, u8>,
 }
 
 impl<F> AppendSink<F> {
@@ -34,8 +38,13 @@ impl<F> AppendSink<F> {
     pub fn over(file: F) -> AppendSink<F>
         ensures file { result.file ≡ file }
         ensures sound { result.faults ≡ 0 }
+        ensures untouched { put_bytes result.told.items ≡ [] }
     {
-        AppendSink { file, faults: 0 }
+        AppendSink {
+            file,
+            faults: 0,
+            told: Log::new(),
+        }
     }
 
     /// How often it failed.
@@ -53,7 +62,8 @@ impl AppendSink<File> {
     ///
     /// `Locked` where another process holds the lock, else `Unreachable`.
     pub fn open<R: Files<File = File>>(rt: &R, name: &str) -> Result<AppendSink<File>, NotOpened>
-        ensures { IfOk result (λ sink. sink.faults ≡ 0) }
+        ensures sound { IfOk result (λ sink. sink.faults ≡ 0) }
+        ensures untouched { IfOk result (λ sink. put_bytes sink.told.items ≡ []) }
     {
         let opened = File::options().append(true).create(true).open(rt, name);
         let Ok(file) = opened else {
@@ -67,35 +77,48 @@ impl AppendSink<File> {
     }
 }
 
-/// Writes a piece to a file and synchronizes it.
-#[tactic(auto, using(crate::proofs::Streams::whole_prefix))]
-fn append<F: Write + OpenFile>(file: &mut F, piece: &[u8]) -> Result<(), PutFault>
-    ensures whole { OnOk result (Grows (F.contents file.old) (F.contents file.new) piece.now) }
-    ensures partly { OnErr result ((n : ℕ) × Grows (F.contents file.old) (F.contents file.new) (take n piece.now)) }
+/// Writes a piece to a file and synchronizes it. It answers how many bytes were written, and whether all was done.
+#[tactic(auto, using(crate::proofs::Streams::all_taken, crate::proofs::Streams::all_written))]
+fn append<F: Write + OpenFile>(file: &mut F, piece: &[u8]) -> (usize, Result<(), PutFault>)
+    ensures bound { result.0 ≤ length piece.now }
+    ensures bytes { Grows (F.contents file.old) (F.contents file.new) (take result.0 piece.now) }
+    ensures whole { OnOk result.1 (take result.0 piece.now ≡ piece.now) }
 {
     match write_whole(file, piece) {
-        Err(_) => Err(PutFault::Failed),
+        Err(count) => (count, Err(PutFault::Failed)),
         Ok(()) => match file.sync_data() {
-            Ok(()) => Ok(()),
-            Err(_) => Err(PutFault::Failed),
+            Ok(()) => (piece.len(), Ok(())),
+            Err(_) => (piece.len(), Err(PutFault::Failed)),
         },
     }
 }
 
+/// Tells bytes more that were put.
+#[tactic(auto, using(crate::proofs::Pieces::marks))]
+fn tell(told: &mut Log<u8, u8>, bytes: &[u8])
+    ensures { put_bytes told.new.items ≡ put_bytes told.old.items ++ bytes.now }
+{
+    for byte in bytes {
+        *told = told.and(byte, byte);
+    }
+}
+
 impl<F: Write + OpenFile> Sink for AppendSink<F> {
-    ghost written = { λ _. None };
+    ghost written = { λ sink. Some (put_bytes sink.told.items) };
 
     ghost faults = { λ sink. sink.faults };
 
     fn put(&mut self, bytes: &[u8]) -> Result<(), PutFault>
         ensures count { self.old.faults ≤ self.new.faults }
+        ensures appended { OnOk result (put_bytes self.new.told.items ≡ put_bytes self.old.told.items ++ bytes.now) }
         ensures quiet { OnOk result (self.new.faults ≡ self.old.faults) }
         ensures cause { OnErr result (Rose self.old.faults self.new.faults) }
-        // what the file was given, where its bytes are known
-        ensures whole { OnOk result (Grows (F.contents self.old.file) (F.contents self.new.file) bytes.now) }
-        ensures prefix { OnErr result ((n : ℕ) × Grows (F.contents self.old.file) (F.contents self.new.file) (take n bytes.now)) }
+        ensures partly { OnErr result (AppendsPrefix (Some (put_bytes self.old.told.items)) (Some (put_bytes self.new.told.items)) bytes.now) }
+        // the file was given what is told, where its bytes are known
+        ensures file { IsPut (put_bytes self.old.told.items) (put_bytes self.new.told.items) (F.contents self.old.file) (F.contents self.new.file) }
     {
-        let result = append(&mut self.file, bytes);
+        let (count, result) = append(&mut self.file, bytes);
+        tell(&mut self.told, &bytes[..count]);
         if result.is_err() {
             self.faults = self.faults.saturating_add(1);
         }

@@ -4,7 +4,7 @@ ghost use Rattle.std.specs.Prelude.{◌≡◌, ◌≤◌, [], ◌∷◌, None, S
 ghost use Rattle.std.specs.Io.KnownBytes.{Appends};
 ghost use Rattle.live_doors.specs.Doors.{kept, said, Hears, Grows, SaysPart, HasCause};
 ghost use Rattle.live_doors.specs.Lines.{kept_length, ReadsLine};
-ghost use Rattle.live_doors.specs.Marks.{deeds};
+ghost use Rattle.live_doors.specs.Marks.{IsCut, deeds};
 ghost use Rattle.sta_outside.specs.Shelf.{Rose};
 
 use crate::door::{Door, Lost};
@@ -79,6 +79,8 @@ impl<B: BufRead, W: Write> Door for OpenDoor<B, W> {
         ensures lost { IfErr result (λ lost. lost ≡ Lost.Output) }
         // what the output was given, where its bytes are known
         ensures bytes { OnOk result (Appends (W.contents self.old.output) (W.contents self.new.output) piece.now.items) }
+        // and that it was given what is told of a piece that was cut
+        ensures cut { OnErr result (IsCut (deeds self.old.history) (deeds self.new.history) (W.contents self.old.output) (W.contents self.new.output) piece.now.items) }
     {
         match write_whole(&mut self.output, piece.as_slice()) {
             Ok(()) => {
