@@ -2,7 +2,17 @@
 
 use live_doors::{Door, Hall, Lost, NamedHall, StandardHall};
 use sta_outside::{FileShelf, Shelf};
+use std::alloc::Global;
 use std::fs;
+
+/// Opens the door of a seat, as a session's own thread does: the hall is shared and the door comes back.
+fn opened<D: Door + Send + Drop, H: Hall<D> + Sync>(
+    alloc: Global,
+    hall: &H,
+    seat: u32,
+) -> Result<D, Lost> {
+    hall.open(alloc, seat)
+}
 
 #[test]
 fn a_door_of_two_files_hears_one_and_writes_the_other(rt: HostRuntime) {
@@ -16,7 +26,7 @@ fn a_door_of_two_files_hears_one_and_writes_the_other(rt: HostRuntime) {
     hall.add_seat(input, output).expect(&rt, "memory");
     hall.add_seat(input, "missing_folder/out.txt")
         .expect(&rt, "memory");
-    let mut door = hall.open(alloc, 2).expect(&rt, "a door");
+    let mut door = opened(alloc, &hall, 2).expect(&rt, "a door");
     let first = door.hear(alloc).expect(&rt, "a line").expect(&rt, "a line");
     assert_eq!(rt; first.as_slice(), b"take".as_slice());
     door.note(1);
@@ -32,9 +42,9 @@ fn a_door_of_two_files_hears_one_and_writes_the_other(rt: HostRuntime) {
         .fetch(alloc, output)
         .expect(&rt, "a file");
     assert_eq!(rt; written.as_slice(), b"takeask".as_slice());
-    assert_eq!(rt; hall.open(alloc, 1).err(), Some(Lost::Input));
-    assert_eq!(rt; hall.open(alloc, 3).err(), Some(Lost::Output));
-    assert_eq!(rt; hall.open(alloc, 4).err(), Some(Lost::Input));
+    assert_eq!(rt; opened(alloc, &hall, 1).err(), Some(Lost::Input));
+    assert_eq!(rt; opened(alloc, &hall, 3).err(), Some(Lost::Output));
+    assert_eq!(rt; opened(alloc, &hall, 4).err(), Some(Lost::Input));
     fs::remove_file(&rt, input).expect(&rt, "no file");
     fs::remove_file(&rt, output).expect(&rt, "no file");
 }
@@ -46,7 +56,7 @@ fn a_door_makes_its_output(rt: HostRuntime) {
     fs::write(&rt, input, "").expect(&rt, "a file");
     let mut hall = NamedHall::new(alloc, &rt);
     hall.add_seat(input, output).expect(&rt, "memory");
-    let mut door = hall.open(alloc, 1).expect(&rt, "a door");
+    let mut door = opened(alloc, &hall, 1).expect(&rt, "a door");
     assert!(rt;
         door.hear(alloc).expect(&rt, "the end").is_none(),
         "no line"
@@ -58,6 +68,6 @@ fn a_door_makes_its_output(rt: HostRuntime) {
 #[test]
 fn the_standard_door_opens(rt: HostRuntime) {
     let hall = StandardHall::new(rt);
-    let mut door = hall.open(rt.alloc(), 1).expect(&rt, "a door");
+    let mut door = opened(rt.alloc(), &hall, 1).expect(&rt, "a door");
     assert_eq!(rt; door.say(&Vec::new(rt.alloc())), Ok(()));
 }

@@ -8,14 +8,19 @@ use std::io::{ErrorKind, Write};
 use std::process::Abort;
 use std::{fs, io};
 
+/// Puts a piece, as a desk that goes from thread to thread does.
+fn put<S: Sink + Send>(sink: &mut S, piece: &str) -> Result<(), PutFault> {
+    sink.put(piece.as_bytes())
+}
+
 #[test]
 fn a_journal_is_appended_to_and_has_one_holder(rt: HostRuntime) {
     let path = "door_tests_journal.txt";
     fs::write(&rt, path, "journal 2 1 1\n").expect(&rt, "a file");
     let mut sink = AppendSink::open(&rt, path).expect(&rt, "the lock");
     assert_eq!(rt; AppendSink::open(&rt, path).err(), Some(NotOpened::Locked));
-    assert_eq!(rt; sink.put(b"derates 1000 1000 1000 1000\n"), Ok(()));
-    assert_eq!(rt; sink.put(b"entry 2 1 1\n"), Ok(()));
+    assert_eq!(rt; put(&mut sink, "derates 1000 1000 1000 1000\n"), Ok(()));
+    assert_eq!(rt; put(&mut sink, "entry 2 1 1\n"), Ok(()));
     assert_eq!(rt; sink.fault_count(), 0);
     let fetched = FileShelf::new(&rt).fetch(rt.alloc(), path);
     drop(sink);

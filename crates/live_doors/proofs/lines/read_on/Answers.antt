@@ -1,5 +1,5 @@
-use Rattle.std.proofs.Common.{◌≡◌, ◌+◌, subst, refl, ◌∙◌, rules, arith}
-use Rattle.std.specs.Io.BufRead.{FillKeeps, DropsConsumable}
+use Rattle.std.proofs.Common.{◌+◌, subst, rules, arith}
+use Rattle.std.specs.Io.BufRead.{FillKeeps}
 use Rattle.std.proofs.BufReadLemmas.{Consumes_shown}
 use Rattle.live_doors.proofs.Pieces.{nothing_read, part_read, end_read}
 use Rattle.live_doors.proofs.lines.read_on.Goals as goal
