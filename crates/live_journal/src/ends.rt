@@ -1,0 +1,23 @@
+//! How a saved journal ends.
+
+ghost use Rattle.std.specs.Prelude.{◌≡◌};
+ghost use Rattle.live_journal.specs.Ends.{end_of};
+
+use timing_defs::{Code, ReadFault};
+
+/// Passes a saved journal that is empty or ends in a line feed, so that blocks can stand behind it.
+///
+/// # Errors
+///
+/// `J1` at the journal's length, exactly where its last line lacks its line feed: that line may be torn.
+pub fn check_end(journal: &[u8]) -> Result<(), ReadFault>
+    ensures { result ≡ end_of journal.now }
+{
+    match journal.last() {
+        None | Some(10) => Ok(()),
+        Some(_) => Err(ReadFault::At {
+            code: Code::JournalBadLine,
+            offset: journal.len() as u64,
+        }),
+    }
+}
