@@ -56,6 +56,7 @@ fn push_block(
 /// # Errors
 ///
 /// Want of memory alone.
+#[tactic(auto, using(std::proofs::lemmas::List::drop_more))]
 pub fn single_blocks(
     alloc: Global,
     derates: &Derates,

@@ -63,6 +63,7 @@ pub struct Left<T: Saves, F> {
 }
 
 /// Looks at the board until it has the number, and gives the value.
+#[tactic(auto, using(crate::proofs::Texts::prefix_self, crate::proofs::Texts::prefix_trans))]
 fn await_number<T: Saves, R: Wait>(
     rt: &R,
     board: &Board<T>,
@@ -113,6 +114,13 @@ impl<T: Saves, F: Sink + Drop, B: Room<<T as Stands>::Origin>> Desk<T, F, B> {
         ensures { IsDesk T.text B.about self.now }
     {
         let _ = &self.seat;
+    }
+
+    /// The number up to which all entries stand in the file.
+    pub fn kept(&self) -> u64
+        ensures { result ≡ self.now.kept }
+    {
+        self.kept
     }
 
     /// Sees to it that all entries up to a number stand in the file. Where they do not yet, the desk looks at the board until the

@@ -17,7 +17,7 @@ ghost use Rattle.live_journal.specs.Ends.{ends_whole};
 #[tactic(auto, using(crate::proofs::Texts::file_longer, crate::proofs::Texts::file_prefix))]
 pub fn file_goes_on()
     ensures longer { (old new : Option (List ℕ)) (derates : Derates) (first : ℕ) (seen all : List Entry) (n : ℕ) (sound : Bool) → n ≤ length seen → IsPrefix seen all → HasFile old new derates first seen n sound → HasFile old new derates first all n sound }
-    ensures prefix { (old new : Option (List ℕ)) (derates : Derates) (first : ℕ) (all : List Entry) (n : ℕ) (sound : Bool) → HasFile old new derates first all n sound → AppendsPrefix old new (blocks_text derates first (single all)) }
+    ensures prefix { (old new : Option (List ℕ)) (derates : Derates) (first : ℕ) (all : List Entry) (n : ℕ) (sound : Bool) → n ≤ length all → HasFile old new derates first all n sound → AppendsPrefix old new (blocks_text derates first (single all)) }
 {}
 
 /// Behind a saved journal that is empty or ends in a line feed, blocks that number their entries behind the saved ones are read as

@@ -1,0 +1,4 @@
+pub mod Texts
+pub mod Kept
+pub mod LastByte
+pub mod SavedBack
