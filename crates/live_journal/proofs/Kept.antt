@@ -5,8 +5,10 @@ use mathlib.Core.List.{IsPrefix}
 use Rattle.timing_defs.specs.declared.constraints.Derates.{Derates}
 use Rattle.sta_outside.specs.Sink.{Appends, AppendsPrefix}
 use Rattle.version_board.specs.Callers.{Sitting, IsSame}
-use Rattle.live_journal.specs.Desk.{Setting, Keeping, IsDesk, HasText}
-use Rattle.live_journal.proofs.Texts.{prefix_length, longer, put_whole, put_partly}
+use Rattle.eco_journal.specs.Blocks.{blocks_text}
+use Rattle.timing_defs.specs.declared.edits.Entry.{Entry}
+use Rattle.live_journal.specs.Desk.{single, Setting, Keeping, IsDesk, HasText, HasFile}
+use Rattle.live_journal.proofs.Texts.{prefix_length, longer, put_whole, put_partly, file_longer}
 
 module _ {E O : Type 0} (text : Derates → ℕ → List E → List ℕ) (joins : (d : Derates) (n : ℕ) (xs ys : List E) → text d n (xs ++ ys) ≡ text d n xs ++ text d (n + length xs) ys) (s : Setting O) where
   -- how many entries stand there
@@ -64,3 +66,13 @@ module _ {E O : Type 0} (text : Derates → ℕ → List E → List ℕ) (joins 
         written = put_partly (text s.derates) (joins s.derates) s.before d.file file s.first (d.kept - s.first) d.seat.view.seen (sound_text d h sound)
             (subst (AppendsPrefix d.file file) (not_there d h) put);
       }
+
+-- what the file has of the board's list, once the board was closed
+pub file_closed : {O : Type 0} (s : Setting O) (d : Keeping Entry O) (all : List Entry) → IsDesk (λ derates from es. blocks_text derates from (single es)) s d
+    → IsPrefix d.seat.view.seen all → HasFile s.before d.file s.derates s.first all (d.kept - s.first) d.sound × (d.kept - s.first ≤ length all)
+file_closed s d all h p =
+    let low = h.low in
+    let few = h.few in
+    let there : d.kept - s.first ≤ length d.seat.view.seen = omega (arith, low, few) in
+    let long = prefix_length d.seat.view.seen all p in
+    (file_longer s.before d.file s.derates s.first d.seat.view.seen all (d.kept - s.first) d.sound there p h.written, omega (arith, there, long))

@@ -22,7 +22,7 @@ use Rattle.live_journal.specs.Desk.{single}
 use Rattle.live_journal.specs.Ends.{ends_whole}
 
 -- a saved text of so many bytes
-abbrev saved_text : Derates → ℕ → Text
+abbrev pub saved_text : Derates → ℕ → Text
 saved_text d size = record { size = size; first = 0; saved = true; derates = d }
 
 -- more may follow
@@ -127,7 +127,7 @@ module _ (d : Derates) where
   end_read n (Ok (edit left session owed edits all)) saved open' read = cc
   end_read n (Ok (ended all)) saved open' read = absurd open'
 
-  reads_on : (n m : ℕ) (told : Result State ReadFault) (lines more : List Part) (saved : List Entry) → IfThere Open told
+  pub reads_on : (n m : ℕ) (told : Result State ReadFault) (lines more : List Part) (saved : List Entry) → IfThere Open told
       → entries (saved_text d n) told lines ≡ Ok saved
       → entries (saved_text d m) told (lines ++ more) ≡ entries (saved_text d m) (Ok (block saved)) more
   unfolding entries
@@ -161,7 +161,7 @@ cut_whole (b ∷ c ∷ bs) rest whole = elim (cases_Bool (b == 10)) [
       rw miss (ap (onto b) (cut_whole (c ∷ bs) rest whole) ∙ onto_some b (cut_lines (c ∷ bs)) (cut_lines rest) (cut_some c bs))
 ]
 
-placed_both : (at : ℕ) (xs ys : List (List ℕ)) → (k : ℕ) × (placed at (xs ++ ys) ≡ placed at xs ++ placed k ys)
+pub placed_both : (at : ℕ) (xs ys : List (List ℕ)) → (k : ℕ) × (placed at (xs ++ ys) ≡ placed at xs ++ placed k ys)
 unfolding placed
 placed_both at [] ys = (at, refl)
 placed_both at (x ∷ xs) ys =
@@ -169,7 +169,7 @@ placed_both at (x ∷ xs) ys =
     (behind.0, ap (λ parts. record { text = x; at = at } ∷ parts) behind.1)
 
 -- a block behind other entries
-same_self : (d : Derates) → same_derates d d ≡ true
+pub same_self : (d : Derates) → same_derates d d ≡ true
 same_self d = grind arith
 
 form_read : (size first count at : ℕ) (d : Derates) (all : List Entry) (line : Part) → first ≡ length all → first < 2 ^ 64 → count < 2 ^ 64
@@ -179,7 +179,7 @@ form_read size first count at d all line same hf hc =
     let here : (first == length all) ≡ true = eq-eqb first (length all) same in
     rw (decimal_name first hf, decimal_name count hc, number_back first hf, here, number_back count hc) refl
 
-head_read : (size first count at : ℕ) (d : Derates) (all : List Entry) → first ≡ length all → first < 2 ^ 64 → count < 2 ^ 64
+pub head_read : (size first count at : ℕ) (d : Derates) (all : List Entry) → first ≡ length all → first < 2 ^ 64 → count < 2 ^ 64
     → block_head (saved_text d size) all (record { text = scaled_text first count; at = at }) ≡ Ok (factors at None count all)
 head_read size first count at d all same hf hc =
     let line : Part = record { text = scaled_text first count; at = at } in

@@ -117,3 +117,13 @@ pub file_prefix : (old new : Option (List ℕ)) (d : Derates) (first : ℕ) (all
     → HasFile old new d first all n sound → AppendsPrefix old new (blocks_text d first (single all))
 file_prefix old new d first all n sound few h =
     begins (λ from es. blocks_text d from (single es)) (single_joins d) old new first all n sound few h
+
+pub file_rest : (old file new : Option (List ℕ)) (d : Derates) (first : ℕ) (all : List Entry) (n : ℕ) → n ≤ length all
+    → HasFile old file d first all n true → Appends file new (blocks_text d (first + n) (single (drop n all))) → HasFile old new d first all (length all) true
+file_rest old file new d first all n few h k =
+    put_whole (λ from es. blocks_text d from (single es)) (single_joins d) old file new first n all few h k
+
+pub file_torn : (old file new : Option (List ℕ)) (d : Derates) (first : ℕ) (all : List Entry) (n : ℕ)
+    → HasFile old file d first all n true → AppendsPrefix file new (blocks_text d (first + n) (single (drop n all))) → HasFile old new d first all n false
+file_torn old file new d first all n h k =
+    put_partly (λ from es. blocks_text d from (single es)) (single_joins d) old file new first n all h k

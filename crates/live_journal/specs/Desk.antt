@@ -8,7 +8,7 @@ use Rattle.timing_defs.specs.declared.constraints.Derates.{Derates}
 use Rattle.timing_defs.specs.declared.edits.Entry.{Entry}
 use Rattle.timing_defs.specs.Documents.{no_derates}
 use Rattle.sta_outside.specs.Shelf.{Rose}
-use Rattle.sta_outside.specs.Sink.{Appends}
+use Rattle.sta_outside.specs.Sink.{Appends, AppendsPrefix}
 use Rattle.version_board.specs.Callers.{Sitting, Standing}
 use Rattle.version_board.specs.History.{Meaning}
 use Rattle.eco_journal.specs.Blocks.{blocks_text}
@@ -26,6 +26,13 @@ module _ {E : Type 0} where
   abbrev pub HasText : (ℕ → List E → List ℕ) → Option (List ℕ) → Option (List ℕ) → ℕ → List E → ℕ → Bool → Type 0
   HasText text old new first J n true = Appends old new (text first (take n J))
   HasText text old new first J n false = (k : ℕ) × Appends old new (text first (take n J) ++ take k (text (first + n) (drop n J)))
+
+  -- a file that has the first n entries of a list is given the others; not where a put failed before
+  abbrev pub PutsRest : (ℕ → List E → List ℕ) → ℕ → List E → ℕ → Bool → Option (List ℕ) → Option (List ℕ) → Result Unit Unkept → Type 0
+  PutsRest text first all n sound old new (Ok done) = (sound ≡ true) × Appends old new (text (first + n) (drop n all))
+  PutsRest text first all n sound old new (Err Failed) =
+      ((sound ≡ false) × (new ≡ old)) ⊎ ((sound ≡ true) × AppendsPrefix old new (text (first + n) (drop n all)))
+  PutsRest text first all n sound old new (Err Memory) = (sound ≡ true) × (new ≡ old)
 
 -- the journal file is what it was, then the blocks of the first n entries of J, a block each, numbered behind `first` others,
 -- and where a put failed a prefix of the next blocks
