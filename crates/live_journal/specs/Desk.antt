@@ -69,6 +69,9 @@ pub record Keeping (E O : Type 0) : Type 0 where
   pub file : Option (List ℕ)
   pub faults : ℕ
 
+abbrev pub keeping : {E O : Type 0} → Sitting E O → ℕ → Bool → Option (List ℕ) → ℕ → Keeping E O
+keeping seat kept sound file faults = record { seat = seat; kept = kept; sound = sound; file = file; faults = faults }
+
 module _ {T E O : Type 0} where
   -- the board that a desk is tied to
   abbrev pub IsBoardOf : Meaning T E O → Setting O → Standing T → Type 0

@@ -4,7 +4,7 @@ ghost use Rattle.std.specs.Prelude.{◌≡◌, ◌+◌, ◌-◌, ◌<◌, ◌≤
 ghost use Rattle.std.specs.Arc.{arc_value};
 ghost use mathlib.Core.List.{IsPrefix};
 ghost use Rattle.version_board.specs.Callers.{meaning, IsSeatOf, IsSame};
-ghost use Rattle.live_journal.specs.Desk.{IsBoardOf, IsSeatAt, IsDesk, Keeps, Puts};
+ghost use Rattle.live_journal.specs.Desk.{keeping, IsBoardOf, IsSeatAt, IsDesk, Keeps, Puts};
 
 use crate::rooms::Room;
 use crate::saving::Saves;
@@ -42,13 +42,13 @@ pub struct Desk<T: Saves, F: Sink, B: Room<<T as Stands>::Origin>> {
 
 impl<T: Saves, F: Sink, B: Room<<T as Stands>::Origin>> Model for Desk<T, F, B> {
     ghost use Rattle.std.specs.Prelude.{◌≡◌};
-    ghost use Rattle.live_journal.specs.Desk.{Keeping, IsDesk};
+    ghost use Rattle.live_journal.specs.Desk.{Keeping, keeping, IsDesk};
 
     ghost Value = { Keeping T.Entry T.Origin };
 
-    ghost view = { λ d. record { seat = d.seat; kept = d.kept; sound = d.sound; file = F.written d.sink; faults = F.faults d.sink } };
+    ghost view = { λ d. keeping d.seat d.kept d.sound (F.written d.sink) (F.faults d.sink) };
 
-    ghost invariant = { λ d. (d.derates ≡ B.about.derates) × IsDesk T.text B.about (record { seat = d.seat; kept = d.kept; sound = d.sound; file = F.written d.sink; faults = F.faults d.sink }) };
+    ghost invariant = { λ d. (d.derates ≡ B.about.derates) × IsDesk T.text B.about (keeping d.seat d.kept d.sound (F.written d.sink) (F.faults d.sink)) };
 }
 
 /// What is left of a desk: its seat, for the board to close, and the file.
@@ -97,7 +97,7 @@ impl<T: Saves, F: Sink + Drop, B: Room<<T as Stands>::Origin>> Desk<T, F, B> {
         requires file { F.written sink ≡ B.about.before }
         requires derates { derates ≡ B.about.derates }
         requires first { first ≡ B.about.first }
-        ensures { result ≡ record { seat = seat; kept = first; sound = true; file = F.written sink; faults = F.faults sink } }
+        ensures { result ≡ keeping seat first true (F.written sink) (F.faults sink) }
     {
         Desk {
             seat,
