@@ -1,0 +1,83 @@
+//! What a session replies, and what it asks of the session behind it.
+
+ghost use Rattle.std.specs.Prelude.{◌≡◌, ◌×◌, List, [], ◌∷◌, true};
+ghost use Rattle.timing_defs.specs.declared.scripts.Command.{Command};
+ghost use Rattle.timing_defs.specs.declared.scripts.Row.{Row};
+ghost use Rattle.live_standin.specs.Live.{is_runnable};
+ghost use Rattle.live_session.specs.Turns.{Runs};
+
+use std::alloc::Global;
+use sta_text::Wrong;
+use timing_defs::{Clock, Command, Items, Row};
+
+/// A reply to what a line ends: the row of a command, or the error of a wrong line.
+#[derive(Drop)]
+pub enum Reply {
+    Row(Row),
+    Error(Wrong),
+}
+
+/// How a session ended.
+#[derive(Clone, Copy, Drop)]
+pub enum TalkEnd {
+    /// The input ended, and all of it was answered.
+    Closed,
+    /// The input failed.
+    Deaf,
+    /// The output failed within the last reply.
+    Mute,
+    /// The journal failed before the last row was told.
+    Unkept,
+    /// Memory was wanting.
+    Wanting,
+    /// The last line has no number, or its command has none.
+    Full,
+}
+
+/// Why a command has no row.
+#[derive(Clone, Copy, Drop)]
+pub enum Unanswered {
+    /// Want of memory.
+    Memory,
+    /// As many commands were answered as can be numbered.
+    Full,
+}
+
+/// Why a row may not be told.
+#[derive(Clone, Copy, Drop)]
+pub enum Untold {
+    /// The journal cannot be written.
+    Journal,
+    /// Want of memory.
+    Memory,
+}
+
+/// How replies are told: the clocks that rows name, and whether there is a journal.
+#[derive(Clone, Copy, Drop)]
+pub struct Manner<'a> {
+    pub clocks: &'a Items<Clock>,
+    pub keeps: bool,
+}
+
+/// What stands behind a door: it answers commands, one after the other, and keeps a journal.
+pub trait Answering {
+    /// These commands were answered by these rows, in order.
+    ghost ran: { Self → List Command → List Row → Type 0 };
+
+    /// Answers the next command.
+    ///
+    /// # Errors
+    ///
+    /// Want of memory, or of a number for the command; what was answered before stays.
+    fn answer(&mut self, alloc: Global, command: &Command) -> Result<Row, Unanswered>
+        requires able { (before : List Command) × (rows : List Row) × ran self.old before rows }
+        requires command { is_runnable command.now ≡ true }
+        ensures { Runs (ran self.old) (ran self.new) command.now result };
+
+    /// Sees to it that all entries up to a number stand in the journal.
+    ///
+    /// # Errors
+    ///
+    /// What kept it from that.
+    fn keep(&self, alloc: Global, number: u64) -> Result<(), Untold>;
+}

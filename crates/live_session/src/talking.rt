@@ -1,0 +1,211 @@
+//! The conversation of a session at its door.
+
+ghost use Rattle.std.specs.Prelude.{◌≡◌, List, [], true, IfOk, IfSome, OnOk, OnErr, Some, None};
+ghost use Rattle.timing_defs.specs.declared.scripts.Command.{Command};
+ghost use Rattle.timing_defs.specs.declared.scripts.Row.{Row};
+ghost use Rattle.live_standin.specs.Live.{beginning, is_runnable, CanRun};
+ghost use Rattle.live_doors.specs.Doors.{Grows, Loses};
+ghost use Rattle.live_session.specs.Talks.{Talked, at_door, reply_text, marks_of, manner_of};
+ghost use Rattle.live_session.specs.Turns.{Tells, Answers, Replies, Reads, Rounds};
+
+use crate::replies::{Answering, Manner, Reply, TalkEnd, Unanswered, Untold};
+use live_doors::{Door, Lost};
+use live_standin::{Heard, Item, LiveReader, Unread, error_bytes, report_bytes};
+use sta_units::Memory;
+use std::alloc::Global;
+use std::sync::Wait;
+use timing_defs::Row;
+
+/// The text of a reply.
+fn reply_bytes(alloc: Global, manner: Manner<'_>, reply: &Reply) -> Result<Vec<u8>, Memory>
+    ensures { IfOk result (λ bytes. bytes.items ≡ reply_text manner.clocks.now reply.now) }
+{
+    match reply {
+        Reply::Row(row) => report_bytes(alloc, row, manner.clocks),
+        Reply::Error(wrong) => error_bytes(alloc, wrong.code, wrong.at as u64),
+    }
+}
+
+/// Sees to it that a row may be told, and notes it at the door.
+fn mark<D: Door, S: Answering>(
+    alloc: Global,
+    door: &mut D,
+    session: &S,
+    manner: Manner<'_>,
+    reply: &Reply,
+) -> Result<(), Untold>
+    ensures quiet { (Loses (D.left door.old) (D.left door.new) []) × (D.faults door.new ≡ D.faults door.old) }
+    ensures marked { OnOk result (Grows (D.trace door.old) (D.trace door.new) (marks_of manner.keeps reply.now)) }
+    ensures unmarked { OnErr result (Grows (D.trace door.old) (D.trace door.new) []) }
+{
+    match reply {
+        Reply::Row(row) => {
+            if manner.keeps {
+                session.keep(alloc, row.number)?;
+                door.note(row.number);
+            }
+            Ok(())
+        }
+        Reply::Error(_) => Ok(()),
+    }
+}
+
+/// Tells a reply, or why it is not told whole.
+#[tactic(auto, using(crate::proofs::DoorLaws::grows_more, crate::proofs::DoorLaws::loses_none))]
+fn tell<D: Door, S: Answering>(
+    alloc: Global,
+    door: &mut D,
+    session: &S,
+    manner: Manner<'_>,
+    reply: &Reply,
+) -> Option<TalkEnd>
+    ensures { Tells (manner_of manner.clocks.now manner.keeps) reply.now (at_door (D.left door.old) (D.trace door.old) (D.faults door.old)) (at_door (D.left door.new) (D.trace door.new) (D.faults door.new)) result }
+{
+    match reply_bytes(alloc, manner, reply) {
+        Ok(text) => match mark(alloc, door, session, manner, reply) {
+            Ok(()) => match door.say(&text) {
+                Ok(()) => None,
+                Err(_) => Some(TalkEnd::Mute),
+            },
+            Err(Untold::Journal) => Some(TalkEnd::Unkept),
+            Err(Untold::Memory) => Some(TalkEnd::Wanting),
+        },
+        Err(Memory) => Some(TalkEnd::Wanting),
+    }
+}
+
+/// The reply to what a line ended.
+fn answer_item<S: Answering>(
+    alloc: Global,
+    session: &mut S,
+    item: Item,
+) -> Result<Reply, TalkEnd>
+    requires able { (before : List Command) × (rows : List Row) × S.ran session.old before rows }
+    requires item { CanRun item }
+    ensures { Answers (S.ran session.old) (S.ran session.new) item result }
+{
+    match item {
+        Item::Asked(command) => {
+            let answer = session.answer(alloc, &command);
+            drop(command);
+            match answer {
+                Ok(row) => Ok(Reply::Row(row)),
+                Err(Unanswered::Memory) => Err(TalkEnd::Wanting),
+                Err(Unanswered::Full) => Err(TalkEnd::Full),
+            }
+        }
+        Item::Faulty(wrong) => Ok(Reply::Error(wrong)),
+    }
+}
+
+/// Answers what a line ended, if it ended something, and tells the reply.
+fn reply_to<D: Door, S: Answering>(
+    alloc: Global,
+    door: &mut D,
+    session: &mut S,
+    manner: Manner<'_>,
+    item: Option<Item>,
+) -> Option<TalkEnd>
+    requires able { (before : List Command) × (rows : List Row) × S.ran session.old before rows }
+    requires item { IfSome item CanRun }
+    ensures { Replies (S.ran session.old) (S.ran session.new) (manner_of manner.clocks.now manner.keeps) item (at_door (D.left door.old) (D.trace door.old) (D.faults door.old)) (at_door (D.left door.new) (D.trace door.new) (D.faults door.new)) result }
+{
+    match item {
+        None => None,
+        Some(item) => match answer_item(alloc, session, item) {
+            Ok(reply) => {
+                let told = tell(alloc, door, session, manner, &reply);
+                drop(reply);
+                told
+            }
+            Err(end) => Some(end),
+        },
+    }
+}
+
+/// What comes of a round: the session goes on with its reader behind a line, or it ends.
+#[derive(Drop)]
+enum Round {
+    Goes(LiveReader),
+    Ends(TalkEnd),
+}
+
+/// Answers a line that was heard.
+fn read_line<D: Door, S: Answering>(
+    alloc: Global,
+    door: &mut D,
+    session: &mut S,
+    manner: Manner<'_>,
+    reader: LiveReader,
+    line: Vec<u8>,
+) -> Round
+    requires able { (before : List Command) × (rows : List Row) × S.ran session.old before rows }
+    ensures { Reads (S.ran session.old) (S.ran session.new) (manner_of manner.clocks.now manner.keeps) reader line.items (at_door (D.left door.old) (D.trace door.old) (D.faults door.old)) (at_door (D.left door.new) (D.trace door.new) (D.faults door.new)) result }
+{
+    let read = reader.line(alloc, &line);
+    drop(line);
+    match read {
+        Ok(Heard { reader, item }) => match reply_to(alloc, door, session, manner, item) {
+            None => Round::Goes(reader),
+            Some(end) => {
+                drop(reader);
+                Round::Ends(end)
+            }
+        },
+        Err(Unread::Memory) => Round::Ends(TalkEnd::Wanting),
+        Err(Unread::Uncounted) => Round::Ends(TalkEnd::Full),
+    }
+}
+
+/// Hears the next line, and answers it.
+fn round<D: Door, S: Answering>(
+    alloc: Global,
+    door: &mut D,
+    session: &mut S,
+    manner: Manner<'_>,
+    reader: LiveReader,
+) -> Round
+    requires able { (before : List Command) × (rows : List Row) × S.ran session.old before rows }
+    ensures { Rounds (S.ran session.old) (S.ran session.new) (manner_of manner.clocks.now manner.keeps) reader (at_door (D.left door.old) (D.trace door.old) (D.faults door.old)) (at_door (D.left door.new) (D.trace door.new) (D.faults door.new)) result }
+{
+    match door.hear(alloc) {
+        Ok(Some(line)) => read_line(alloc, door, session, manner, reader, line),
+        Ok(None) => {
+            let item = reader.end();
+            drop(reader);
+            match reply_to(alloc, door, session, manner, item) {
+                None => Round::Ends(TalkEnd::Closed),
+                Some(end) => Round::Ends(end),
+            }
+        }
+        Err(lost) => {
+            drop(reader);
+            match lost {
+                Lost::Memory => Round::Ends(TalkEnd::Wanting),
+                _ => Round::Ends(TalkEnd::Deaf),
+            }
+        }
+    }
+}
+
+/// The conversation of a session at its door: hears each line, answers what it ends, and says the reply before it hears the
+/// next one, until the input ends. With a journal a row is said once the journal has all entries up to its number.
+pub fn talk<H: Wait, D: Door, S: Answering>(
+    rt: &H,
+    alloc: Global,
+    door: &mut D,
+    session: &mut S,
+    manner: Manner<'_>,
+) -> TalkEnd
+    requires { S.ran session.old [] [] }
+    ensures { Talked (S.ran session.new) (manner_of manner.clocks.now manner.keeps) (at_door (D.left door.old) (D.trace door.old) (D.faults door.old)) (at_door (D.left door.new) (D.trace door.new) (D.faults door.new)) result }
+{
+    let mut reader = LiveReader::new();
+    for _ in rt.forever() {
+        match round(alloc, door, session, manner, reader) {
+            Round::Goes(next) => reader = next,
+            Round::Ends(end) => return end,
+        }
+    }
+    unreachable!()
+}
