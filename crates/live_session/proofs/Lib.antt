@@ -1,2 +1,4 @@
 pub mod DoorLaws
 pub mod TalkLaws
+pub mod TurnLaws
+pub mod JoinLaws

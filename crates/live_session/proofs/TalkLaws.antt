@@ -8,9 +8,10 @@ use Rattle.live_doors.specs.Doors.{Deed, heard, said, Loses, Grows}
 use Rattle.live_standin.specs.declared.live.Item.{Item}
 use Rattle.live_standin.specs.declared.live.Item.TheVariants.{Asked, Faulty}
 use Rattle.live_standin.specs.Live.{LivePlace, Behind, stands, outside, live_line, live_end, item_list, items, place_behind, all_items}
+use Rattle.live_session.specs.declared.replies.Manner.{Manner}
 use Rattle.live_session.specs.declared.replies.Reply.{Reply}
 use Rattle.live_session.specs.declared.replies.Reply.TheVariants.{Row as row, Error as error}
-use Rattle.live_session.specs.Talks.{Telling, AreReplies, IsReply, commands_in, rows_in, deeds_of, told_of, rest_of, end_item, dialogue, heard_items}
+use Rattle.live_session.specs.Talks.{AreReplies, IsReply, commands_in, rows_in, deeds_of, told_of, rest_of, end_item, dialogue, heard_items}
 
 pub commands_more : (a b : List Item) → commands_in (a ++ b) ≡ commands_in a ++ commands_in b
 commands_more [] b = refl
@@ -32,7 +33,9 @@ replies_more (i ∷ a) b (x ∷ r) s g h = (g.0, replies_more a b r s g.1 h)
 pub items_more : (p : LivePlace) (n : ℕ) (lines : List (List ℕ)) (line : List ℕ)
     → items p n (lines ++ line ∷ []) ≡ items p n lines ++ item_list (live_line (place_behind p n lines) (n + length lines) line).item
 unfolding items place_behind
-items_more p n [] line = append-nil (item_list (live_line p n line).item)
+items_more p n [] line =
+    let numbered : n ≡ n + length {A = List ℕ} [] = omega arith in
+    append-nil (item_list (live_line p n line).item) ∙ ap (λ k. item_list (live_line p k line).item) numbered
 items_more p n (x ∷ lines) line =
     let what = (live_line p n x).item in
     let next = (live_line p n x).place in
@@ -44,25 +47,27 @@ items_more p n (x ∷ lines) line =
 pub place_more : (p : LivePlace) (n : ℕ) (lines : List (List ℕ)) (line : List ℕ)
     → place_behind p n (lines ++ line ∷ []) ≡ (live_line (place_behind p n lines) (n + length lines) line).place
 unfolding place_behind
-place_more p n [] line = refl
+place_more p n [] line = let numbered : n ≡ n + length {A = List ℕ} [] = omega arith in ap (λ k. (live_line p k line).place) numbered
 place_more p n (x ∷ lines) line =
     let next = (live_line p n x).place in
     let numbered : (n + 1) + length lines ≡ n + length (x ∷ lines) = omega arith in
     place_more next (n + 1) lines line ∙ ap (λ k. (live_line (place_behind next (n + 1) lines) k line).place) numbered
 
 -- replies that come later stand behind those of the first item
-told_first : (way : Telling) (what : Option Item) (others : List Item) (r more : List Reply) → AreReplies (item_list what ++ others) r
+told_first : (way : Manner) (what : Option Item) (others : List Item) (r more : List Reply) → AreReplies (item_list what ++ others) r
     → (told_of way what (r ++ more) ≡ told_of way what r) × (rest_of what (r ++ more) ≡ rest_of what r ++ more) × AreReplies others (rest_of what r)
 told_first way None others r more g = (refl, refl, g)
 told_first way (Some item) others [] more g = absurd g
 told_first way (Some item) others (x ∷ r) more g = (refl, refl, g.1)
 
 -- one line more, with what it ends
-pub dialogue_more : (way : Telling) (p : LivePlace) (n : ℕ) (lines : List (List ℕ)) (line : List ℕ) (r more : List Reply) → AreReplies (items p n lines) r
+pub dialogue_more : (way : Manner) (p : LivePlace) (n : ℕ) (lines : List (List ℕ)) (line : List ℕ) (r more : List Reply) → AreReplies (items p n lines) r
     → dialogue way false p n (lines ++ line ∷ []) (r ++ more)
     ≡ dialogue way false p n lines r ++ heard line ∷ told_of way (live_line (place_behind p n lines) (n + length lines) line).item more
 unfolding items place_behind dialogue
-dialogue_more way p n [] line [] more g = ap (λ l. heard line ∷ l) (append-nil (told_of way (live_line p n line).item more))
+dialogue_more way p n [] line [] more g =
+    let numbered : n ≡ n + length {A = List ℕ} [] = omega arith in
+    ap (λ l. heard line ∷ l) (append-nil (told_of way (live_line p n line).item more) ∙ ap (λ k. told_of way (live_line p k line).item more) numbered)
 dialogue_more way p n [] line (x ∷ r) more g = absurd g
 dialogue_more way p n (x ∷ lines) line r more g =
     let what = (live_line p n x).item in
@@ -79,7 +84,7 @@ dialogue_more way p n (x ∷ lines) line r more g =
     (heard line ∷ told_of way (live_line (place_behind next (n + 1) lines) (n + length (x ∷ lines)) line).item more)))
 
 -- the input's end
-pub dialogue_end : (way : Telling) (p : LivePlace) (n : ℕ) (lines : List (List ℕ)) (r more : List Reply) → AreReplies (items p n lines) r
+pub dialogue_end : (way : Manner) (p : LivePlace) (n : ℕ) (lines : List (List ℕ)) (r more : List Reply) → AreReplies (items p n lines) r
     → dialogue way true p n lines (r ++ more) ≡ dialogue way false p n lines r ++ told_of way (live_end (place_behind p n lines)) more
 unfolding items place_behind dialogue
 dialogue_end way p n [] [] more g = refl

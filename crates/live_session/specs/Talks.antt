@@ -10,19 +10,11 @@ use Rattle.live_doors.specs.Doors.{Deed, heard, kept, said, Loses, Grows, IsAtEn
 use Rattle.live_standin.specs.declared.live.Item.{Item}
 use Rattle.live_standin.specs.declared.live.Item.TheVariants.{Asked, Faulty}
 use Rattle.live_standin.specs.Live.{LivePlace, stands, outside, live_line, live_end, items, all_items, error_text}
+use Rattle.live_session.specs.declared.replies.Manner.{Manner}
 use Rattle.live_session.specs.declared.replies.Reply.{Reply}
 use Rattle.live_session.specs.declared.replies.Reply.TheVariants.{Row as row, Error as error}
 use Rattle.live_session.specs.declared.replies.TalkEnd.{TalkEnd}
 use Rattle.live_session.specs.declared.replies.TalkEnd.TheVariants.{Closed, Deaf, Mute, Unkept, Wanting, Full}
-
--- how replies are told: rows name these clocks, and with a journal a row is told behind the mark that all entries up to its
--- number stand there
-pub record Telling : Type 0 where
-  pub clocks : List Clock
-  pub keeps : Bool
-
-abbrev pub manner_of : List Clock → Bool → Telling
-manner_of clocks keeps = record { clocks = clocks; keeps = keeps }
 
 -- the text of a reply: a row as in a batch run, or `error CODE LINE`
 abbrev pub reply_text : List Clock → Reply → List ℕ
@@ -36,7 +28,7 @@ marks_of true (error wrong) = []
 marks_of false reply = []
 
 -- what is done to tell a reply
-abbrev pub deeds_of : Telling → Reply → List Deed
+abbrev pub deeds_of : Manner → Reply → List Deed
 deeds_of way reply = marks_of way.keeps reply ++ said (reply_text way.clocks reply) ∷ []
 
 -- an item has its reply: a command a row, and a wrong line its error
@@ -50,14 +42,14 @@ IsReply (Faulty wrong) (error told) = told ≡ wrong
 abbrev pub AreReplies : List Item → List Reply → Type 0
 AreReplies [] [] = ⊤
 AreReplies [] (reply ∷ replies) = ⊥
-AreReplies (item ∷ items) [] = ⊥
-AreReplies (item ∷ items) (reply ∷ replies) = IsReply item reply × AreReplies items replies
+AreReplies (item ∷ others) [] = ⊥
+AreReplies (item ∷ others) (reply ∷ replies) = IsReply item reply × AreReplies others replies
 
 -- the commands of items, and the rows of replies
 abbrev pub commands_in : List Item → List Command
 commands_in [] = []
-commands_in (Asked command ∷ items) = command ∷ commands_in items
-commands_in (Faulty wrong ∷ items) = commands_in items
+commands_in (Asked command ∷ others) = command ∷ commands_in others
+commands_in (Faulty wrong ∷ others) = commands_in others
 
 abbrev pub rows_in : List Reply → List Row
 rows_in [] = []
@@ -65,7 +57,7 @@ rows_in (row r ∷ replies) = r ∷ rows_in replies
 rows_in (error wrong ∷ replies) = rows_in replies
 
 -- what is done where an item ends: the first of the replies is told
-abbrev pub told_of : Telling → Option Item → List Reply → List Deed
+abbrev pub told_of : Manner → Option Item → List Reply → List Deed
 told_of way None replies = []
 told_of way (Some item) [] = []
 told_of way (Some item) (reply ∷ replies) = deeds_of way reply
@@ -83,7 +75,7 @@ end_item false place = None
 
 -- each line is heard; where it ends an item its reply is told; and then the next line is heard, which stands at the place behind
 -- it. Where the input's end was heard, too, the reply of what it makes wrong is told
-unfoldable pub dialogue : Telling → Bool → LivePlace → ℕ → List (List ℕ) → List Reply → List Deed
+unfoldable pub dialogue : Manner → Bool → LivePlace → ℕ → List (List ℕ) → List Reply → List Deed
 dialogue way ended place n [] replies = told_of way (end_item ended place) replies
 dialogue way ended place n (line ∷ lines) replies =
     heard line
@@ -106,16 +98,16 @@ at_door left trace faults = record { left = left; trace = trace; faults = faults
 
 -- a session at a door, over what is known of its commands and their rows: these lines were heard, each item of theirs has its
 -- reply, and what was done at the door is to tell each reply before the next line was heard
-pub record IsTalk (Ran : List Command → List Row → Type 0) (way : Telling) (ended : Bool) (old new : AtDoor) (lines : List (List ℕ)) (replies : List Reply) : Type 0 where
-  pub heard : Loses old.left new.left lines
+pub record IsTalk (Ran : List Command → List Row → Type 0) (way : Manner) (ended : Bool) (old new : AtDoor) (lines : List (List ℕ)) (replies : List Reply) : Type 0 where
+  pub came : Loses old.left new.left lines
   pub done : Grows old.trace new.trace (dialogue way ended (stands outside) 1 lines replies)
   pub suits : AreReplies (heard_items ended lines) replies
   pub ran : Ran (commands_in (heard_items ended lines)) (rows_in replies)
 
 -- the same, where of the last reply no more was done than this part: its command is among the commands, and its row among the rows
-pub record IsCutTalk (Ran : List Command → List Row → Type 0) (way : Telling) (ended : Bool) (old new : AtDoor) (lines : List (List ℕ)) (replies : List Reply)
+pub record IsCutTalk (Ran : List Command → List Row → Type 0) (way : Manner) (ended : Bool) (old new : AtDoor) (lines : List (List ℕ)) (replies : List Reply)
     (last : Reply) (part : List Deed) : Type 0 where
-  pub heard : Loses old.left new.left lines
+  pub came : Loses old.left new.left lines
   pub done :
       (before : List Deed)
       × (dialogue way ended (stands outside) 1 lines (replies ++ last ∷ []) ≡ before ++ deeds_of way last)
@@ -124,14 +116,14 @@ pub record IsCutTalk (Ran : List Command → List Row → Type 0) (way : Telling
   pub ran : Ran (commands_in (heard_items ended lines)) (rows_in (replies ++ last ∷ []))
 
 -- the same, where behind lines that were answered one more was heard, and nothing was done about it
-pub record IsUnanswered (Ran : List Command → List Row → Type 0) (way : Telling) (old new : AtDoor) (lines : List (List ℕ)) (line : List ℕ) (replies : List Reply) : Type 0 where
-  pub heard : Loses old.left new.left (lines ++ line ∷ [])
-  pub done : Grows old.trace new.trace (dialogue way false (stands outside) 1 lines replies ++ Deed.heard line ∷ [])
+pub record IsUnanswered (Ran : List Command → List Row → Type 0) (way : Manner) (old new : AtDoor) (lines : List (List ℕ)) (line : List ℕ) (replies : List Reply) : Type 0 where
+  pub came : Loses old.left new.left (lines ++ line ∷ [])
+  pub done : Grows old.trace new.trace (dialogue way false (stands outside) 1 lines replies ++ heard line ∷ [])
   pub suits : AreReplies (heard_items false lines) replies
   pub ran : Ran (commands_in (heard_items false lines)) (rows_in replies)
 
 -- of a reply its mark was made, and then nothing or a prefix of its text was written
-abbrev pub IsCut : Telling → Reply → List Deed → Type 0
+abbrev pub IsCut : Manner → Reply → List Deed → Type 0
 IsCut way reply part = (piece : List Deed) × IsPartOf (reply_text way.clocks reply) piece × (part ≡ marks_of way.keeps reply ++ piece)
 
 -- no more commands can be numbered, or no more lines
@@ -141,7 +133,7 @@ IsFull lines = (length (commands_in (heard_items false lines)) ≡ 2 ^ 32 - 1) �
 -- how a session at a door ended. `Closed`: the input ended, and all was answered. `Deaf`: the input failed. `Mute`: the output
 -- failed within the last reply. `Unkept`: the journal failed before the last row was told. `Wanting`: memory was wanting to hear
 -- a line, to answer the last one or to tell the last reply. `Full`: the last line has no number, or its command has none
-abbrev pub Talked : (List Command → List Row → Type 0) → Telling → AtDoor → AtDoor → TalkEnd → Type 0
+abbrev pub Talked : (List Command → List Row → Type 0) → Manner → AtDoor → AtDoor → TalkEnd → Type 0
 Talked Ran way old new Closed =
     (lines : List (List ℕ)) × (replies : List Reply)
     × IsTalk Ran way true old new lines replies × IsAtEnd new.left × (new.faults ≡ old.faults)

@@ -1,12 +1,14 @@
 -- What comes of one line of a session: it is heard, its item is answered, and the reply is told.
 
-use Rattle.std.specs.Prelude.{ℕ, ◌≡◌, ◌⊎◌, ◌-◌, ◌+◌, ◌^◌, List, [], ◌∷◌, ◌++◌, length, Option, Some, None, Result, Ok, Err, ⊤}
+use Rattle.std.specs.Prelude.{false, ℕ, ◌≡◌, ◌⊎◌, ◌-◌, ◌+◌, ◌^◌, List, [], ◌∷◌, ◌++◌, length, Option, Some, None, Result, Ok, Err, ⊤}
 use Rattle.sta_outside.specs.Shelf.{Rose}
 use Rattle.timing_defs.specs.declared.scripts.Command.{Command}
 use Rattle.timing_defs.specs.declared.scripts.Row.{Row}
 use Rattle.live_doors.specs.Doors.{Deed, Loses, Grows, Hears}
 use Rattle.live_standin.specs.declared.live.Item.{Item}
+use Rattle.live_standin.specs.declared.live.Item.TheVariants.{Asked, Faulty}
 use Rattle.live_standin.specs.Live.{Reading, stands, outside, live_line, live_end, item_list, place_behind}
+use Rattle.live_session.specs.declared.replies.Manner.{Manner}
 use Rattle.live_session.specs.declared.replies.Reply.{Reply}
 use Rattle.live_session.specs.declared.replies.TalkEnd.{TalkEnd}
 use Rattle.live_session.specs.declared.replies.TalkEnd.TheVariants.{Closed, Deaf, Mute, Unkept, Wanting, Full}
@@ -14,7 +16,7 @@ use Rattle.live_session.specs.declared.replies.Unanswered.{Unanswered}
 use Rattle.live_session.specs.declared.replies.Unanswered.TheVariants.{Memory as no_memory, Full as no_number}
 use Rattle.live_session.specs.declared.talking.Round.{Round}
 use Rattle.live_session.specs.declared.talking.Round.TheVariants.{Goes, Ends}
-use Rattle.live_session.specs.Talks.{Telling, AtDoor, IsReply, AreReplies, commands_in, rows_in, deeds_of, told_of, IsCut, IsTalk}
+use Rattle.live_session.specs.Talks.{AtDoor, IsReply, AreReplies, commands_in, rows_in, deeds_of, told_of, IsCut, IsTalk}
 
 -- what was run goes on by these commands and rows
 abbrev pub Extends : (List Command → List Row → Type 0) → (List Command → List Row → Type 0) → List Command → List Row → Type 0
@@ -43,7 +45,7 @@ abbrev pub Does : AtDoor → AtDoor → List Deed → Type 0
 Does old new deeds = Loses old.left new.left [] × Grows old.trace new.trace deeds
 
 -- a reply is told, or why it is not told whole
-abbrev pub Tells : Telling → Reply → AtDoor → AtDoor → Option TalkEnd → Type 0
+abbrev pub Tells : Manner → Reply → AtDoor → AtDoor → Option TalkEnd → Type 0
 Tells way reply old new None = Does old new (deeds_of way reply) × (new.faults ≡ old.faults)
 Tells way reply old new (Some Mute) = ((part : List Deed) × IsCut way reply part × Does old new part) × Rose old.faults new.faults
 Tells way reply old new (Some Unkept) = IsQuiet old new
@@ -52,11 +54,17 @@ Tells way reply old new (Some Closed) = ⊥
 Tells way reply old new (Some Deaf) = ⊥
 Tells way reply old new (Some Full) = ⊥
 
+-- the item is a command
+abbrev pub IsAsked : Option Item → Type 0
+IsAsked None = ⊥
+IsAsked (Some (Asked command)) = ⊤
+IsAsked (Some (Faulty wrong)) = ⊥
+
 -- an item has its reply, or why it has none
 abbrev pub Answers : (List Command → List Row → Type 0) → (List Command → List Row → Type 0) → Item → Result Reply TalkEnd → Type 0
 Answers Ran Ran' item (Ok reply) = IsReply item reply × Extends Ran Ran' (commands_in (item ∷ [])) (rows_in (reply ∷ []))
 Answers Ran Ran' item (Err Wanting) = Remains Ran Ran'
-Answers Ran Ran' item (Err Full) = Remains Ran Ran' × IsFilled Ran
+Answers Ran Ran' item (Err Full) = Remains Ran Ran' × IsFilled Ran × IsAsked (Some item)
 Answers Ran Ran' item (Err Closed) = ⊥
 Answers Ran Ran' item (Err Deaf) = ⊥
 Answers Ran Ran' item (Err Mute) = ⊥
@@ -69,7 +77,7 @@ pub record IsCutReply (Ran Ran' : List Command → List Row → Type 0) (what : 
   pub does : Does old new part
 
 -- what a line ends is answered and told, if it ends something, or why not
-abbrev pub Replies : (List Command → List Row → Type 0) → (List Command → List Row → Type 0) → Telling → Option Item → AtDoor → AtDoor → Option TalkEnd → Type 0
+abbrev pub Replies : (List Command → List Row → Type 0) → (List Command → List Row → Type 0) → Manner → Option Item → AtDoor → AtDoor → Option TalkEnd → Type 0
 Replies Ran Ran' way what old new None =
     (replies : List Reply)
     × AreReplies (item_list what) replies × Extends Ran Ran' (commands_in (item_list what)) (rows_in replies)
@@ -79,7 +87,7 @@ Replies Ran Ran' way what old new (Some Mute) =
 Replies Ran Ran' way what old new (Some Unkept) = (reply : Reply) × IsCutReply Ran Ran' what reply old new [] × (new.faults ≡ old.faults)
 Replies Ran Ran' way what old new (Some Wanting) =
     (Remains Ran Ran' × IsQuiet old new) ⊎ ((reply : Reply) × IsCutReply Ran Ran' what reply old new [] × (new.faults ≡ old.faults))
-Replies Ran Ran' way what old new (Some Full) = Remains Ran Ran' × IsFilled Ran × IsQuiet old new
+Replies Ran Ran' way what old new (Some Full) = Remains Ran Ran' × IsFilled Ran × IsAsked what × IsQuiet old new
 Replies Ran Ran' way what old new (Some Closed) = ⊥
 Replies Ran Ran' way what old new (Some Deaf) = ⊥
 
@@ -101,7 +109,7 @@ IsUnread reading Mute = ⊥
 IsUnread reading Unkept = ⊥
 
 -- a line that was heard is read, answered and told, or how the session ends at it
-abbrev pub Reads : (List Command → List Row → Type 0) → (List Command → List Row → Type 0) → Telling → Reading → List ℕ → AtDoor → AtDoor → Round → Type 0
+abbrev pub Reads : (List Command → List Row → Type 0) → (List Command → List Row → Type 0) → Manner → Reading → List ℕ → AtDoor → AtDoor → Round → Type 0
 Reads Ran Ran' way reading line old new (Goes reader) =
     (reader ≡ reading_on reading line) × Replies Ran Ran' way (item_of reading line) old new None
 Reads Ran Ran' way reading line old new (Ends end) =
@@ -112,14 +120,14 @@ abbrev pub HearsAt : AtDoor → AtDoor → Option (List ℕ) → Type 0
 HearsAt old new got = Hears old.left new.left old.trace new.trace got × (new.faults ≡ old.faults)
 
 -- a round ends the session: at a line, at the input's end, or for want of memory before a line
-abbrev pub Stops : (List Command → List Row → Type 0) → (List Command → List Row → Type 0) → Telling → Reading → AtDoor → AtDoor → TalkEnd → Type 0
+abbrev pub Stops : (List Command → List Row → Type 0) → (List Command → List Row → Type 0) → Manner → Reading → AtDoor → AtDoor → TalkEnd → Type 0
 Stops Ran Ran' way reading old new end =
     ((line : List ℕ) × (mid : AtDoor) × HearsAt old mid (Some line) × Reads Ran Ran' way reading line mid new (Ends end))
     ⊎ ((mid : AtDoor) × HearsAt old mid None × Replies Ran Ran' way (live_end reading.place) mid new (Some end))
     ⊎ ((end ≡ Wanting) × Remains Ran Ran' × IsQuiet old new)
 
 -- one round of a session: a line is heard, read, answered and told
-abbrev pub Rounds : (List Command → List Row → Type 0) → (List Command → List Row → Type 0) → Telling → Reading → AtDoor → AtDoor → Round → Type 0
+abbrev pub Rounds : (List Command → List Row → Type 0) → (List Command → List Row → Type 0) → Manner → Reading → AtDoor → AtDoor → Round → Type 0
 Rounds Ran Ran' way reading old new (Goes reader) =
     (line : List ℕ) × (mid : AtDoor) × HearsAt old mid (Some line) × Reads Ran Ran' way reading line mid new (Goes reader)
 Rounds Ran Ran' way reading old new (Ends Closed) =
@@ -128,8 +136,8 @@ Rounds Ran Ran' way reading old new (Ends Deaf) = Remains Ran Ran' × Does old n
 Rounds Ran Ran' way reading old new (Ends end) = Stops Ran Ran' way reading old new end
 
 -- the rounds so far: all lines that were heard are read, answered and told
-pub record IsTalking (Ran : List Command → List Row → Type 0) (way : Telling) (old new : AtDoor) (lines : List (List ℕ)) (replies : List Reply) (reading : Reading) : Type 0 where
+pub record IsTalking (Ran : List Command → List Row → Type 0) (way : Manner) (old new : AtDoor) (lines : List (List ℕ)) (replies : List Reply) (reading : Reading) : Type 0 where
   pub talk : IsTalk Ran way false old new lines replies
   pub place : reading.place ≡ place_behind (stands outside) 1 lines
-  pub lines : reading.lines ≡ length lines
+  pub count : reading.lines ≡ length lines
   pub faults : new.faults ≡ old.faults

@@ -1,13 +1,13 @@
 //! What a session replies, and what it asks of the session behind it.
 
-ghost use Rattle.std.specs.Prelude.{◌≡◌, ◌×◌, List, [], ◌∷◌, true};
+ghost use Rattle.std.specs.Prelude.{◌≡◌, List, [], ◌∷◌, true};
 ghost use Rattle.timing_defs.specs.declared.scripts.Command.{Command};
 ghost use Rattle.timing_defs.specs.declared.scripts.Row.{Row};
 ghost use Rattle.live_standin.specs.Live.{is_runnable};
 ghost use Rattle.live_session.specs.Turns.{Runs};
 
-use std::alloc::Global;
 use sta_text::Wrong;
+use std::alloc::Global;
 use timing_defs::{Clock, Command, Items, Row};
 
 /// A reply to what a line ends: the row of a command, or the error of a wrong line.
@@ -52,10 +52,11 @@ pub enum Untold {
     Memory,
 }
 
-/// How replies are told: the clocks that rows name, and whether there is a journal.
-#[derive(Clone, Copy, Drop)]
-pub struct Manner<'a> {
-    pub clocks: &'a Items<Clock>,
+/// How replies are told: rows name these clocks, and where there is a journal a row is told behind the mark that all
+/// entries up to its number stand there.
+#[derive(Drop)]
+pub struct Manner {
+    pub clocks: Items<Clock>,
     pub keeps: bool,
 }
 

@@ -5,7 +5,7 @@ ghost use Rattle.timing_defs.specs.declared.scripts.Command.{Command};
 ghost use Rattle.timing_defs.specs.declared.scripts.Row.{Row};
 ghost use Rattle.live_standin.specs.Live.{beginning, is_runnable, CanRun};
 ghost use Rattle.live_doors.specs.Doors.{Grows, Loses};
-ghost use Rattle.live_session.specs.Talks.{Talked, at_door, reply_text, marks_of, manner_of};
+ghost use Rattle.live_session.specs.Talks.{Talked, at_door, reply_text, marks_of};
 ghost use Rattle.live_session.specs.Turns.{Tells, Answers, Replies, Reads, Rounds};
 
 use crate::replies::{Answering, Manner, Reply, TalkEnd, Unanswered, Untold};
@@ -17,11 +17,11 @@ use std::sync::Wait;
 use timing_defs::Row;
 
 /// The text of a reply.
-fn reply_bytes(alloc: Global, manner: Manner<'_>, reply: &Reply) -> Result<Vec<u8>, Memory>
-    ensures { IfOk result (λ bytes. bytes.items ≡ reply_text manner.clocks.now reply.now) }
+fn reply_bytes(alloc: Global, manner: &Manner, reply: &Reply) -> Result<Vec<u8>, Memory>
+    ensures { IfOk result (λ bytes. bytes.items ≡ reply_text manner.now.clocks reply.now) }
 {
     match reply {
-        Reply::Row(row) => report_bytes(alloc, row, manner.clocks),
+        Reply::Row(row) => report_bytes(alloc, row, &manner.clocks),
         Reply::Error(wrong) => error_bytes(alloc, wrong.code, wrong.at as u64),
     }
 }
@@ -31,11 +31,11 @@ fn mark<D: Door, S: Answering>(
     alloc: Global,
     door: &mut D,
     session: &S,
-    manner: Manner<'_>,
+    manner: &Manner,
     reply: &Reply,
 ) -> Result<(), Untold>
     ensures quiet { (Loses (D.left door.old) (D.left door.new) []) × (D.faults door.new ≡ D.faults door.old) }
-    ensures marked { OnOk result (Grows (D.trace door.old) (D.trace door.new) (marks_of manner.keeps reply.now)) }
+    ensures marked { OnOk result (Grows (D.trace door.old) (D.trace door.new) (marks_of manner.now.keeps reply.now)) }
     ensures unmarked { OnErr result (Grows (D.trace door.old) (D.trace door.new) []) }
 {
     match reply {
@@ -51,15 +51,15 @@ fn mark<D: Door, S: Answering>(
 }
 
 /// Tells a reply, or why it is not told whole.
-#[tactic(auto, using(crate::proofs::DoorLaws::grows_more, crate::proofs::DoorLaws::loses_none))]
+#[tactic(auto, using(crate::proofs::DoorLaws::grows_more))]
 fn tell<D: Door, S: Answering>(
     alloc: Global,
     door: &mut D,
     session: &S,
-    manner: Manner<'_>,
+    manner: &Manner,
     reply: &Reply,
 ) -> Option<TalkEnd>
-    ensures { Tells (manner_of manner.clocks.now manner.keeps) reply.now (at_door (D.left door.old) (D.trace door.old) (D.faults door.old)) (at_door (D.left door.new) (D.trace door.new) (D.faults door.new)) result }
+    ensures { Tells manner.now reply.now (at_door (D.left door.old) (D.trace door.old) (D.faults door.old)) (at_door (D.left door.new) (D.trace door.new) (D.faults door.new)) result }
 {
     match reply_bytes(alloc, manner, reply) {
         Ok(text) => match mark(alloc, door, session, manner, reply) {
@@ -75,11 +75,7 @@ fn tell<D: Door, S: Answering>(
 }
 
 /// The reply to what a line ended.
-fn answer_item<S: Answering>(
-    alloc: Global,
-    session: &mut S,
-    item: Item,
-) -> Result<Reply, TalkEnd>
+fn answer_item<S: Answering>(alloc: Global, session: &mut S, item: Item) -> Result<Reply, TalkEnd>
     requires able { (before : List Command) × (rows : List Row) × S.ran session.old before rows }
     requires item { CanRun item }
     ensures { Answers (S.ran session.old) (S.ran session.new) item result }
@@ -103,12 +99,12 @@ fn reply_to<D: Door, S: Answering>(
     alloc: Global,
     door: &mut D,
     session: &mut S,
-    manner: Manner<'_>,
+    manner: &Manner,
     item: Option<Item>,
 ) -> Option<TalkEnd>
     requires able { (before : List Command) × (rows : List Row) × S.ran session.old before rows }
     requires item { IfSome item CanRun }
-    ensures { Replies (S.ran session.old) (S.ran session.new) (manner_of manner.clocks.now manner.keeps) item (at_door (D.left door.old) (D.trace door.old) (D.faults door.old)) (at_door (D.left door.new) (D.trace door.new) (D.faults door.new)) result }
+    ensures { Replies (S.ran session.old) (S.ran session.new) manner.now item (at_door (D.left door.old) (D.trace door.old) (D.faults door.old)) (at_door (D.left door.new) (D.trace door.new) (D.faults door.new)) result }
 {
     match item {
         None => None,
@@ -135,12 +131,12 @@ fn read_line<D: Door, S: Answering>(
     alloc: Global,
     door: &mut D,
     session: &mut S,
-    manner: Manner<'_>,
+    manner: &Manner,
     reader: LiveReader,
     line: Vec<u8>,
 ) -> Round
     requires able { (before : List Command) × (rows : List Row) × S.ran session.old before rows }
-    ensures { Reads (S.ran session.old) (S.ran session.new) (manner_of manner.clocks.now manner.keeps) reader line.items (at_door (D.left door.old) (D.trace door.old) (D.faults door.old)) (at_door (D.left door.new) (D.trace door.new) (D.faults door.new)) result }
+    ensures { Reads (S.ran session.old) (S.ran session.new) manner.now reader line.items (at_door (D.left door.old) (D.trace door.old) (D.faults door.old)) (at_door (D.left door.new) (D.trace door.new) (D.faults door.new)) result }
 {
     let read = reader.line(alloc, &line);
     drop(line);
@@ -158,15 +154,15 @@ fn read_line<D: Door, S: Answering>(
 }
 
 /// Hears the next line, and answers it.
-fn round<D: Door, S: Answering>(
+fn hear_next<D: Door, S: Answering>(
     alloc: Global,
     door: &mut D,
     session: &mut S,
-    manner: Manner<'_>,
+    manner: &Manner,
     reader: LiveReader,
 ) -> Round
     requires able { (before : List Command) × (rows : List Row) × S.ran session.old before rows }
-    ensures { Rounds (S.ran session.old) (S.ran session.new) (manner_of manner.clocks.now manner.keeps) reader (at_door (D.left door.old) (D.trace door.old) (D.faults door.old)) (at_door (D.left door.new) (D.trace door.new) (D.faults door.new)) result }
+    ensures { Rounds (S.ran session.old) (S.ran session.new) manner.now reader (at_door (D.left door.old) (D.trace door.old) (D.faults door.old)) (at_door (D.left door.new) (D.trace door.new) (D.faults door.new)) result }
 {
     match door.hear(alloc) {
         Ok(Some(line)) => read_line(alloc, door, session, manner, reader, line),
@@ -195,14 +191,14 @@ pub fn talk<H: Wait, D: Door, S: Answering>(
     alloc: Global,
     door: &mut D,
     session: &mut S,
-    manner: Manner<'_>,
+    manner: &Manner,
 ) -> TalkEnd
     requires { S.ran session.old [] [] }
-    ensures { Talked (S.ran session.new) (manner_of manner.clocks.now manner.keeps) (at_door (D.left door.old) (D.trace door.old) (D.faults door.old)) (at_door (D.left door.new) (D.trace door.new) (D.faults door.new)) result }
+    ensures { Talked (S.ran session.new) manner.now (at_door (D.left door.old) (D.trace door.old) (D.faults door.old)) (at_door (D.left door.new) (D.trace door.new) (D.faults door.new)) result }
 {
     let mut reader = LiveReader::new();
     for _ in rt.forever() {
-        match round(alloc, door, session, manner, reader) {
+        match hear_next(alloc, door, session, manner, reader) {
             Round::Goes(next) => reader = next,
             Round::Ends(end) => return end,
         }

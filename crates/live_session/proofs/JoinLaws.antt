@@ -1,0 +1,261 @@
+-- A session's rounds joined: what it heard, ran and did so far, and one round more.
+use Rattle.std.proofs.Common.{◌≡◌, ℕ, ◌+◌, ◌-◌, ◌^◌, ◌++◌, List, [], ◌∷◌, length, true, false, refl, sym, ap, ◌∙◌, subst, arith, append_assoc, length-append, inl, inr}
+use Rattle.std.specs.Prelude.{Bool, Option, Some, None}
+use Rattle.std.proofs.lemmas.List.{append-nil}
+use Rattle.sta_outside.specs.Shelf.{Rose}
+use Rattle.timing_defs.specs.declared.scripts.Command.{Command}
+use Rattle.timing_defs.specs.declared.scripts.Row.{Row}
+use Rattle.live_doors.specs.Doors.{Deed, heard, Loses, Grows, IsAtEnd}
+use Rattle.live_standin.specs.declared.live.Item.{Item}
+use Rattle.live_standin.specs.Live.{Reading, beginning, LivePlace, stands, passing_eco, passing_draft, outside, live_line, live_end, item_list, items, place_behind}
+use Rattle.live_session.specs.declared.replies.Manner.{Manner}
+use Rattle.live_session.specs.declared.replies.Reply.{Reply}
+use Rattle.live_session.specs.declared.replies.TalkEnd.{TalkEnd}
+use Rattle.live_session.specs.declared.replies.TalkEnd.TheVariants.{Closed, Deaf, Mute, Unkept, Wanting, Full}
+use Rattle.live_session.specs.declared.talking.Round.{Round}
+use Rattle.live_session.specs.declared.talking.Round.TheVariants.{Goes, Ends}
+use Rattle.live_session.specs.Talks.{AtDoor, AreReplies, commands_in, rows_in, deeds_of, told_of, dialogue, heard_items, IsTalk, IsCutTalk, IsUnanswered, IsCut, IsFull, Talked}
+use Rattle.live_session.specs.Turns.{Extends, Remains, IsFilled, IsAsked, IsQuiet, Does, IsCutReply, Replies, Reads, reading_on, item_of, IsUnread, HearsAt, Stops, Rounds, IsTalking}
+use Rattle.live_session.proofs.DoorLaws.{grows_more, loses_more, grows_same, loses_same}
+use Rattle.live_session.proofs.TalkLaws.{commands_more, rows_more, replies_more, items_more, place_more, dialogue_more, dialogue_end}
+
+loses_refl : (a : Option (List (List ℕ))) → Loses a a []
+loses_refl None = tt
+loses_refl (Some x) = refl
+
+grows_refl : (a : Option (List Deed)) → Grows a a []
+grows_refl None = tt
+grows_refl (Some x) = sym (append-nil x)
+
+-- before the first line
+pub talking_none : (Ran : List Command → List Row → Type 0) (way : Manner) (door : AtDoor) → Ran [] [] → IsTalking Ran way door door [] [] beginning
+unfolding items place_behind dialogue
+talking_none Ran way door ran = record {
+  talk = record { came = loses_refl door.left; done = grows_refl door.trace; suits = tt; ran = ran };
+  place = refl;
+  count = refl;
+  faults = refl;
+}
+
+-- what the input's end makes wrong is no command
+none_asked : (p : LivePlace) → IsAsked (live_end p) → ⊥
+unfolding live_end
+none_asked (stands n) asked = asked
+none_asked passing_eco asked = asked
+none_asked passing_draft asked = asked
+
+-- the lines to come had an end
+ended : (a b c : Option (List (List ℕ))) → IsAtEnd a → Loses a b [] → Loses b c [] → IsAtEnd c
+ended None None None at l m = tt
+ended None None (Some z) at l m = absurd m
+ended None (Some y) c at l m = absurd l
+ended (Some x) None c at l m = absurd l
+ended (Some x) (Some y) None at l m = absurd m
+ended (Some x) (Some y) (Some z) at l m = sym m ∙ sym l ∙ at
+
+-- an item has a reply, so the reply's deeds are what is told of it
+told_last : (way : Manner) (what : Option Item) (reply : Reply) → AreReplies (item_list what) (reply ∷ []) → told_of way what (reply ∷ []) ≡ deeds_of way reply
+told_last way None reply g = absurd g
+told_last way (Some item) reply g = refl
+
+module _ (Ran Ran' : List Command → List Row → Type 0) (way : Manner) (old near new : AtDoor) (lines : List (List ℕ)) (replies : List Reply) (reading : Reading)
+    (so : IsTalking Ran way old near lines replies reading) where
+  abbrev place : LivePlace
+  place = place_behind (stands outside) 1 lines
+
+  abbrev whole : List Deed
+  whole = dialogue way false (stands outside) 1 lines replies
+
+  -- replies to more items
+  replies_on : (more : List Item) (others : List Reply) → AreReplies more others → AreReplies (items (stands outside) 1 lines ++ more) (replies ++ others)
+  replies_on more others g = replies_more (items (stands outside) 1 lines) more replies others so.talk.suits g
+
+  ran_on : (all more : List Item) (others : List Reply) → all ≡ items (stands outside) 1 lines ++ more → Extends Ran Ran' (commands_in more) (rows_in others)
+      → Ran' (commands_in all) (rows_in (replies ++ others))
+  ran_on all more others are e =
+      let first = items (stands outside) 1 lines in
+      subst (λ cs. Ran' cs (rows_in (replies ++ others))) (sym (commands_more first more) ∙ sym (ap commands_in are))
+      (subst (λ rs. Ran' (commands_in first ++ commands_in more) rs) (sym (rows_more replies others)) (e (commands_in first) (rows_in replies) so.talk.ran))
+
+  ran_same : Remains Ran Ran' → Ran' (commands_in (items (stands outside) 1 lines)) (rows_in replies)
+  ran_same e = e (commands_in (items (stands outside) 1 lines)) (rows_in replies) so.talk.ran
+
+  -- nothing was done in this round
+  talk_same : Remains Ran Ran' → Does near new [] → IsTalk Ran' way false old new lines replies
+  talk_same e d = record {
+    came = loses_same old.left near.left new.left lines so.talk.came d.0;
+    done = grows_same old.trace near.trace new.trace whole so.talk.done d.1;
+    suits = so.talk.suits;
+    ran = ran_same e;
+  }
+
+  -- one line was heard
+  module _ (line : List ℕ) (mid : AtDoor) (hears : HearsAt near mid (Some line)) where
+    abbrev what : Option Item
+    what = (live_line place (1 + length lines) line).item
+
+    at_place : live_line reading.place (reading.lines + 1) line ≡ live_line place (1 + length lines) line
+    at_place =
+        let numbered : reading.lines + 1 ≡ 1 + length lines = omega (arith, so.count) in
+        ap (λ p. live_line p (reading.lines + 1) line) so.place ∙ ap (λ k. live_line place k line) numbered
+
+    came_on : Loses mid.left new.left [] → Loses old.left new.left (lines ++ line ∷ [])
+    came_on l = loses_same old.left mid.left new.left (lines ++ line ∷ []) (loses_more old.left near.left mid.left lines (line ∷ []) so.talk.came hears.0.0) l
+
+    done_on : (part : List Deed) → Grows mid.trace new.trace part → Grows old.trace new.trace (whole ++ heard line ∷ part)
+    done_on part g =
+        grows_more old.trace near.trace new.trace whole (heard line ∷ part) so.talk.done
+        (grows_more near.trace mid.trace new.trace (heard line ∷ []) part hears.0.1 g)
+
+    -- nothing was done about it
+    unanswered : Remains Ran Ran' → IsQuiet mid new → IsUnanswered Ran' way old new lines line replies
+    unanswered e q = record { came = came_on q.0; done = done_on [] q.1; suits = so.talk.suits; ran = ran_same e }
+
+    -- it was answered
+    line_talk : (others : List Reply) → AreReplies (item_list what) others → Extends Ran Ran' (commands_in (item_list what)) (rows_in others)
+        → Does mid new (told_of way what others) → IsTalk Ran' way false old new (lines ++ line ∷ []) (replies ++ others)
+    line_talk others g e d =
+        let are = items_more (stands outside) 1 lines line in
+        record {
+          came = came_on d.0;
+          done =
+              subst (Grows old.trace new.trace) (sym (dialogue_more way (stands outside) 1 lines line replies others so.talk.suits))
+              (done_on (told_of way what others) d.1);
+          suits = subst (λ l. AreReplies l (replies ++ others)) (sym are) (replies_on (item_list what) others g);
+          ran = ran_on (items (stands outside) 1 (lines ++ line ∷ [])) (item_list what) others are e;
+        }
+
+    -- its reply was told in part
+    line_cut : (reply : Reply) (part : List Deed) → IsCutReply Ran Ran' what reply mid new part → IsCutTalk Ran' way false old new (lines ++ line ∷ []) replies reply part
+    line_cut reply part c =
+        let are = items_more (stands outside) 1 lines line in
+        let before = whole ++ heard line ∷ [] in
+        let parts : (xs : List Deed) → whole ++ heard line ∷ xs ≡ before ++ xs = λ xs. sym (append_assoc whole (heard line ∷ []) xs) in
+        record {
+          came = came_on c.does.0;
+          done = (
+            before,
+            dialogue_more way (stands outside) 1 lines line replies (reply ∷ []) so.talk.suits
+                ∙ ap (λ xs. whole ++ heard line ∷ xs) (told_last way what reply c.suits) ∙ parts (deeds_of way reply),
+            subst (Grows old.trace new.trace) (parts part) (done_on part c.does.1),
+          );
+          suits = subst (λ l. AreReplies l (replies ++ reply ∷ [])) (sym are) (replies_on (item_list what) (reply ∷ []) c.suits);
+          ran = ran_on (items (stands outside) 1 (lines ++ line ∷ [])) (item_list what) (reply ∷ []) are c.runs;
+        }
+
+  -- the input's end was heard
+  module _ (mid : AtDoor) (hears : HearsAt near mid None) where
+    abbrev last : Option Item
+    last = live_end place
+
+    end_came : Loses mid.left new.left [] → Loses old.left new.left lines
+    end_came l = loses_same old.left mid.left new.left lines (loses_same old.left near.left mid.left lines so.talk.came hears.0.1) l
+
+    end_done : (part : List Deed) → Grows mid.trace new.trace part → Grows old.trace new.trace (whole ++ part)
+    end_done part g = grows_more old.trace mid.trace new.trace whole part (grows_same old.trace near.trace mid.trace whole so.talk.done hears.0.2) g
+
+    end_talk : (others : List Reply) → AreReplies (item_list last) others → Extends Ran Ran' (commands_in (item_list last)) (rows_in others)
+        → Does mid new (told_of way last others) → IsTalk Ran' way true old new lines (replies ++ others)
+    end_talk others g e d = record {
+      came = end_came d.0;
+      done = subst (Grows old.trace new.trace) (sym (dialogue_end way (stands outside) 1 lines replies others so.talk.suits)) (end_done (told_of way last others) d.1);
+      suits = replies_on (item_list last) others g;
+      ran = ran_on (items (stands outside) 1 lines ++ item_list last) (item_list last) others refl e;
+    }
+
+    end_cut : (reply : Reply) (part : List Deed) → IsCutReply Ran Ran' last reply mid new part → IsCutTalk Ran' way true old new lines replies reply part
+    end_cut reply part c = record {
+      came = end_came c.does.0;
+      done = (
+        whole,
+        dialogue_end way (stands outside) 1 lines replies (reply ∷ []) so.talk.suits ∙ ap (λ xs. whole ++ xs) (told_last way last reply c.suits),
+        end_done part c.does.1,
+      );
+      suits = replies_on (item_list last) (reply ∷ []) c.suits;
+      ran = ran_on (items (stands outside) 1 lines ++ item_list last) (item_list last) (reply ∷ []) refl c.runs;
+    }
+
+  -- a round more
+  pub talking_more : (reader : Reading) → Rounds Ran Ran' way reading near new (Goes reader)
+      → (all : List (List ℕ)) × (told : List Reply) × IsTalking Ran' way old new all told reader
+  talking_more reader (line, mid, hears, (is, (others, suits, runs, does, same))) =
+      let at : live_line reading.place (reading.lines + 1) line ≡ live_line place (1 + length lines) line = at_place line mid hears in
+      let g : AreReplies (item_list (live_line place (1 + length lines) line).item) others = subst (λ b. AreReplies (item_list b.item) others) at suits in
+      let e : Extends Ran Ran' (commands_in (item_list (live_line place (1 + length lines) line).item)) (rows_in others) =
+      subst (λ b. Extends Ran Ran' (commands_in (item_list b.item)) (rows_in others)) at runs in
+      let d : Does mid new (told_of way (live_line place (1 + length lines) line).item others) = subst (λ b. Does mid new (told_of way b.item others)) at does in
+      let longer : length (lines ++ line ∷ []) ≡ length lines + 1 = length-append lines (line ∷ []) in (
+        lines ++ line ∷ [],
+        replies ++ others,
+        record {
+          talk = line_talk line mid hears others g e d;
+          place = ap (λ r. r.place) is ∙ ap (λ b. b.place) at ∙ sym (place_more (stands outside) 1 lines line);
+          count = ap (λ r. r.lines) is ∙ ap (λ k. k + 1) so.count ∙ sym longer;
+          faults = same ∙ hears.1 ∙ so.faults;
+        },
+      )
+
+  cut_on : (line : List ℕ) (mid : AtDoor) (hears : HearsAt near mid (Some line)) (reply : Reply) (part : List Deed) → IsCutReply Ran Ran' (item_of reading line) reply mid new part
+      → IsCutTalk Ran' way false old new (lines ++ line ∷ []) replies reply part
+  cut_on line mid hears reply part c =
+      line_cut line mid hears reply part (subst (λ b. IsCutReply Ran Ran' b.item reply mid new part) (at_place line mid hears) c)
+
+  cut_end : (mid : AtDoor) (hears : HearsAt near mid None) (reply : Reply) (part : List Deed) → IsCutReply Ran Ran' (live_end reading.place) reply mid new part
+      → IsCutTalk Ran' way true old new lines replies reply part
+  cut_end mid hears reply part c =
+      end_cut mid hears reply part (subst (λ p. IsCutReply Ran Ran' (live_end p) reply mid new part) so.place c)
+
+  end_quiet : (mid : AtDoor) (hears : HearsAt near mid None) → IsQuiet mid new → Does near new []
+  end_quiet mid hears q =
+      (loses_same near.left mid.left new.left [] hears.0.1 q.0, grows_same near.trace mid.trace new.trace [] hears.0.2 q.1)
+
+  -- the counts of faults
+  stayed : (mid : AtDoor) → mid.faults ≡ near.faults → new.faults ≡ mid.faults → new.faults ≡ old.faults
+  stayed mid f g = g ∙ f ∙ so.faults
+
+  rose : (mid : AtDoor) → mid.faults ≡ near.faults → Rose mid.faults new.faults → Rose old.faults new.faults
+  rose mid f r = subst (λ k. Rose k new.faults) (f ∙ so.faults) r
+
+  filled : IsFilled Ran → length (commands_in (items (stands outside) 1 lines)) ≡ 2 ^ 32 - 1
+  filled full = full (commands_in (items (stands outside) 1 lines)) (rows_in replies) so.talk.ran
+
+  -- the last round
+  pub talked : (end : TalkEnd) → Rounds Ran Ran' way reading near new (Ends end) → Talked Ran' way old new end
+  talked Closed (mid, hears, (others, suits, runs, does, same)) = (
+    lines,
+    replies ++ others,
+    end_talk mid hears others (subst (λ p. AreReplies (item_list (live_end p)) others) so.place suits)
+        (subst (λ p. Extends Ran Ran' (commands_in (item_list (live_end p))) (rows_in others)) so.place runs)
+        (subst (λ p. Does mid new (told_of way (live_end p) others)) so.place does),
+    ended near.left mid.left new.left hears.0.0 hears.0.1 does.0,
+    stayed mid hears.1 same,
+  )
+  talked Deaf (e, d, r) = (lines, replies, talk_same e d, subst (λ k. Rose k new.faults) so.faults r)
+  talked Mute (inl (line, mid, hears, inl (reply, part, c, cut, r))) =
+      (false, lines ++ line ∷ [], replies, reply, part, cut_on line mid hears reply part c, cut, rose mid hears.1 r)
+  talked Mute (inl (line, mid, hears, inr (e, q, u))) = absurd u
+  talked Mute (inr (inl (mid, hears, (reply, part, c, cut, r)))) =
+      (true, lines, replies, reply, part, cut_end mid hears reply part c, cut, rose mid hears.1 r)
+  talked Mute (inr (inr (is, e, q))) = absurd (cc)
+  talked Unkept (inl (line, mid, hears, inl (reply, c, same))) =
+      (false, lines ++ line ∷ [], replies, reply, cut_on line mid hears reply [] c, stayed mid hears.1 same)
+  talked Unkept (inl (line, mid, hears, inr (e, q, u))) = absurd u
+  talked Unkept (inr (inl (mid, hears, (reply, c, same)))) =
+      (true, lines, replies, reply, cut_end mid hears reply [] c, stayed mid hears.1 same)
+  talked Unkept (inr (inr (is, e, q))) = absurd (cc)
+  talked Wanting (inl (line, mid, hears, inl (inl (e, q)))) =
+      (inr (inl (lines, line, replies, unanswered line mid hears e q)), stayed mid hears.1 q.2)
+  talked Wanting (inl (line, mid, hears, inl (inr (reply, c, same)))) =
+      (inr (inr (false, lines ++ line ∷ [], replies, reply, cut_on line mid hears reply [] c)), stayed mid hears.1 same)
+  talked Wanting (inl (line, mid, hears, inr (e, q, u))) = (inr (inl (lines, line, replies, unanswered line mid hears e q)), stayed mid hears.1 q.2)
+  talked Wanting (inr (inl (mid, hears, inl (e, q)))) =
+      (inl (lines, replies, talk_same e (end_quiet mid hears q)), stayed mid hears.1 q.2)
+  talked Wanting (inr (inl (mid, hears, inr (reply, c, same)))) =
+      (inr (inr (true, lines, replies, reply, cut_end mid hears reply [] c)), stayed mid hears.1 same)
+  talked Wanting (inr (inr (is, e, q))) = (inl (lines, replies, talk_same e (q.0, q.1)), q.2 ∙ so.faults)
+  talked Full (inl (line, mid, hears, inl (e, full, asked, q))) =
+      (lines, line, replies, unanswered line mid hears e q, inl (filled full), stayed mid hears.1 q.2)
+  talked Full (inl (line, mid, hears, inr (e, q, u))) =
+      (lines, line, replies, unanswered line mid hears e q, inr (sym so.count ∙ u), stayed mid hears.1 q.2)
+  talked Full (inr (inl (mid, hears, (e, full, asked, q)))) = absurd (none_asked reading.place asked)
+  talked Full (inr (inr (is, e, q))) = absurd (cc)

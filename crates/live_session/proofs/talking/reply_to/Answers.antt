@@ -1,0 +1,15 @@
+use Rattle.std.proofs.Common.{rules, subst, sym}
+use Rattle.std.specs.Prelude.{Some}
+use Rattle.live_session.specs.Talks.{at_door}
+use Rattle.live_session.specs.Turns.{Replies}
+use Rattle.live_session.proofs.TurnLaws.{replied}
+use Rattle.live_session.proofs.talking.reply_to.Goals as goal
+
+pub returns-in-Ok : goal.returns-in-Ok
+returns-in-Ok g c =
+    let old = at_door (g.D.Door.left c.args.door.now) (g.D.Door.trace c.args.door.now) (g.D.Door.faults c.args.door.now) in
+    let new = at_door (g.D.Door.left c.tell-told.new.door) (g.D.Door.trace c.tell-told.new.door) (g.D.Door.faults c.tell-told.new.door) in
+    subst (λ what. Replies (g.S.Answering.ran c.args.session.now) (g.S.Answering.ran c.answer_item.new.session) c.args.manner.now what old new c.tell-told.result)
+    (sym c.in-Some.is)
+    (replied (g.S.Answering.ran c.args.session.now) (g.S.Answering.ran c.answer_item.new.session) c.args.manner.now c.in-Some.item c.in-Ok.reply old new
+    c.tell-told.result c.in-Ok.ensures c.tell-told.ensures)
