@@ -1,3 +1,4 @@
 pub mod LineCount
 pub mod ProgressLemmas
 pub mod KeptLaws
+pub mod LiveLaws

@@ -16,10 +16,10 @@ use std::alloc::Global;
 use timing_defs::{Command, Eco, Edit, Items, Query, Trial};
 
 /// The greatest number of trials of a draft.
-const TRIAL_LIMIT: usize = 100;
+pub(crate) const TRIAL_LIMIT: usize = 100;
 
 /// Whether a draft may be asked a question.
-fn is_plain(query: &Query) -> bool
+pub(crate) fn is_plain(query: &Query) -> bool
     ensures { result ≡ is_plain query.now }
 {
     match query {

@@ -20,7 +20,7 @@ use std::alloc::Global;
 use timing_defs::{Code, Command, Eco, Edit, Items, ReadFault, Script};
 
 /// The greatest number of bytes of a line before its line feed.
-const LINE_LIMIT: usize = 65_536;
+pub(crate) const LINE_LIMIT: usize = 65_536;
 
 /// The greatest number of commands.
 const COMMAND_LIMIT: usize = 10_000;
