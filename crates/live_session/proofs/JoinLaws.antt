@@ -1,7 +1,8 @@
 -- A session's rounds joined: what it heard, ran and did so far, and one round more.
 use Rattle.std.proofs.Common.{◌≡◌, ℕ, ◌+◌, ◌-◌, ◌^◌, ◌++◌, List, [], ◌∷◌, length, true, false, refl, sym, ap, ◌∙◌, subst, arith, append_assoc, length-append, inl, inr}
-use Rattle.std.specs.Prelude.{Bool, Option, Some, None}
+use Rattle.std.specs.Prelude.{Bool, ◌&&◌, Option, Some, None}
 use Rattle.std.proofs.lemmas.List.{append-nil}
+use Rattle.std.proofs.lemmas.List.Folds.{list_all-append}
 use Rattle.sta_outside.specs.Shelf.{Rose}
 use Rattle.timing_defs.specs.declared.scripts.Command.{Command}
 use Rattle.timing_defs.specs.declared.scripts.Row.{Row}
@@ -14,9 +15,10 @@ use Rattle.live_session.specs.declared.replies.TalkEnd.{TalkEnd}
 use Rattle.live_session.specs.declared.replies.TalkEnd.TheVariants.{Closed, Deaf, Mute, Unkept, Wanting, Full}
 use Rattle.live_session.specs.declared.talking.Round.{Round}
 use Rattle.live_session.specs.declared.talking.Round.TheVariants.{Goes, Ends}
-use Rattle.live_session.specs.Talks.{AtDoor, AreReplies, commands_in, rows_in, deeds_of, told_of, dialogue, heard_items, IsTalk, IsCutTalk, IsUnanswered, IsCut, IsFull, Talked}
+use Rattle.live_session.specs.Talks.{AtDoor, AreReplies, commands_in, rows_in, deeds_of, told_of, dialogue, heard_items, IsTalk, IsCutTalk, IsUnanswered, IsCut, IsFull, Talked, is_clean, are_clean}
 use Rattle.live_session.specs.Turns.{Extends, Remains, IsFilled, IsAsked, IsQuiet, Does, IsCutReply, Replies, Reads, reading_on, item_of, IsUnread, HearsAt, Stops, Rounds, IsTalking}
 use Rattle.live_session.proofs.DoorLaws.{grows_more, loses_more, grows_same, loses_same}
+use Rattle.live_session.proofs.TurnLaws.{clean_one}
 use Rattle.live_session.proofs.TalkLaws.{commands_more, rows_more, replies_more, items_more, place_more, dialogue_more, dialogue_end}
 
 loses_refl : (a : Option (List (List ℕ))) → Loses a a []
@@ -28,9 +30,10 @@ grows_refl None = tt
 grows_refl (Some x) = sym (append-nil x)
 
 -- before the first line
-pub talking_none : (Ran : List Command → List Row → Type 0) (way : Manner) (door : AtDoor) → Ran [] [] → IsTalking Ran way door door [] [] beginning
+pub talking_none : (Ran : List Command → List Row → Type 0) (way : Manner) (door : AtDoor) → Ran [] [] → IsTalking Ran way door door [] [] beginning true
 unfolding items place_behind dialogue
 talking_none Ran way door ran = record {
+  clean_is = refl;
   talk = record { came = loses_refl door.left; done = grows_refl door.trace; suits = tt; ran = ran };
   place = refl;
   count = refl;
@@ -53,13 +56,17 @@ ended (Some x) None c at l m = absurd l
 ended (Some x) (Some y) None at l m = absurd m
 ended (Some x) (Some y) (Some z) at l m = sym m ∙ sym l ∙ at
 
+and_true : (b : Bool) → (b && true) ≡ b
+and_true true = refl
+and_true false = refl
+
 -- an item has a reply, so the reply's deeds are what is told of it
 told_last : (way : Manner) (what : Option Item) (reply : Reply) → AreReplies (item_list what) (reply ∷ []) → told_of way what (reply ∷ []) ≡ deeds_of way reply
 told_last way None reply g = absurd g
 told_last way (Some item) reply g = refl
 
-module _ (Ran Ran' : List Command → List Row → Type 0) (way : Manner) (old near new : AtDoor) (lines : List (List ℕ)) (replies : List Reply) (reading : Reading)
-    (so : IsTalking Ran way old near lines replies reading) where
+module _ (Ran Ran' : List Command → List Row → Type 0) (way : Manner) (old near new : AtDoor) (lines : List (List ℕ)) (replies : List Reply) (reading : Reading) (clean : Bool)
+    (so : IsTalking Ran way old near lines replies reading clean) where
   abbrev place : LivePlace
   place = place_behind (stands outside) 1 lines
 
@@ -126,8 +133,8 @@ module _ (Ran Ran' : List Command → List Row → Type 0) (way : Manner) (old n
         }
 
     -- its reply was told in part
-    line_cut : (reply : Reply) (part : List Deed) → IsCutReply Ran Ran' what reply mid new part → IsCutTalk Ran' way false old new (lines ++ line ∷ []) replies reply part
-    line_cut reply part c =
+    line_cut : (reply : Reply) (answered : Bool) (part : List Deed) → IsCutReply Ran Ran' what reply mid new answered part → IsCutTalk Ran' way false old new (lines ++ line ∷ []) replies reply part
+    line_cut reply answered part c =
         let are = items_more (stands outside) 1 lines line in
         let before = whole ++ heard line ∷ [] in
         let parts : (xs : List Deed) → whole ++ heard line ∷ xs ≡ before ++ xs = λ xs. sym (append_assoc whole (heard line ∷ []) xs) in
@@ -163,8 +170,8 @@ module _ (Ran Ran' : List Command → List Row → Type 0) (way : Manner) (old n
       ran = ran_on (items (stands outside) 1 lines ++ item_list last) (item_list last) others refl e;
     }
 
-    end_cut : (reply : Reply) (part : List Deed) → IsCutReply Ran Ran' last reply mid new part → IsCutTalk Ran' way true old new lines replies reply part
-    end_cut reply part c = record {
+    end_cut : (reply : Reply) (answered : Bool) (part : List Deed) → IsCutReply Ran Ran' last reply mid new answered part → IsCutTalk Ran' way true old new lines replies reply part
+    end_cut reply answered part c = record {
       came = end_came c.does.0;
       done = (
         whole,
@@ -175,10 +182,21 @@ module _ (Ran Ran' : List Command → List Row → Type 0) (way : Manner) (old n
       ran = ran_on (items (stands outside) 1 lines ++ item_list last) (item_list last) (reply ∷ []) refl c.runs;
     }
 
+  -- whether all replies are answers
+  clean_on : (answered : Bool) (others : List Reply) → answered ≡ are_clean others → (clean && answered) ≡ are_clean (replies ++ others)
+  clean_on answered others is =
+      ap (λ b. b && answered) so.clean_is ∙ ap (λ b. are_clean replies && b) is ∙ sym (list_all-append is_clean replies others)
+
+  clean_same : (answered : Bool) → answered ≡ true → (clean && answered) ≡ are_clean replies
+  clean_same answered is = ap (λ b. clean && b) is ∙ and_true clean ∙ so.clean_is
+
+  clean_last : (answered : Bool) (reply : Reply) → answered ≡ is_clean reply → (clean && answered) ≡ are_clean (replies ++ reply ∷ [])
+  clean_last answered reply is = clean_on answered (reply ∷ []) (is ∙ clean_one reply)
+
   -- a round more
-  pub talking_more : (reader : Reading) → Rounds Ran Ran' way reading near new (Goes reader)
-      → (all : List (List ℕ)) × (told : List Reply) × IsTalking Ran' way old new all told reader
-  talking_more reader (line, mid, hears, (is, (others, suits, runs, does, same))) =
+  pub talking_more : (reader : Reading) (answered : Bool) → Rounds Ran Ran' way reading near new (Goes reader answered)
+      → (all : List (List ℕ)) × (told : List Reply) × IsTalking Ran' way old new all told reader (clean && answered)
+  talking_more reader answered (line, mid, hears, (is, (others, suits, runs, does, same, cleans))) =
       let at : live_line reading.place (reading.lines + 1) line ≡ live_line place (1 + length lines) line = at_place line mid hears in
       let g : AreReplies (item_list (live_line place (1 + length lines) line).item) others = subst (λ b. AreReplies (item_list b.item) others) at suits in
       let e : Extends Ran Ran' (commands_in (item_list (live_line place (1 + length lines) line).item)) (rows_in others) =
@@ -188,6 +206,7 @@ module _ (Ran Ran' : List Command → List Row → Type 0) (way : Manner) (old n
         lines ++ line ∷ [],
         replies ++ others,
         record {
+          clean_is = clean_on answered others cleans;
           talk = line_talk line mid hears others g e d;
           place = ap (λ r. r.place) is ∙ ap (λ b. b.place) at ∙ sym (place_more (stands outside) 1 lines line);
           count = ap (λ r. r.lines) is ∙ ap (λ k. k + 1) so.count ∙ sym longer;
@@ -195,15 +214,17 @@ module _ (Ran Ran' : List Command → List Row → Type 0) (way : Manner) (old n
         },
       )
 
-  cut_on : (line : List ℕ) (mid : AtDoor) (hears : HearsAt near mid (Some line)) (reply : Reply) (part : List Deed) → IsCutReply Ran Ran' (item_of reading line) reply mid new part
+  cut_on : (line : List ℕ) (mid : AtDoor) (hears : HearsAt near mid (Some line)) (reply : Reply) (answered : Bool) (part : List Deed)
+      → IsCutReply Ran Ran' (item_of reading line) reply mid new answered part
       → IsCutTalk Ran' way false old new (lines ++ line ∷ []) replies reply part
-  cut_on line mid hears reply part c =
-      line_cut line mid hears reply part (subst (λ b. IsCutReply Ran Ran' b.item reply mid new part) (at_place line mid hears) c)
+  cut_on line mid hears reply answered part c =
+      line_cut line mid hears reply answered part (subst (λ b. IsCutReply Ran Ran' b.item reply mid new answered part) (at_place line mid hears) c)
 
-  cut_end : (mid : AtDoor) (hears : HearsAt near mid None) (reply : Reply) (part : List Deed) → IsCutReply Ran Ran' (live_end reading.place) reply mid new part
+  cut_end : (mid : AtDoor) (hears : HearsAt near mid None) (reply : Reply) (answered : Bool) (part : List Deed)
+      → IsCutReply Ran Ran' (live_end reading.place) reply mid new answered part
       → IsCutTalk Ran' way true old new lines replies reply part
-  cut_end mid hears reply part c =
-      end_cut mid hears reply part (subst (λ p. IsCutReply Ran Ran' (live_end p) reply mid new part) so.place c)
+  cut_end mid hears reply answered part c =
+      end_cut mid hears reply answered part (subst (λ p. IsCutReply Ran Ran' (live_end p) reply mid new answered part) so.place c)
 
   end_quiet : (mid : AtDoor) (hears : HearsAt near mid None) → IsQuiet mid new → Does near new []
   end_quiet mid hears q =
@@ -220,8 +241,9 @@ module _ (Ran Ran' : List Command → List Row → Type 0) (way : Manner) (old n
   filled full = full (commands_in (items (stands outside) 1 lines)) (rows_in replies) so.talk.ran
 
   -- the last round
-  pub talked : (end : TalkEnd) → Rounds Ran Ran' way reading near new (Ends end) → Talked Ran' way old new end
-  talked Closed (mid, hears, (others, suits, runs, does, same)) = (
+  pub talked : (end : TalkEnd) (answered : Bool) → Rounds Ran Ran' way reading near new (Ends end answered)
+      → Talked Ran' way old new (clean && answered) end
+  talked Closed answered (mid, hears, (others, suits, runs, does, same, cleans)) = (
     lines,
     replies ++ others,
     end_talk mid hears others (subst (λ p. AreReplies (item_list (live_end p)) others) so.place suits)
@@ -229,33 +251,56 @@ module _ (Ran Ran' : List Command → List Row → Type 0) (way : Manner) (old n
         (subst (λ p. Does mid new (told_of way (live_end p) others)) so.place does),
     ended near.left mid.left new.left hears.0.0 hears.0.1 does.0,
     stayed mid hears.1 same,
+    clean_on answered others cleans,
   )
-  talked Deaf (e, d, r) = (lines, replies, talk_same e d, subst (λ k. Rose k new.faults) so.faults r)
-  talked Mute (inl (line, mid, hears, inl (reply, part, c, cut, r))) =
-      (false, lines ++ line ∷ [], replies, reply, part, cut_on line mid hears reply part c, cut, rose mid hears.1 r)
-  talked Mute (inl (line, mid, hears, inr (e, q, u))) = absurd u
-  talked Mute (inr (inl (mid, hears, (reply, part, c, cut, r)))) =
-      (true, lines, replies, reply, part, cut_end mid hears reply part c, cut, rose mid hears.1 r)
-  talked Mute (inr (inr (is, e, q))) = absurd (cc)
-  talked Unkept (inl (line, mid, hears, inl (reply, c, same))) =
-      (false, lines ++ line ∷ [], replies, reply, cut_on line mid hears reply [] c, stayed mid hears.1 same)
-  talked Unkept (inl (line, mid, hears, inr (e, q, u))) = absurd u
-  talked Unkept (inr (inl (mid, hears, (reply, c, same)))) =
-      (true, lines, replies, reply, cut_end mid hears reply [] c, stayed mid hears.1 same)
-  talked Unkept (inr (inr (is, e, q))) = absurd (cc)
-  talked Wanting (inl (line, mid, hears, inl (inl (e, q)))) =
-      (inr (inl (lines, line, replies, unanswered line mid hears e q)), stayed mid hears.1 q.2)
-  talked Wanting (inl (line, mid, hears, inl (inr (reply, c, same)))) =
-      (inr (inr (false, lines ++ line ∷ [], replies, reply, cut_on line mid hears reply [] c)), stayed mid hears.1 same)
-  talked Wanting (inl (line, mid, hears, inr (e, q, u))) = (inr (inl (lines, line, replies, unanswered line mid hears e q)), stayed mid hears.1 q.2)
-  talked Wanting (inr (inl (mid, hears, inl (e, q)))) =
-      (inl (lines, replies, talk_same e (end_quiet mid hears q)), stayed mid hears.1 q.2)
-  talked Wanting (inr (inl (mid, hears, inr (reply, c, same)))) =
-      (inr (inr (true, lines, replies, reply, cut_end mid hears reply [] c)), stayed mid hears.1 same)
-  talked Wanting (inr (inr (is, e, q))) = (inl (lines, replies, talk_same e (q.0, q.1)), q.2 ∙ so.faults)
-  talked Full (inl (line, mid, hears, inl (e, full, asked, q))) =
-      (lines, line, replies, unanswered line mid hears e q, inl (filled full), stayed mid hears.1 q.2)
-  talked Full (inl (line, mid, hears, inr (e, q, u))) =
-      (lines, line, replies, unanswered line mid hears e q, inr (sym so.count ∙ u), stayed mid hears.1 q.2)
-  talked Full (inr (inl (mid, hears, (e, full, asked, q)))) = absurd (none_asked reading.place asked)
-  talked Full (inr (inr (is, e, q))) = absurd (cc)
+  talked Deaf answered (e, d, r, k) = (lines, replies, talk_same e d, subst (λ k. Rose k new.faults) so.faults r, clean_same answered k)
+  talked Mute answered (inl (line, mid, hears, inl (reply, part, c, cut, r))) = (
+    false,
+    lines ++ line ∷ [],
+    replies,
+    reply,
+    part,
+    cut_on line mid hears reply answered part c,
+    cut,
+    rose mid hears.1 r,
+    clean_last answered reply c.clean_is,
+  )
+  talked Mute answered (inl (line, mid, hears, inr (e, q, u, k))) = absurd u
+  talked Mute answered (inr (inl (mid, hears, (reply, part, c, cut, r)))) =
+      (true, lines, replies, reply, part, cut_end mid hears reply answered part c, cut, rose mid hears.1 r, clean_last answered reply c.clean_is)
+  talked Mute answered (inr (inr (is, e, q, k))) = absurd (cc)
+  talked Unkept answered (inl (line, mid, hears, inl (reply, c, same))) = (
+    false,
+    lines ++ line ∷ [],
+    replies,
+    reply,
+    cut_on line mid hears reply answered [] c,
+    stayed mid hears.1 same,
+    clean_last answered reply c.clean_is,
+  )
+  talked Unkept answered (inl (line, mid, hears, inr (e, q, u, k))) = absurd u
+  talked Unkept answered (inr (inl (mid, hears, (reply, c, same)))) =
+      (true, lines, replies, reply, cut_end mid hears reply answered [] c, stayed mid hears.1 same, clean_last answered reply c.clean_is)
+  talked Unkept answered (inr (inr (is, e, q, k))) = absurd (cc)
+  talked Wanting answered (inl (line, mid, hears, inl (inl (e, q, k)))) =
+      (inr (inl (lines, line, replies, unanswered line mid hears e q, clean_same answered k)), stayed mid hears.1 q.2)
+  talked Wanting answered (inl (line, mid, hears, inl (inr (reply, c, same)))) = (
+    inr (inr (false, lines ++ line ∷ [], replies, reply, cut_on line mid hears reply answered [] c, clean_last answered reply c.clean_is)),
+    stayed mid hears.1 same,
+  )
+  talked Wanting answered (inl (line, mid, hears, inr (e, q, u, k))) =
+      (inr (inl (lines, line, replies, unanswered line mid hears e q, clean_same answered k)), stayed mid hears.1 q.2)
+  talked Wanting answered (inr (inl (mid, hears, inl (e, q, k)))) =
+      (inl (lines, replies, talk_same e (end_quiet mid hears q), clean_same answered k), stayed mid hears.1 q.2)
+  talked Wanting answered (inr (inl (mid, hears, inr (reply, c, same)))) = (
+    inr (inr (true, lines, replies, reply, cut_end mid hears reply answered [] c, clean_last answered reply c.clean_is)),
+    stayed mid hears.1 same,
+  )
+  talked Wanting answered (inr (inr (is, e, q, k))) =
+      (inl (lines, replies, talk_same e (q.0, q.1), clean_same answered k), q.2 ∙ so.faults)
+  talked Full answered (inl (line, mid, hears, inl (e, full, asked, q, k))) =
+      (lines, line, replies, unanswered line mid hears e q, inl (filled full), stayed mid hears.1 q.2, clean_same answered k)
+  talked Full answered (inl (line, mid, hears, inr (e, q, u, k))) =
+      (lines, line, replies, unanswered line mid hears e q, inr (sym so.count ∙ u), stayed mid hears.1 q.2, clean_same answered k)
+  talked Full answered (inr (inl (mid, hears, (e, full, asked, q, k)))) = absurd (none_asked reading.place asked)
+  talked Full answered (inr (inr (is, e, q, k))) = absurd (cc)

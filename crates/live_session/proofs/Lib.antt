@@ -2,3 +2,4 @@ pub mod DoorLaws
 pub mod TalkLaws
 pub mod TurnLaws
 pub mod JoinLaws
+pub mod MomentLaws

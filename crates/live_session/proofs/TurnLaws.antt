@@ -1,6 +1,7 @@
 -- What one line of a session comes to, step by step.
 use Rattle.std.proofs.Common.{◌≡◌, ℕ, ◌++◌, List, [], ◌∷◌, refl, subst, inl, inr}
-use Rattle.std.specs.Prelude.{Option, Some, None, Result, Ok, Err, IfSome}
+use Rattle.std.specs.Prelude.{Bool, Option, Some, None, Result, Ok, Err, IfSome}
+use Rattle.std.proofs.lemmas.Bool.{cases_Bool}
 use Rattle.sta_outside.specs.Shelf.{Rose}
 use Rattle.timing_defs.specs.declared.scripts.Command.{Command}
 use Rattle.timing_defs.specs.declared.scripts.Row.{Row}
@@ -13,7 +14,7 @@ use Rattle.live_session.specs.declared.replies.TalkEnd.{TalkEnd}
 use Rattle.live_session.specs.declared.replies.TalkEnd.TheVariants.{Closed, Deaf, Mute, Unkept, Wanting, Full}
 use Rattle.live_session.specs.declared.talking.Round.{Round}
 use Rattle.live_session.specs.declared.talking.Round.TheVariants.{Goes, Ends}
-use Rattle.live_session.specs.Talks.{AtDoor, at_door, reply_text, marks_of}
+use Rattle.live_session.specs.Talks.{AtDoor, at_door, reply_text, marks_of, is_clean, are_clean}
 use Rattle.live_session.specs.Turns.{Tells, Answers, Replies, Reads, HearsAt, Rounds}
 use Rattle.live_session.proofs.DoorLaws.{grows_more, loses_more}
 
@@ -33,15 +34,23 @@ cut_told way reply old mid new text l same m l' part rose is =
       subst (λ k. Rose k new.faults) same rose,
     )
 
+pub clean_one : (reply : Reply) → is_clean reply ≡ are_clean (reply ∷ [])
+clean_one reply = elim (cases_Bool (is_clean reply)) [
+  | inl h ↦ rw h refl
+  | inr h ↦ rw h refl
+]
+
 module _ (Ran Ran' : List Command → List Row → Type 0) (way : Manner) where
   -- an item has its reply, which is told or not
   pub replied : (item : Item) (reply : Reply) (old new : AtDoor) (end : Option TalkEnd) → Answers Ran Ran' item (Ok reply)
-      → Tells way reply old new end → Replies Ran Ran' way (Some item) old new end
-  replied item reply old new None a t = (reply ∷ [], (a.0, tt), a.1, t.0, t.1)
+      → Tells way reply old new end → Replies Ran Ran' way (Some item) old new (is_clean reply) end
+  replied item reply old new None a t = (reply ∷ [], (a.0, tt), a.1, t.0, t.1, clean_one reply)
   replied item reply old new (Some Mute) a t =
-      (reply, t.0.0, record { suits = (a.0, tt); runs = a.1; does = t.0.2 }, t.0.1, t.1)
-  replied item reply old new (Some Unkept) a t = (reply, record { suits = (a.0, tt); runs = a.1; does = (t.0, t.1) }, t.2)
-  replied item reply old new (Some Wanting) a t = inr (reply, record { suits = (a.0, tt); runs = a.1; does = (t.0, t.1) }, t.2)
+      (reply, t.0.0, record { clean_is = refl; suits = (a.0, tt); runs = a.1; does = t.0.2 }, t.0.1, t.1)
+  replied item reply old new (Some Unkept) a t =
+      (reply, record { clean_is = refl; suits = (a.0, tt); runs = a.1; does = (t.0, t.1) }, t.2)
+  replied item reply old new (Some Wanting) a t =
+      inr (reply, record { clean_is = refl; suits = (a.0, tt); runs = a.1; does = (t.0, t.1) }, t.2)
   replied item reply old new (Some Closed) a t = absurd t
   replied item reply old new (Some Deaf) a t = absurd t
   replied item reply old new (Some Full) a t = absurd t
@@ -49,25 +58,25 @@ module _ (Ran Ran' : List Command → List Row → Type 0) (way : Manner) where
   -- a line was heard
   pub line_round : (reading : Reading) (line : List ℕ) (old mid new : AtDoor) (round : Round) → HearsAt old mid (Some line)
       → Reads Ran Ran' way reading line mid new round → Rounds Ran Ran' way reading old new round
-  line_round reading line old mid new (Goes reader) h r = (line, mid, h, r)
-  line_round reading line old mid new (Ends Mute) h r = inl (line, mid, h, r)
-  line_round reading line old mid new (Ends Unkept) h r = inl (line, mid, h, r)
-  line_round reading line old mid new (Ends Wanting) h r = inl (line, mid, h, r)
-  line_round reading line old mid new (Ends Full) h r = inl (line, mid, h, r)
-  line_round reading line old mid new (Ends Closed) h (inl r) = absurd r
-  line_round reading line old mid new (Ends Closed) h (inr r) = absurd r.2
-  line_round reading line old mid new (Ends Deaf) h (inl r) = absurd r
-  line_round reading line old mid new (Ends Deaf) h (inr r) = absurd r.2
+  line_round reading line old mid new (Goes reader clean) h r = (line, mid, h, r)
+  line_round reading line old mid new (Ends Mute clean) h r = inl (line, mid, h, r)
+  line_round reading line old mid new (Ends Unkept clean) h r = inl (line, mid, h, r)
+  line_round reading line old mid new (Ends Wanting clean) h r = inl (line, mid, h, r)
+  line_round reading line old mid new (Ends Full clean) h r = inl (line, mid, h, r)
+  line_round reading line old mid new (Ends Closed clean) h (inl r) = absurd r
+  line_round reading line old mid new (Ends Closed clean) h (inr r) = absurd r.2
+  line_round reading line old mid new (Ends Deaf clean) h (inl r) = absurd r
+  line_round reading line old mid new (Ends Deaf clean) h (inr r) = absurd r.2
 
   -- the input's end was heard
-  pub end_round : (reading : Reading) (old mid new : AtDoor) (end : TalkEnd) → HearsAt old mid None
-      → Replies Ran Ran' way (live_end reading.place) mid new (Some end) → Rounds Ran Ran' way reading old new (Ends end)
-  end_round reading old mid new Mute h r = inr (inl (mid, h, r))
-  end_round reading old mid new Unkept h r = inr (inl (mid, h, r))
-  end_round reading old mid new Wanting h r = inr (inl (mid, h, r))
-  end_round reading old mid new Full h r = inr (inl (mid, h, r))
-  end_round reading old mid new Closed h r = absurd r
-  end_round reading old mid new Deaf h r = absurd r
+  pub end_round : (reading : Reading) (old mid new : AtDoor) (end : TalkEnd) (clean : Bool) → HearsAt old mid None
+      → Replies Ran Ran' way (live_end reading.place) mid new clean (Some end) → Rounds Ran Ran' way reading old new (Ends end clean)
+  end_round reading old mid new Mute clean h r = inr (inl (mid, h, r))
+  end_round reading old mid new Unkept clean h r = inr (inl (mid, h, r))
+  end_round reading old mid new Wanting clean h r = inr (inl (mid, h, r))
+  end_round reading old mid new Full clean h r = inr (inl (mid, h, r))
+  end_round reading old mid new Closed clean h r = absurd r
+  end_round reading old mid new Deaf clean h r = absurd r
 
 -- what the input's end makes wrong is no command
 pub end_runs : (place : LivePlace) → IfSome (live_end place) CanRun

@@ -1,6 +1,6 @@
 -- What holds at each moment of a session: of each beginning of what is done at its door.
 
-use Rattle.std.specs.Prelude.{ℕ, ◌≡◌, ◌+◌, ◌≤◌, Bool, List, [], ◌∷◌, ◌++◌, length, map, slice_get, Option, Some}
+use Rattle.std.specs.Prelude.{ℕ, ◌≡◌, ◌+◌, ◌≤◌, Bool, List, [], ◌∷◌, ◌++◌, length, map}
 use mathlib.Core.List.{IsPrefix}
 use Rattle.live_doors.specs.Doors.{Deed, heard, kept, said}
 use Rattle.live_standin.specs.Live.{stands, outside, items}
@@ -36,8 +36,9 @@ pub record IsMoment (way : Manner) (lines : List (List ℕ)) (replies : List Rep
   pub came : IsPrefix (heard_in now) lines
   pub near : heard_count now ≤ length (said_in now) + 1
 
--- what is said is the text of the reply that is next, and its mark was made right before
+-- what is said is the text of the first reply that was not said before, and its mark was made right before
 abbrev pub IsTold : Manner → List Reply → List Deed → List ℕ → Type 0
 IsTold way replies before text =
-    (reply : Reply) × (earlier : List Deed)
-    × (slice_get replies (length (said_in before)) ≡ Some reply) × (text ≡ reply_text way.clocks reply) × (before ≡ earlier ++ marks_of way.keeps reply)
+    (first : List Reply) × (reply : Reply) × (others : List Reply) × (earlier : List Deed)
+    × (replies ≡ first ++ reply ∷ others) × (said_in before ≡ map (reply_text way.clocks) first)
+    × (text ≡ reply_text way.clocks reply) × (before ≡ earlier ++ marks_of way.keeps reply)

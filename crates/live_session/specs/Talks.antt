@@ -1,9 +1,12 @@
 -- The conversation of a live session: the replies to what its lines ask, what is done at its door to tell them, and how it ends.
 
 use Rattle.std.specs.Prelude.{ℕ, ◌≡◌, ◌⊎◌, ◌-◌, ◌+◌, ◌^◌, Bool, true, false, List, [], ◌∷◌, ◌++◌, length, Option, Some, None, ⊤}
+use Rattle.std.specs.List.{list_all}
 use Rattle.sta_outside.specs.Shelf.{Rose}
 use Rattle.timing_defs.specs.declared.constraints.Clock.{Clock}
 use Rattle.timing_defs.specs.declared.scripts.Command.{Command}
+use Rattle.timing_defs.specs.declared.scripts.Answer.{Answer}
+use Rattle.timing_defs.specs.declared.scripts.Answer.TheVariants.{Taken, Reached, NotYet, Accepted, Refused, No, Told}
 use Rattle.timing_defs.specs.declared.scripts.Row.{Row}
 use Rattle.timing_defs.specs.Output.{row_text}
 use Rattle.live_doors.specs.Doors.{Deed, heard, kept, said, Loses, Grows, IsAtEnd, IsPartOf}
@@ -30,6 +33,24 @@ marks_of false reply = []
 -- what is done to tell a reply
 abbrev pub deeds_of : Manner → Reply → List Deed
 deeds_of way reply = marks_of way.keeps reply ++ said (reply_text way.clocks reply) ∷ []
+
+-- a row that is an answer: it is not refused, not `no` and not `not_yet`
+abbrev pub is_answer : Answer → Bool
+is_answer Taken = true
+is_answer Reached = true
+is_answer (NotYet looks) = false
+is_answer Accepted = true
+is_answer (Refused fault) = false
+is_answer (No fault) = false
+is_answer (Told report) = true
+
+-- a reply that is an answer
+abbrev pub is_clean : Reply → Bool
+is_clean (row r) = is_answer r.answer
+is_clean (error wrong) = false
+
+abbrev pub are_clean : List Reply → Bool
+are_clean replies = list_all is_clean replies
 
 -- an item has its reply: a command a row, and a wrong line its error
 abbrev pub IsReply : Item → Reply → Type 0
@@ -130,26 +151,32 @@ IsCut way reply part = (piece : List Deed) × IsPartOf (reply_text way.clocks re
 abbrev pub IsFull : List (List ℕ) → Type 0
 IsFull lines = (length (commands_in (heard_items false lines)) ≡ 2 ^ 32 - 1) ⊎ (length lines ≡ 2 ^ 64 - 1)
 
--- how a session at a door ended. `Closed`: the input ended, and all was answered. `Deaf`: the input failed. `Mute`: the output
--- failed within the last reply. `Unkept`: the journal failed before the last row was told. `Wanting`: memory was wanting to hear
--- a line, to answer the last one or to tell the last reply. `Full`: the last line has no number, or its command has none
-abbrev pub Talked : (List Command → List Row → Type 0) → Manner → AtDoor → AtDoor → TalkEnd → Type 0
-Talked Ran way old new Closed =
+-- how a session at a door ended, and whether all of its replies are answers, the last one too. `Closed`: the input ended, and all was
+-- answered. `Deaf`: the input failed. `Mute`: the output failed within the last reply. `Unkept`: the journal failed before the last
+-- row was told. `Wanting`: memory was wanting to hear a line, to answer the last one or to tell the last reply. `Full`: the last
+-- line has no number, or its command has none
+abbrev pub Talked : (List Command → List Row → Type 0) → Manner → AtDoor → AtDoor → Bool → TalkEnd → Type 0
+Talked Ran way old new clean Closed =
     (lines : List (List ℕ)) × (replies : List Reply)
-    × IsTalk Ran way true old new lines replies × IsAtEnd new.left × (new.faults ≡ old.faults)
-Talked Ran way old new Deaf =
-    (lines : List (List ℕ)) × (replies : List Reply) × IsTalk Ran way false old new lines replies × Rose old.faults new.faults
-Talked Ran way old new Mute =
+    × IsTalk Ran way true old new lines replies × IsAtEnd new.left × (new.faults ≡ old.faults) × (clean ≡ are_clean replies)
+Talked Ran way old new clean Deaf =
+    (lines : List (List ℕ)) × (replies : List Reply)
+    × IsTalk Ran way false old new lines replies × Rose old.faults new.faults × (clean ≡ are_clean replies)
+Talked Ran way old new clean Mute =
     (ended : Bool) × (lines : List (List ℕ)) × (replies : List Reply) × (last : Reply) × (part : List Deed)
-    × IsCutTalk Ran way ended old new lines replies last part × IsCut way last part × Rose old.faults new.faults
-Talked Ran way old new Unkept =
+    × IsCutTalk Ran way ended old new lines replies last part × IsCut way last part
+    × Rose old.faults new.faults × (clean ≡ are_clean (replies ++ last ∷ []))
+Talked Ran way old new clean Unkept =
     (ended : Bool) × (lines : List (List ℕ)) × (replies : List Reply) × (last : Reply)
-    × IsCutTalk Ran way ended old new lines replies last [] × (new.faults ≡ old.faults)
-Talked Ran way old new Wanting =
-    (((lines : List (List ℕ)) × (replies : List Reply) × IsTalk Ran way false old new lines replies)
-    ⊎ ((lines : List (List ℕ)) × (line : List ℕ) × (replies : List Reply) × IsUnanswered Ran way old new lines line replies)
-    ⊎ ((ended : Bool) × (lines : List (List ℕ)) × (replies : List Reply) × (last : Reply) × IsCutTalk Ran way ended old new lines replies last []))
+    × IsCutTalk Ran way ended old new lines replies last []
+    × (new.faults ≡ old.faults) × (clean ≡ are_clean (replies ++ last ∷ []))
+Talked Ran way old new clean Wanting =
+    (((lines : List (List ℕ)) × (replies : List Reply) × IsTalk Ran way false old new lines replies × (clean ≡ are_clean replies))
+    ⊎ ((lines : List (List ℕ)) × (line : List ℕ) × (replies : List Reply)
+    × IsUnanswered Ran way old new lines line replies × (clean ≡ are_clean replies))
+    ⊎ ((ended : Bool) × (lines : List (List ℕ)) × (replies : List Reply) × (last : Reply)
+    × IsCutTalk Ran way ended old new lines replies last [] × (clean ≡ are_clean (replies ++ last ∷ []))))
     × (new.faults ≡ old.faults)
-Talked Ran way old new Full =
+Talked Ran way old new clean Full =
     (lines : List (List ℕ)) × (line : List ℕ) × (replies : List Reply)
-    × IsUnanswered Ran way old new lines line replies × IsFull lines × (new.faults ≡ old.faults)
+    × IsUnanswered Ran way old new lines line replies × IsFull lines × (new.faults ≡ old.faults) × (clean ≡ are_clean replies)

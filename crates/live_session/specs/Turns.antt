@@ -1,6 +1,6 @@
 -- What comes of one line of a session: it is heard, its item is answered, and the reply is told.
 
-use Rattle.std.specs.Prelude.{false, ℕ, ◌≡◌, ◌⊎◌, ◌-◌, ◌+◌, ◌^◌, List, [], ◌∷◌, ◌++◌, length, Option, Some, None, Result, Ok, Err, ⊤}
+use Rattle.std.specs.Prelude.{Bool, true, false, ℕ, ◌≡◌, ◌⊎◌, ◌-◌, ◌+◌, ◌^◌, List, [], ◌∷◌, ◌++◌, length, Option, Some, None, Result, Ok, Err, ⊤}
 use Rattle.sta_outside.specs.Shelf.{Rose}
 use Rattle.timing_defs.specs.declared.scripts.Command.{Command}
 use Rattle.timing_defs.specs.declared.scripts.Row.{Row}
@@ -16,7 +16,7 @@ use Rattle.live_session.specs.declared.replies.Unanswered.{Unanswered}
 use Rattle.live_session.specs.declared.replies.Unanswered.TheVariants.{Memory as no_memory, Full as no_number}
 use Rattle.live_session.specs.declared.talking.Round.{Round}
 use Rattle.live_session.specs.declared.talking.Round.TheVariants.{Goes, Ends}
-use Rattle.live_session.specs.Talks.{AtDoor, IsReply, AreReplies, commands_in, rows_in, deeds_of, told_of, IsCut, IsTalk}
+use Rattle.live_session.specs.Talks.{AtDoor, IsReply, AreReplies, commands_in, rows_in, deeds_of, told_of, IsCut, IsTalk, is_clean, are_clean}
 
 -- what was run goes on by these commands and rows
 abbrev pub Extends : (List Command → List Row → Type 0) → (List Command → List Row → Type 0) → List Command → List Row → Type 0
@@ -71,25 +71,27 @@ Answers Ran Ran' item (Err Mute) = ⊥
 Answers Ran Ran' item (Err Unkept) = ⊥
 
 -- the item has a reply, of which this part is done
-pub record IsCutReply (Ran Ran' : List Command → List Row → Type 0) (what : Option Item) (reply : Reply) (old new : AtDoor) (part : List Deed) : Type 0 where
+pub record IsCutReply (Ran Ran' : List Command → List Row → Type 0) (what : Option Item) (reply : Reply) (old new : AtDoor) (clean : Bool) (part : List Deed) : Type 0 where
+  pub clean_is : clean ≡ is_clean reply
   pub suits : AreReplies (item_list what) (reply ∷ [])
   pub runs : Extends Ran Ran' (commands_in (item_list what)) (rows_in (reply ∷ []))
   pub does : Does old new part
 
--- what a line ends is answered and told, if it ends something, or why not
-abbrev pub Replies : (List Command → List Row → Type 0) → (List Command → List Row → Type 0) → Manner → Option Item → AtDoor → AtDoor → Option TalkEnd → Type 0
-Replies Ran Ran' way what old new None =
+-- what a line ends is answered and told, if it ends something, or why not; and whether the reply, if there is one, is an answer
+abbrev pub Replies : (List Command → List Row → Type 0) → (List Command → List Row → Type 0) → Manner → Option Item → AtDoor → AtDoor → Bool → Option TalkEnd → Type 0
+Replies Ran Ran' way what old new clean None =
     (replies : List Reply)
     × AreReplies (item_list what) replies × Extends Ran Ran' (commands_in (item_list what)) (rows_in replies)
-    × Does old new (told_of way what replies) × (new.faults ≡ old.faults)
-Replies Ran Ran' way what old new (Some Mute) =
-    (reply : Reply) × (part : List Deed) × IsCutReply Ran Ran' what reply old new part × IsCut way reply part × Rose old.faults new.faults
-Replies Ran Ran' way what old new (Some Unkept) = (reply : Reply) × IsCutReply Ran Ran' what reply old new [] × (new.faults ≡ old.faults)
-Replies Ran Ran' way what old new (Some Wanting) =
-    (Remains Ran Ran' × IsQuiet old new) ⊎ ((reply : Reply) × IsCutReply Ran Ran' what reply old new [] × (new.faults ≡ old.faults))
-Replies Ran Ran' way what old new (Some Full) = Remains Ran Ran' × IsFilled Ran × IsAsked what × IsQuiet old new
-Replies Ran Ran' way what old new (Some Closed) = ⊥
-Replies Ran Ran' way what old new (Some Deaf) = ⊥
+    × Does old new (told_of way what replies) × (new.faults ≡ old.faults) × (clean ≡ are_clean replies)
+Replies Ran Ran' way what old new clean (Some Mute) =
+    (reply : Reply) × (part : List Deed) × IsCutReply Ran Ran' what reply old new clean part × IsCut way reply part × Rose old.faults new.faults
+Replies Ran Ran' way what old new clean (Some Unkept) = (reply : Reply) × IsCutReply Ran Ran' what reply old new clean [] × (new.faults ≡ old.faults)
+Replies Ran Ran' way what old new clean (Some Wanting) =
+    (Remains Ran Ran' × IsQuiet old new × (clean ≡ true))
+    ⊎ ((reply : Reply) × IsCutReply Ran Ran' what reply old new clean [] × (new.faults ≡ old.faults))
+Replies Ran Ran' way what old new clean (Some Full) = Remains Ran Ran' × IsFilled Ran × IsAsked what × IsQuiet old new × (clean ≡ true)
+Replies Ran Ran' way what old new clean (Some Closed) = ⊥
+Replies Ran Ran' way what old new clean (Some Deaf) = ⊥
 
 -- a reader behind one line more
 abbrev pub reading_on : Reading → List ℕ → Reading
@@ -110,33 +112,35 @@ IsUnread reading Unkept = ⊥
 
 -- a line that was heard is read, answered and told, or how the session ends at it
 abbrev pub Reads : (List Command → List Row → Type 0) → (List Command → List Row → Type 0) → Manner → Reading → List ℕ → AtDoor → AtDoor → Round → Type 0
-Reads Ran Ran' way reading line old new (Goes reader) =
-    (reader ≡ reading_on reading line) × Replies Ran Ran' way (item_of reading line) old new None
-Reads Ran Ran' way reading line old new (Ends end) =
-    Replies Ran Ran' way (item_of reading line) old new (Some end) ⊎ (Remains Ran Ran' × IsQuiet old new × IsUnread reading end)
+Reads Ran Ran' way reading line old new (Goes reader clean) =
+    (reader ≡ reading_on reading line) × Replies Ran Ran' way (item_of reading line) old new clean None
+Reads Ran Ran' way reading line old new (Ends end clean) =
+    Replies Ran Ran' way (item_of reading line) old new clean (Some end)
+    ⊎ (Remains Ran Ran' × IsQuiet old new × IsUnread reading end × (clean ≡ true))
 
 -- a line is heard, or the input's end
 abbrev pub HearsAt : AtDoor → AtDoor → Option (List ℕ) → Type 0
 HearsAt old new got = Hears old.left new.left old.trace new.trace got × (new.faults ≡ old.faults)
 
 -- a round ends the session: at a line, at the input's end, or for want of memory before a line
-abbrev pub Stops : (List Command → List Row → Type 0) → (List Command → List Row → Type 0) → Manner → Reading → AtDoor → AtDoor → TalkEnd → Type 0
-Stops Ran Ran' way reading old new end =
-    ((line : List ℕ) × (mid : AtDoor) × HearsAt old mid (Some line) × Reads Ran Ran' way reading line mid new (Ends end))
-    ⊎ ((mid : AtDoor) × HearsAt old mid None × Replies Ran Ran' way (live_end reading.place) mid new (Some end))
-    ⊎ ((end ≡ Wanting) × Remains Ran Ran' × IsQuiet old new)
+abbrev pub Stops : (List Command → List Row → Type 0) → (List Command → List Row → Type 0) → Manner → Reading → AtDoor → AtDoor → TalkEnd → Bool → Type 0
+Stops Ran Ran' way reading old new end clean =
+    ((line : List ℕ) × (mid : AtDoor) × HearsAt old mid (Some line) × Reads Ran Ran' way reading line mid new (Ends end clean))
+    ⊎ ((mid : AtDoor) × HearsAt old mid None × Replies Ran Ran' way (live_end reading.place) mid new clean (Some end))
+    ⊎ ((end ≡ Wanting) × Remains Ran Ran' × IsQuiet old new × (clean ≡ true))
 
 -- one round of a session: a line is heard, read, answered and told
 abbrev pub Rounds : (List Command → List Row → Type 0) → (List Command → List Row → Type 0) → Manner → Reading → AtDoor → AtDoor → Round → Type 0
-Rounds Ran Ran' way reading old new (Goes reader) =
-    (line : List ℕ) × (mid : AtDoor) × HearsAt old mid (Some line) × Reads Ran Ran' way reading line mid new (Goes reader)
-Rounds Ran Ran' way reading old new (Ends Closed) =
-    (mid : AtDoor) × HearsAt old mid None × Replies Ran Ran' way (live_end reading.place) mid new None
-Rounds Ran Ran' way reading old new (Ends Deaf) = Remains Ran Ran' × Does old new [] × Rose old.faults new.faults
-Rounds Ran Ran' way reading old new (Ends end) = Stops Ran Ran' way reading old new end
+Rounds Ran Ran' way reading old new (Goes reader clean) =
+    (line : List ℕ) × (mid : AtDoor) × HearsAt old mid (Some line) × Reads Ran Ran' way reading line mid new (Goes reader clean)
+Rounds Ran Ran' way reading old new (Ends Closed clean) =
+    (mid : AtDoor) × HearsAt old mid None × Replies Ran Ran' way (live_end reading.place) mid new clean None
+Rounds Ran Ran' way reading old new (Ends Deaf clean) = Remains Ran Ran' × Does old new [] × Rose old.faults new.faults × (clean ≡ true)
+Rounds Ran Ran' way reading old new (Ends end clean) = Stops Ran Ran' way reading old new end clean
 
 -- the rounds so far: all lines that were heard are read, answered and told
-pub record IsTalking (Ran : List Command → List Row → Type 0) (way : Manner) (old new : AtDoor) (lines : List (List ℕ)) (replies : List Reply) (reading : Reading) : Type 0 where
+pub record IsTalking (Ran : List Command → List Row → Type 0) (way : Manner) (old new : AtDoor) (lines : List (List ℕ)) (replies : List Reply) (reading : Reading) (clean : Bool) : Type 0 where
+  pub clean_is : clean ≡ are_clean replies
   pub talk : IsTalk Ran way false old new lines replies
   pub place : reading.place ≡ place_behind (stands outside) 1 lines
   pub count : reading.lines ≡ length lines

@@ -4,8 +4,10 @@
 //! journal has all entries up to the row's number, and says the reply.
 #![tactic(auto)]
 
+mod moments;
 mod replies;
 mod talking;
 
-pub use replies::{Answering, Manner, Reply, TalkEnd, Unanswered, Untold};
+pub use moments::{answered_before_heard, each_moment, marked_before_said};
+pub use replies::{Answering, Manner, Outcome, Reply, TalkEnd, Unanswered, Untold};
 pub use talking::talk;

@@ -7,7 +7,6 @@ ghost use Rattle.live_session.specs.declared.replies.Reply.{Reply};
 ghost use Rattle.live_session.specs.Moments.{Begins, IsMoment, IsTold, heard_count, said_in};
 
 /// At each moment what was said are the texts of the first replies, and of all items that were heard at most one is unanswered.
-#[tactic(auto, using(crate::proofs::MomentLaws::moment))]
 pub fn each_moment()
     ensures { (way : Manner) (ended : Bool) (lines : List (List ℕ)) (replies : List Reply) (now more : List Deed) → Begins way ended lines replies now more → IsMoment way lines replies now }
 {}

@@ -34,6 +34,13 @@ pub enum TalkEnd {
     Full,
 }
 
+/// How a session ended, and whether all of its replies are answers: no wrong line, and no row that is `refused`, `no` or `not_yet`.
+#[derive(Clone, Copy, Drop)]
+pub struct Outcome {
+    pub end: TalkEnd,
+    pub clean: bool,
+}
+
 /// Why a command has no row.
 #[derive(Clone, Copy, Drop)]
 pub enum Unanswered {

@@ -1,20 +1,20 @@
 //! The conversation of a session at its door.
 
-ghost use Rattle.std.specs.Prelude.{◌≡◌, List, [], true, IfOk, IfSome, OnOk, OnErr, Some, None};
+ghost use Rattle.std.specs.Prelude.{◌≡◌, ◌&&◌, List, [], true, IfOk, IfSome, OnOk, OnErr, Some, None};
 ghost use Rattle.timing_defs.specs.declared.scripts.Command.{Command};
 ghost use Rattle.timing_defs.specs.declared.scripts.Row.{Row};
 ghost use Rattle.live_standin.specs.Live.{beginning, is_runnable, CanRun};
 ghost use Rattle.live_doors.specs.Doors.{Grows, Loses};
-ghost use Rattle.live_session.specs.Talks.{Talked, at_door, reply_text, marks_of};
+ghost use Rattle.live_session.specs.Talks.{Talked, at_door, reply_text, marks_of, is_clean};
 ghost use Rattle.live_session.specs.Turns.{Tells, Answers, Replies, Reads, Rounds};
 
-use crate::replies::{Answering, Manner, Reply, TalkEnd, Unanswered, Untold};
+use crate::replies::{Answering, Manner, Outcome, Reply, TalkEnd, Unanswered, Untold};
 use live_doors::{Door, Lost};
 use live_standin::{Heard, Item, LiveReader, Unread, error_bytes, report_bytes};
 use sta_units::Memory;
 use std::alloc::Global;
 use std::sync::Wait;
-use timing_defs::Row;
+use timing_defs::Answer;
 
 /// The text of a reply.
 fn reply_bytes(alloc: Global, manner: &Manner, reply: &Reply) -> Result<Vec<u8>, Memory>
@@ -94,6 +94,26 @@ fn answer_item<S: Answering>(alloc: Global, session: &mut S, item: Item) -> Resu
     }
 }
 
+/// Whether a reply is an answer.
+fn is_clean(reply: &Reply) -> bool
+    ensures { result ≡ is_clean reply.now }
+{
+    match reply {
+        Reply::Row(row) => match &row.answer {
+            Answer::Taken | Answer::Reached | Answer::Accepted | Answer::Told(_) => true,
+            Answer::NotYet(_) | Answer::Refused(_) | Answer::No(_) => false,
+        },
+        Reply::Error(_) => false,
+    }
+}
+
+/// What came of a reply: how the session ends at it, if it does, and whether it is an answer.
+#[derive(Clone, Copy, Drop)]
+struct Told {
+    end: Option<TalkEnd>,
+    clean: bool,
+}
+
 /// Answers what a line ended, if it ended something, and tells the reply.
 fn reply_to<D: Door, S: Answering>(
     alloc: Global,
@@ -101,29 +121,36 @@ fn reply_to<D: Door, S: Answering>(
     session: &mut S,
     manner: &Manner,
     item: Option<Item>,
-) -> Option<TalkEnd>
+) -> Told
     requires able { (before : List Command) × (rows : List Row) × S.ran session.old before rows }
     requires item { IfSome item CanRun }
-    ensures { Replies (S.ran session.old) (S.ran session.new) manner.now item (at_door (D.left door.old) (D.trace door.old) (D.faults door.old)) (at_door (D.left door.new) (D.trace door.new) (D.faults door.new)) result }
+    ensures { Replies (S.ran session.old) (S.ran session.new) manner.now item (at_door (D.left door.old) (D.trace door.old) (D.faults door.old)) (at_door (D.left door.new) (D.trace door.new) (D.faults door.new)) result.clean result.end }
 {
     match item {
-        None => None,
+        None => Told {
+            end: None,
+            clean: true,
+        },
         Some(item) => match answer_item(alloc, session, item) {
             Ok(reply) => {
-                let told = tell(alloc, door, session, manner, &reply);
+                let clean = is_clean(&reply);
+                let end = tell(alloc, door, session, manner, &reply);
                 drop(reply);
-                told
+                Told { end, clean }
             }
-            Err(end) => Some(end),
+            Err(end) => Told {
+                end: Some(end),
+                clean: true,
+            },
         },
     }
 }
 
-/// What comes of a round: the session goes on with its reader behind a line, or it ends.
+/// What comes of a round: the session goes on with its reader behind a line, or it ends; and whether the reply is an answer.
 #[derive(Drop)]
 enum Round {
-    Goes(LiveReader),
-    Ends(TalkEnd),
+    Goes { reader: LiveReader, clean: bool },
+    Ends { end: TalkEnd, clean: bool },
 }
 
 /// Answers a line that was heard.
@@ -142,14 +169,23 @@ fn read_line<D: Door, S: Answering>(
     drop(line);
     match read {
         Ok(Heard { reader, item }) => match reply_to(alloc, door, session, manner, item) {
-            None => Round::Goes(reader),
-            Some(end) => {
+            Told { end: None, clean } => Round::Goes { reader, clean },
+            Told {
+                end: Some(end),
+                clean,
+            } => {
                 drop(reader);
-                Round::Ends(end)
+                Round::Ends { end, clean }
             }
         },
-        Err(Unread::Memory) => Round::Ends(TalkEnd::Wanting),
-        Err(Unread::Uncounted) => Round::Ends(TalkEnd::Full),
+        Err(Unread::Memory) => Round::Ends {
+            end: TalkEnd::Wanting,
+            clean: true,
+        },
+        Err(Unread::Uncounted) => Round::Ends {
+            end: TalkEnd::Full,
+            clean: true,
+        },
     }
 }
 
@@ -170,18 +206,32 @@ fn hear_next<D: Door, S: Answering>(
             let item = reader.end();
             drop(reader);
             match reply_to(alloc, door, session, manner, item) {
-                None => Round::Ends(TalkEnd::Closed),
-                Some(end) => Round::Ends(end),
+                Told { end: None, clean } => Round::Ends {
+                    end: TalkEnd::Closed,
+                    clean,
+                },
+                Told {
+                    end: Some(end),
+                    clean,
+                } => Round::Ends { end, clean },
             }
         }
         Err(lost) => {
             drop(reader);
-            match lost {
-                Lost::Memory => Round::Ends(TalkEnd::Wanting),
-                _ => Round::Ends(TalkEnd::Deaf),
-            }
+            let end = match lost {
+                Lost::Memory => TalkEnd::Wanting,
+                Lost::Input | Lost::Output => TalkEnd::Deaf,
+            };
+            Round::Ends { end, clean: true }
         }
     }
+}
+
+/// Whether both are so.
+fn both(one: bool, other: bool) -> bool
+    ensures { result ≡ (one && other) }
+{
+    one && other
 }
 
 /// The conversation of a session at its door: hears each line, answers what it ends, and says the reply before it hears the
@@ -192,15 +242,29 @@ pub fn talk<H: Wait, D: Door, S: Answering>(
     door: &mut D,
     session: &mut S,
     manner: &Manner,
-) -> TalkEnd
+) -> Outcome
     requires { S.ran session.old [] [] }
-    ensures { Talked (S.ran session.new) manner.now (at_door (D.left door.old) (D.trace door.old) (D.faults door.old)) (at_door (D.left door.new) (D.trace door.new) (D.faults door.new)) result }
+    ensures { Talked (S.ran session.new) manner.now (at_door (D.left door.old) (D.trace door.old) (D.faults door.old)) (at_door (D.left door.new) (D.trace door.new) (D.faults door.new)) result.clean result.end }
 {
     let mut reader = LiveReader::new();
+    let mut clean = true;
     for _ in rt.forever() {
         match hear_next(alloc, door, session, manner, reader) {
-            Round::Goes(next) => reader = next,
-            Round::Ends(end) => return end,
+            Round::Goes {
+                reader: next,
+                clean: answered,
+            } => {
+                let so_far = both(clean, answered);
+                reader = next;
+                clean = so_far;
+            }
+            Round::Ends {
+                end,
+                clean: answered,
+            } => {
+                let all = both(clean, answered);
+                return Outcome { end, clean: all };
+            }
         }
     }
     unreachable!()

@@ -30,4 +30,4 @@ returns-in-Some g c =
     (at_door (g.D.Door.left c.args.door.now) (g.D.Door.trace c.args.door.now) (g.D.Door.faults c.args.door.now))
     (at_door (g.D.Door.left c.hear.new.self) (g.D.Door.trace c.hear.new.self) (g.D.Door.faults c.hear.new.self))
     (at_door (g.D.Door.left c.reply_to.new.door) (g.D.Door.trace c.reply_to.new.door) (g.D.Door.faults c.reply_to.new.door))
-    c.in-Some.end (search rules, search rules) (search rules)
+    c.in-Some.end c.reply_to.result.clean (search rules, search rules) (search rules)

@@ -8,8 +8,10 @@ use Rattle.live_session.proofs.talking.reply_to.Goals as goal
 pub returns-in-Ok : goal.returns-in-Ok
 returns-in-Ok g c =
     let old = at_door (g.D.Door.left c.args.door.now) (g.D.Door.trace c.args.door.now) (g.D.Door.faults c.args.door.now) in
-    let new = at_door (g.D.Door.left c.tell-told.new.door) (g.D.Door.trace c.tell-told.new.door) (g.D.Door.faults c.tell-told.new.door) in
-    subst (λ what. Replies (g.S.Answering.ran c.args.session.now) (g.S.Answering.ran c.answer_item.new.session) c.args.manner.now what old new c.tell-told.result)
+    let new = at_door (g.D.Door.left c.tell-end.new.door) (g.D.Door.trace c.tell-end.new.door) (g.D.Door.faults c.tell-end.new.door) in
+    subst (λ what. Replies (g.S.Answering.ran c.args.session.now) (g.S.Answering.ran c.answer_item.new.session) c.args.manner.now what old new c.is_clean-clean.result c.tell-end.result)
     (sym c.in-Some.is)
+    (subst (λ k. Replies (g.S.Answering.ran c.args.session.now) (g.S.Answering.ran c.answer_item.new.session) c.args.manner.now (Some c.in-Some.item) old new k c.tell-end.result)
+    (sym c.is_clean-clean.ensures)
     (replied (g.S.Answering.ran c.args.session.now) (g.S.Answering.ran c.answer_item.new.session) c.args.manner.now c.in-Some.item c.in-Ok.reply old new
-    c.tell-told.result c.in-Ok.ensures c.tell-told.ensures)
+    c.tell-end.result c.in-Ok.ensures c.tell-end.ensures))

@@ -1,4 +1,5 @@
-use Rattle.std.proofs.Common.{[], sym, subst}
+use Rattle.std.proofs.Common.{[], true, sym, subst}
+use Rattle.live_session.specs.Talks.{Talked}
 use Rattle.live_session.specs.Talks.{at_door}
 use Rattle.live_session.specs.Turns.{IsTalking}
 use Rattle.live_session.proofs.JoinLaws.{talking_none, talking_more, talked}
@@ -9,24 +10,32 @@ loop-init g c =
     let door = at_door (g.D.Door.left c.args.door.now) (g.D.Door.trace c.args.door.now) (g.D.Door.faults c.args.door.now) in (
       [],
       [],
-      subst (IsTalking (g.S.Answering.ran c.args.session.now) c.args.manner.now door door [] []) (sym c.new-reader.ensures)
+      subst (λ r. IsTalking (g.S.Answering.ran c.args.session.now) c.args.manner.now door door [] [] r true) (sym c.new-reader.ensures)
           (talking_none (g.S.Answering.ran c.args.session.now) c.args.manner.now door c.requires),
     )
 
 pub loop-preserved : goal.loop-preserved
 loop-preserved g c =
     let so = c.loop.invariant in
+    let near = at_door (g.D.Door.left c.loop.door) (g.D.Door.trace c.loop.door) (g.D.Door.faults c.loop.door) in
+    let new = at_door (g.D.Door.left c.hear_next.new.door) (g.D.Door.trace c.hear_next.new.door) (g.D.Door.faults c.hear_next.new.door) in
+    let old = at_door (g.D.Door.left c.args.door.now) (g.D.Door.trace c.args.door.now) (g.D.Door.faults c.args.door.now) in
+    let more =
     talking_more (g.S.Answering.ran c.loop.session) (g.S.Answering.ran c.hear_next.new.session) c.args.manner.now
     (at_door (g.D.Door.left c.args.door.now) (g.D.Door.trace c.args.door.now) (g.D.Door.faults c.args.door.now))
     (at_door (g.D.Door.left c.loop.door) (g.D.Door.trace c.loop.door) (g.D.Door.faults c.loop.door))
     (at_door (g.D.Door.left c.hear_next.new.door) (g.D.Door.trace c.hear_next.new.door) (g.D.Door.faults c.hear_next.new.door))
-    so.0 so.1 c.loop.reader so.2 c.in-Goes.next c.in-Goes.ensures
+    so.0 so.1 c.loop.reader c.loop.clean so.2 c.in-Goes.next c.in-Goes.answered c.in-Goes.ensures in
+    (more.0, more.1, subst (λ k. IsTalking (g.S.Answering.ran c.hear_next.new.session) c.args.manner.now old new more.0 more.1 c.in-Goes.next k) (sym c.both-so_far.ensures) more.2)
 
 pub returns-in-Ends : goal.returns-in-Ends
 returns-in-Ends g c =
     let so = c.loop.invariant in
-    talked (g.S.Answering.ran c.loop.session) (g.S.Answering.ran c.hear_next.new.session) c.args.manner.now
+    let new = at_door (g.D.Door.left c.hear_next.new.door) (g.D.Door.trace c.hear_next.new.door) (g.D.Door.faults c.hear_next.new.door) in
+    let old = at_door (g.D.Door.left c.args.door.now) (g.D.Door.trace c.args.door.now) (g.D.Door.faults c.args.door.now) in
+    subst (λ k. Talked (g.S.Answering.ran c.hear_next.new.session) c.args.manner.now old new k c.in-Ends.end) (sym c.both-all.ensures)
+    (talked (g.S.Answering.ran c.loop.session) (g.S.Answering.ran c.hear_next.new.session) c.args.manner.now
     (at_door (g.D.Door.left c.args.door.now) (g.D.Door.trace c.args.door.now) (g.D.Door.faults c.args.door.now))
     (at_door (g.D.Door.left c.loop.door) (g.D.Door.trace c.loop.door) (g.D.Door.faults c.loop.door))
     (at_door (g.D.Door.left c.hear_next.new.door) (g.D.Door.trace c.hear_next.new.door) (g.D.Door.faults c.hear_next.new.door))
-    so.0 so.1 c.loop.reader so.2 c.in-Ends.end c.in-Ends.ensures
+    so.0 so.1 c.loop.reader c.loop.clean so.2 c.in-Ends.end c.in-Ends.answered c.in-Ends.ensures)

@@ -11,4 +11,4 @@ invariant-loop g l =
     × IsTalking (g.S.Answering.ran l.session) l.manner
     (at_door (g.D.Door.left l.fn.door) (g.D.Door.trace l.fn.door) (g.D.Door.faults l.fn.door))
     (at_door (g.D.Door.left l.door) (g.D.Door.trace l.door) (g.D.Door.faults l.door))
-    lines replies l.reader
+    lines replies l.reader l.clean
