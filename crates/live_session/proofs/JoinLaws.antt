@@ -7,8 +7,9 @@ use Rattle.sta_outside.specs.Shelf.{Rose}
 use Rattle.timing_defs.specs.declared.scripts.Command.{Command}
 use Rattle.timing_defs.specs.declared.scripts.Row.{Row}
 use Rattle.live_doors.specs.Doors.{Deed, heard, Loses, Grows, IsAtEnd}
-use Rattle.live_standin.specs.declared.live.Item.{Item}
-use Rattle.live_standin.specs.Live.{Reading, beginning, LivePlace, stands, passing_eco, passing_draft, outside, live_line, live_end, item_list, items, place_behind}
+use Rattle.script_reader.specs.declared.live.Item.{Item}
+use Rattle.script_reader.specs.Scripts.{outside, inside, drafted, tried}
+use Rattle.script_reader.specs.Live.{Reading, beginning, LivePlace, stands, passing_eco, passing_draft, live_line, live_end, item_list, items, place_behind}
 use Rattle.live_session.specs.declared.replies.Manner.{Manner}
 use Rattle.live_session.specs.declared.replies.Reply.{Reply}
 use Rattle.live_session.specs.declared.replies.TalkEnd.{TalkEnd}
@@ -43,7 +44,10 @@ talking_none Ran way door ran = record {
 -- what the input's end makes wrong is no command
 none_asked : (p : LivePlace) → IsAsked (live_end p) → ⊥
 unfolding live_end
-none_asked (stands n) asked = asked
+none_asked (stands outside) asked = asked
+none_asked (stands (inside begin edits)) asked = asked
+none_asked (stands (drafted begin trials)) asked = asked
+none_asked (stands (tried begin trials group edits)) asked = asked
 none_asked passing_eco asked = asked
 none_asked passing_draft asked = asked
 
@@ -194,9 +198,9 @@ module _ (Ran Ran' : List Command → List Row → Type 0) (way : Manner) (old n
   clean_last answered reply is = clean_on answered (reply ∷ []) (is ∙ clean_one reply)
 
   -- a round more
-  pub talking_more : (reader : Reading) (answered : Bool) → Rounds Ran Ran' way reading near new (Goes reader answered)
-      → (all : List (List ℕ)) × (told : List Reply) × IsTalking Ran' way old new all told reader (clean && answered)
-  talking_more reader answered (line, mid, hears, (is, (others, suits, runs, does, same, cleans))) =
+  pub talking_more : (reader : Reading) (answered so_far : Bool) → so_far ≡ (clean && answered) → Rounds Ran Ran' way reading near new (Goes reader answered)
+      → (all : List (List ℕ)) × (told : List Reply) × IsTalking Ran' way old new all told reader so_far
+  talking_more reader answered so_far both (line, mid, hears, (is, (others, suits, runs, does, same, cleans))) =
       let at : live_line reading.place (reading.lines + 1) line ≡ live_line place (1 + length lines) line = at_place line mid hears in
       let g : AreReplies (item_list (live_line place (1 + length lines) line).item) others = subst (λ b. AreReplies (item_list b.item) others) at suits in
       let e : Extends Ran Ran' (commands_in (item_list (live_line place (1 + length lines) line).item)) (rows_in others) =
@@ -206,7 +210,7 @@ module _ (Ran Ran' : List Command → List Row → Type 0) (way : Manner) (old n
         lines ++ line ∷ [],
         replies ++ others,
         record {
-          clean_is = clean_on answered others cleans;
+          clean_is = both ∙ clean_on answered others cleans;
           talk = line_talk line mid hears others g e d;
           place = ap (λ r. r.place) is ∙ ap (λ b. b.place) at ∙ sym (place_more (stands outside) 1 lines line);
           count = ap (λ r. r.lines) is ∙ ap (λ k. k + 1) so.count ∙ sym longer;
@@ -241,7 +245,7 @@ module _ (Ran Ran' : List Command → List Row → Type 0) (way : Manner) (old n
   filled full = full (commands_in (items (stands outside) 1 lines)) (rows_in replies) so.talk.ran
 
   -- the last round
-  pub talked : (end : TalkEnd) (answered : Bool) → Rounds Ran Ran' way reading near new (Ends end answered)
+  talked : (end : TalkEnd) (answered : Bool) → Rounds Ran Ran' way reading near new (Ends end answered)
       → Talked Ran' way old new (clean && answered) end
   talked Closed answered (mid, hears, (others, suits, runs, does, same, cleans)) = (
     lines,
@@ -304,3 +308,7 @@ module _ (Ran Ran' : List Command → List Row → Type 0) (way : Manner) (old n
       (lines, line, replies, unanswered line mid hears e q, inr (sym so.count ∙ u), stayed mid hears.1 q.2, clean_same answered k)
   talked Full answered (inr (inl (mid, hears, (e, full, asked, q, k)))) = absurd (none_asked reading.place asked)
   talked Full answered (inr (inr (is, e, q, k))) = absurd (cc)
+
+  pub talked_all : (end : TalkEnd) (answered all : Bool) → all ≡ (clean && answered) → Rounds Ran Ran' way reading near new (Ends end answered)
+      → Talked Ran' way old new all end
+  talked_all end answered all both r = subst (λ b. Talked Ran' way old new b end) (sym both) (talked end answered r)

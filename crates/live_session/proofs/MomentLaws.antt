@@ -4,8 +4,9 @@ use Rattle.std.specs.Prelude.{Bool, Option, Some, None, slice_get, ◌⊎◌}
 use Rattle.std.proofs.lemmas.List.{append-nil, map-append}
 use mathlib.Core.List.{IsPrefix}
 use Rattle.live_doors.specs.Doors.{Deed, heard, kept, said}
-use Rattle.live_standin.specs.declared.live.Item.{Item}
-use Rattle.live_standin.specs.Live.{LivePlace, stands, outside, live_line, live_end, item_list, items, place_behind, all_items}
+use Rattle.script_reader.specs.declared.live.Item.{Item}
+use Rattle.script_reader.specs.Scripts.{outside}
+use Rattle.script_reader.specs.Live.{LivePlace, stands, live_line, live_end, item_list, items, place_behind, all_items}
 use Rattle.live_session.specs.declared.replies.Manner.{Manner}
 use Rattle.live_session.specs.declared.replies.Reply.{Reply}
 use Rattle.live_session.specs.declared.replies.Reply.TheVariants.{Row as row, Error as error}

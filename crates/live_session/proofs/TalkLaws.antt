@@ -5,9 +5,10 @@ use Rattle.std.proofs.lemmas.List.{append-nil}
 use Rattle.timing_defs.specs.declared.scripts.Command.{Command}
 use Rattle.timing_defs.specs.declared.scripts.Row.{Row}
 use Rattle.live_doors.specs.Doors.{Deed, heard, said, Loses, Grows}
-use Rattle.live_standin.specs.declared.live.Item.{Item}
-use Rattle.live_standin.specs.declared.live.Item.TheVariants.{Asked, Faulty}
-use Rattle.live_standin.specs.Live.{LivePlace, Behind, stands, outside, live_line, live_end, item_list, items, place_behind, all_items}
+use Rattle.script_reader.specs.declared.live.Item.{Item}
+use Rattle.script_reader.specs.declared.live.Item.TheVariants.{Asked, Faulty}
+use Rattle.script_reader.specs.Scripts.{outside}
+use Rattle.script_reader.specs.Live.{LivePlace, Behind, stands, live_line, live_end, item_list, items, place_behind, all_items}
 use Rattle.live_session.specs.declared.replies.Manner.{Manner}
 use Rattle.live_session.specs.declared.replies.Reply.{Reply}
 use Rattle.live_session.specs.declared.replies.Reply.TheVariants.{Row as row, Error as error}

@@ -6,8 +6,10 @@ use Rattle.sta_outside.specs.Shelf.{Rose}
 use Rattle.timing_defs.specs.declared.scripts.Command.{Command}
 use Rattle.timing_defs.specs.declared.scripts.Row.{Row}
 use Rattle.live_doors.specs.Doors.{Deed, Loses, Grows, Hears, SaysPart}
-use Rattle.live_standin.specs.declared.live.Item.{Item}
-use Rattle.live_standin.specs.Live.{Reading, LivePlace, stands, passing_eco, passing_draft, live_end, CanRun}
+use Rattle.script_reader.specs.declared.live.Item.{Item}
+use Rattle.script_reader.specs.Scripts.{outside, inside, drafted, tried}
+use Rattle.script_reader.specs.Live.{Reading, LivePlace, stands, passing_eco, passing_draft, live_end}
+use Rattle.live_session.specs.Answerable.{CanBeAnswered}
 use Rattle.live_session.specs.declared.replies.Manner.{Manner}
 use Rattle.live_session.specs.declared.replies.Reply.{Reply}
 use Rattle.live_session.specs.declared.replies.TalkEnd.{TalkEnd}
@@ -79,8 +81,11 @@ module _ (Ran Ran' : List Command → List Row → Type 0) (way : Manner) where
   end_round reading old mid new Deaf clean h r = absurd r
 
 -- what the input's end makes wrong is no command
-pub end_runs : (place : LivePlace) → IfSome (live_end place) CanRun
+pub end_runs : (place : LivePlace) → IfSome (live_end place) CanBeAnswered
 unfolding live_end
-end_runs (stands n) = tt
+end_runs (stands outside) = tt
+end_runs (stands (inside begin edits)) = tt
+end_runs (stands (drafted begin trials)) = tt
+end_runs (stands (tried begin trials group edits)) = tt
 end_runs passing_eco = tt
 end_runs passing_draft = tt

@@ -3,7 +3,8 @@
 use Rattle.std.specs.Prelude.{ℕ, ◌≡◌, ◌+◌, ◌≤◌, Bool, List, [], ◌∷◌, ◌++◌, length, map}
 use mathlib.Core.List.{IsPrefix}
 use Rattle.live_doors.specs.Doors.{Deed, heard, kept, said}
-use Rattle.live_standin.specs.Live.{stands, outside, items}
+use Rattle.script_reader.specs.Scripts.{outside}
+use Rattle.script_reader.specs.Live.{stands, items}
 use Rattle.live_session.specs.declared.replies.Manner.{Manner}
 use Rattle.live_session.specs.declared.replies.Reply.{Reply}
 use Rattle.live_session.specs.Talks.{reply_text, marks_of, AreReplies, dialogue, heard_items}

@@ -10,9 +10,11 @@ use Rattle.timing_defs.specs.declared.scripts.Answer.TheVariants.{Taken, Reached
 use Rattle.timing_defs.specs.declared.scripts.Row.{Row}
 use Rattle.timing_defs.specs.Output.{row_text}
 use Rattle.live_doors.specs.Doors.{Deed, heard, kept, said, Loses, Grows, IsAtEnd, IsPartOf}
-use Rattle.live_standin.specs.declared.live.Item.{Item}
-use Rattle.live_standin.specs.declared.live.Item.TheVariants.{Asked, Faulty}
-use Rattle.live_standin.specs.Live.{LivePlace, stands, outside, live_line, live_end, items, all_items, error_text}
+use Rattle.script_reader.specs.declared.live.Item.{Item}
+use Rattle.script_reader.specs.declared.live.Item.TheVariants.{Asked, Faulty}
+use Rattle.script_reader.specs.Scripts.{outside}
+use Rattle.script_reader.specs.Live.{LivePlace, stands, live_line, live_end, items, all_items}
+use Rattle.report_text.specs.Errors.{error_text}
 use Rattle.live_session.specs.declared.replies.Manner.{Manner}
 use Rattle.live_session.specs.declared.replies.Reply.{Reply}
 use Rattle.live_session.specs.declared.replies.Reply.TheVariants.{Row as row, Error as error}

@@ -5,9 +5,10 @@ use Rattle.sta_outside.specs.Shelf.{Rose}
 use Rattle.timing_defs.specs.declared.scripts.Command.{Command}
 use Rattle.timing_defs.specs.declared.scripts.Row.{Row}
 use Rattle.live_doors.specs.Doors.{Deed, Loses, Grows, Hears}
-use Rattle.live_standin.specs.declared.live.Item.{Item}
-use Rattle.live_standin.specs.declared.live.Item.TheVariants.{Asked, Faulty}
-use Rattle.live_standin.specs.Live.{Reading, stands, outside, live_line, live_end, item_list, place_behind}
+use Rattle.script_reader.specs.declared.live.Item.{Item}
+use Rattle.script_reader.specs.declared.live.Item.TheVariants.{Asked, Faulty}
+use Rattle.script_reader.specs.Scripts.{outside}
+use Rattle.script_reader.specs.Live.{Reading, stands, live_line, live_end, item_list, place_behind}
 use Rattle.live_session.specs.declared.replies.Manner.{Manner}
 use Rattle.live_session.specs.declared.replies.Reply.{Reply}
 use Rattle.live_session.specs.declared.replies.TalkEnd.{TalkEnd}

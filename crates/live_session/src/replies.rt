@@ -3,7 +3,8 @@
 ghost use Rattle.std.specs.Prelude.{◌≡◌, List, [], ◌∷◌, true};
 ghost use Rattle.timing_defs.specs.declared.scripts.Command.{Command};
 ghost use Rattle.timing_defs.specs.declared.scripts.Row.{Row};
-ghost use Rattle.live_standin.specs.Live.{is_runnable};
+ghost use Rattle.live_session.specs.Answerable.{CanBeAnswered};
+ghost use Rattle.script_reader.specs.declared.live.Item.TheVariants.{Asked};
 ghost use Rattle.live_session.specs.Turns.{Runs};
 
 use sta_text::Wrong;
@@ -18,7 +19,7 @@ pub enum Reply {
 }
 
 /// How a session ended.
-#[derive(Clone, Copy, Drop)]
+#[derive(Debug, Clone, Copy, PartialEq, Eq, Drop)]
 pub enum TalkEnd {
     /// The input ended, and all of it was answered.
     Closed,
@@ -79,7 +80,7 @@ pub trait Answering {
     /// Want of memory, or of a number for the command; what was answered before stays.
     fn answer(&mut self, alloc: Global, command: &Command) -> Result<Row, Unanswered>
         requires able { (before : List Command) × (rows : List Row) × ran self.old before rows }
-        requires command { is_runnable command.now ≡ true }
+        requires command { CanBeAnswered (Asked command.now) }
         ensures { Runs (ran self.old) (ran self.new) command.now result };
 
     /// Sees to it that all entries up to a number stand in the journal.

@@ -3,14 +3,16 @@
 ghost use Rattle.std.specs.Prelude.{◌≡◌, ◌&&◌, List, [], true, IfOk, IfSome, OnOk, OnErr, Some, None};
 ghost use Rattle.timing_defs.specs.declared.scripts.Command.{Command};
 ghost use Rattle.timing_defs.specs.declared.scripts.Row.{Row};
-ghost use Rattle.live_standin.specs.Live.{beginning, is_runnable, CanRun};
+ghost use Rattle.script_reader.specs.Live.{beginning};
+ghost use Rattle.live_session.specs.Answerable.{CanBeAnswered};
 ghost use Rattle.live_doors.specs.Doors.{Grows, Loses};
 ghost use Rattle.live_session.specs.Talks.{Talked, at_door, reply_text, marks_of, is_clean};
 ghost use Rattle.live_session.specs.Turns.{Tells, Answers, Replies, Reads, Rounds};
 
 use crate::replies::{Answering, Manner, Outcome, Reply, TalkEnd, Unanswered, Untold};
 use live_doors::{Door, Lost};
-use live_standin::{Heard, Item, LiveReader, Unread, error_bytes, report_bytes};
+use report_text::{error_bytes, report_bytes};
+use script_reader::{Heard, Item, LiveReader, Unread};
 use sta_units::Memory;
 use std::alloc::Global;
 use std::sync::Wait;
@@ -77,7 +79,7 @@ fn tell<D: Door, S: Answering>(
 /// The reply to what a line ended.
 fn answer_item<S: Answering>(alloc: Global, session: &mut S, item: Item) -> Result<Reply, TalkEnd>
     requires able { (before : List Command) × (rows : List Row) × S.ran session.old before rows }
-    requires item { CanRun item }
+    requires item { CanBeAnswered item }
     ensures { Answers (S.ran session.old) (S.ran session.new) item result }
 {
     match item {
@@ -123,7 +125,7 @@ fn reply_to<D: Door, S: Answering>(
     item: Option<Item>,
 ) -> Told
     requires able { (before : List Command) × (rows : List Row) × S.ran session.old before rows }
-    requires item { IfSome item CanRun }
+    requires item { IfSome item CanBeAnswered }
     ensures { Replies (S.ran session.old) (S.ran session.new) manner.now item (at_door (D.left door.old) (D.trace door.old) (D.faults door.old)) (at_door (D.left door.new) (D.trace door.new) (D.faults door.new)) result.clean result.end }
 {
     match item {

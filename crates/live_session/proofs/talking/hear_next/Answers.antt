@@ -1,13 +1,13 @@
 use Rattle.std.proofs.Common.{rules, subst, sym}
 use Rattle.std.specs.Prelude.{IfSome, None, Some}
-use Rattle.live_standin.specs.Live.{CanRun}
+use Rattle.live_session.specs.Answerable.{CanBeAnswered}
 use Rattle.live_session.specs.Talks.{at_door}
 use Rattle.live_session.specs.Turns.{Replies}
 use Rattle.live_session.proofs.TurnLaws.{line_round, end_round, end_runs}
 use Rattle.live_session.proofs.talking.hear_next.Goals as goal
 
 pub reply_to-requires-clause-item : goal.reply_to-requires-clause-item
-reply_to-requires-clause-item g c = subst (λ what. IfSome what CanRun) (sym c.end-item.ensures) (end_runs c.args.reader.place)
+reply_to-requires-clause-item g c = subst (λ what. IfSome what CanBeAnswered) (sym c.end-item.ensures) (end_runs c.args.reader.place)
 
 pub returns-in-Ok-Some : goal.returns-in-Ok-Some
 returns-in-Ok-Some g c =

@@ -1,8 +1,7 @@
 use Rattle.std.proofs.Common.{[], true, sym, subst}
-use Rattle.live_session.specs.Talks.{Talked}
 use Rattle.live_session.specs.Talks.{at_door}
 use Rattle.live_session.specs.Turns.{IsTalking}
-use Rattle.live_session.proofs.JoinLaws.{talking_none, talking_more, talked}
+use Rattle.live_session.proofs.JoinLaws.{talking_none, talking_more, talked_all}
 use Rattle.live_session.proofs.talking.talk.Goals as goal
 
 pub loop-init : goal.loop-init
@@ -17,25 +16,17 @@ loop-init g c =
 pub loop-preserved : goal.loop-preserved
 loop-preserved g c =
     let so = c.loop.invariant in
-    let near = at_door (g.D.Door.left c.loop.door) (g.D.Door.trace c.loop.door) (g.D.Door.faults c.loop.door) in
-    let new = at_door (g.D.Door.left c.hear_next.new.door) (g.D.Door.trace c.hear_next.new.door) (g.D.Door.faults c.hear_next.new.door) in
-    let old = at_door (g.D.Door.left c.args.door.now) (g.D.Door.trace c.args.door.now) (g.D.Door.faults c.args.door.now) in
-    let more =
     talking_more (g.S.Answering.ran c.loop.session) (g.S.Answering.ran c.hear_next.new.session) c.args.manner.now
     (at_door (g.D.Door.left c.args.door.now) (g.D.Door.trace c.args.door.now) (g.D.Door.faults c.args.door.now))
     (at_door (g.D.Door.left c.loop.door) (g.D.Door.trace c.loop.door) (g.D.Door.faults c.loop.door))
     (at_door (g.D.Door.left c.hear_next.new.door) (g.D.Door.trace c.hear_next.new.door) (g.D.Door.faults c.hear_next.new.door))
-    so.0 so.1 c.loop.reader c.loop.clean so.2 c.in-Goes.next c.in-Goes.answered c.in-Goes.ensures in
-    (more.0, more.1, subst (λ k. IsTalking (g.S.Answering.ran c.hear_next.new.session) c.args.manner.now old new more.0 more.1 c.in-Goes.next k) (sym c.both-so_far.ensures) more.2)
+    so.0 so.1 c.loop.reader c.loop.clean so.2 c.in-Goes.next c.in-Goes.answered c.both-so_far.result c.both-so_far.ensures c.in-Goes.ensures
 
 pub returns-in-Ends : goal.returns-in-Ends
 returns-in-Ends g c =
     let so = c.loop.invariant in
-    let new = at_door (g.D.Door.left c.hear_next.new.door) (g.D.Door.trace c.hear_next.new.door) (g.D.Door.faults c.hear_next.new.door) in
-    let old = at_door (g.D.Door.left c.args.door.now) (g.D.Door.trace c.args.door.now) (g.D.Door.faults c.args.door.now) in
-    subst (λ k. Talked (g.S.Answering.ran c.hear_next.new.session) c.args.manner.now old new k c.in-Ends.end) (sym c.both-all.ensures)
-    (talked (g.S.Answering.ran c.loop.session) (g.S.Answering.ran c.hear_next.new.session) c.args.manner.now
+    talked_all (g.S.Answering.ran c.loop.session) (g.S.Answering.ran c.hear_next.new.session) c.args.manner.now
     (at_door (g.D.Door.left c.args.door.now) (g.D.Door.trace c.args.door.now) (g.D.Door.faults c.args.door.now))
     (at_door (g.D.Door.left c.loop.door) (g.D.Door.trace c.loop.door) (g.D.Door.faults c.loop.door))
     (at_door (g.D.Door.left c.hear_next.new.door) (g.D.Door.trace c.hear_next.new.door) (g.D.Door.faults c.hear_next.new.door))
-    so.0 so.1 c.loop.reader c.loop.clean so.2 c.in-Ends.end c.in-Ends.answered c.in-Ends.ensures)
+    so.0 so.1 c.loop.reader c.loop.clean so.2 c.in-Ends.end c.in-Ends.answered c.both-all.result c.both-all.ensures c.in-Ends.ensures
