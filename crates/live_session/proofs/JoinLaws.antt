@@ -16,11 +16,11 @@ use Rattle.live_session.specs.declared.replies.TalkEnd.{TalkEnd}
 use Rattle.live_session.specs.declared.replies.TalkEnd.TheVariants.{Closed, Deaf, Mute, Unkept, Wanting, Full}
 use Rattle.live_session.specs.declared.talking.Round.{Round}
 use Rattle.live_session.specs.declared.talking.Round.TheVariants.{Goes, Ends}
-use Rattle.live_session.specs.Talks.{AtDoor, AreReplies, commands_in, rows_in, deeds_of, told_of, dialogue, heard_items, IsTalk, IsCutTalk, IsUnanswered, IsCut, IsFull, Talked, is_clean, are_clean}
+use Rattle.live_session.specs.Talks.{Telling, AtDoor, AreKept, AreReplies, commands_in, rows_in, deeds_of, told_of, dialogue, heard_items, IsTalk, IsCutTalk, IsUnanswered, IsCut, IsFull, Talked, is_clean, are_clean}
 use Rattle.live_session.specs.Turns.{Extends, Remains, IsFilled, IsAsked, IsQuiet, Does, IsCutReply, Replies, Reads, reading_on, item_of, IsUnread, HearsAt, Stops, Rounds, IsTalking}
 use Rattle.live_session.proofs.DoorLaws.{grows_more, loses_more, grows_same, loses_same}
 use Rattle.live_session.proofs.TurnLaws.{clean_one}
-use Rattle.live_session.proofs.TalkLaws.{commands_more, rows_more, replies_more, items_more, place_more, dialogue_more, dialogue_end}
+use Rattle.live_session.proofs.TalkLaws.{commands_more, rows_more, replies_more, items_more, kept_more, place_more, dialogue_more, dialogue_end}
 
 loses_refl : (a : Option (List (List ℕ))) → Loses a a []
 loses_refl None = tt
@@ -31,11 +31,11 @@ grows_refl None = tt
 grows_refl (Some x) = sym (append-nil x)
 
 -- before the first line
-pub talking_none : (Ran : List Command → List Row → Type 0) (way : Manner) (door : AtDoor) → Ran [] [] → IsTalking Ran way door door [] [] beginning true
+pub talking_none : (Ran : List Command → List Row → Type 0) (way : Telling) (door : AtDoor) → Ran [] [] → IsTalking Ran way door door [] [] beginning true
 unfolding items place_behind dialogue
 talking_none Ran way door ran = record {
   clean_is = refl;
-  talk = record { came = loses_refl door.left; done = grows_refl door.trace; suits = tt; ran = ran };
+  talk = record { came = loses_refl door.left; done = grows_refl door.trace; stood = tt; suits = tt; ran = ran };
   place = refl;
   count = refl;
   faults = refl;
@@ -69,13 +69,13 @@ told_last : (way : Manner) (what : Option Item) (reply : Reply) → AreReplies (
 told_last way None reply g = absurd g
 told_last way (Some item) reply g = refl
 
-module _ (Ran Ran' : List Command → List Row → Type 0) (way : Manner) (old near new : AtDoor) (lines : List (List ℕ)) (replies : List Reply) (reading : Reading) (clean : Bool)
+module _ (Ran Ran' : List Command → List Row → Type 0) (way : Telling) (old near new : AtDoor) (lines : List (List ℕ)) (replies : List Reply) (reading : Reading) (clean : Bool)
     (so : IsTalking Ran way old near lines replies reading clean) where
   abbrev place : LivePlace
   place = place_behind (stands outside) 1 lines
 
   abbrev whole : List Deed
-  whole = dialogue way false (stands outside) 1 lines replies
+  whole = dialogue way.manner false (stands outside) 1 lines replies
 
   -- replies to more items
   replies_on : (more : List Item) (others : List Reply) → AreReplies more others → AreReplies (items (stands outside) 1 lines ++ more) (replies ++ others)
@@ -96,6 +96,7 @@ module _ (Ran Ran' : List Command → List Row → Type 0) (way : Manner) (old n
   talk_same e d = record {
     came = loses_same old.left near.left new.left lines so.talk.came d.0;
     done = grows_same old.trace near.trace new.trace whole so.talk.done d.1;
+    stood = so.talk.stood;
     suits = so.talk.suits;
     ran = ran_same e;
   }
@@ -120,18 +121,19 @@ module _ (Ran Ran' : List Command → List Row → Type 0) (way : Manner) (old n
 
     -- nothing was done about it
     unanswered : Remains Ran Ran' → IsQuiet mid new → IsUnanswered Ran' way old new lines line replies
-    unanswered e q = record { came = came_on q.0; done = done_on [] q.1; suits = so.talk.suits; ran = ran_same e }
+    unanswered e q = record { came = came_on q.0; done = done_on [] q.1; stood = so.talk.stood; suits = so.talk.suits; ran = ran_same e }
 
     -- it was answered
-    line_talk : (others : List Reply) → AreReplies (item_list what) others → Extends Ran Ran' (commands_in (item_list what)) (rows_in others)
-        → Does mid new (told_of way what others) → IsTalk Ran' way false old new (lines ++ line ∷ []) (replies ++ others)
-    line_talk others g e d =
+    line_talk : (others : List Reply) → AreKept way others → AreReplies (item_list what) others → Extends Ran Ran' (commands_in (item_list what)) (rows_in others)
+        → Does mid new (told_of way.manner what others) → IsTalk Ran' way false old new (lines ++ line ∷ []) (replies ++ others)
+    line_talk others k g e d =
         let are = items_more (stands outside) 1 lines line in
         record {
           came = came_on d.0;
           done =
-              subst (Grows old.trace new.trace) (sym (dialogue_more way (stands outside) 1 lines line replies others so.talk.suits))
-              (done_on (told_of way what others) d.1);
+              subst (Grows old.trace new.trace) (sym (dialogue_more way.manner (stands outside) 1 lines line replies others so.talk.suits))
+              (done_on (told_of way.manner what others) d.1);
+          stood = kept_more way replies others so.talk.stood k;
           suits = subst (λ l. AreReplies l (replies ++ others)) (sym are) (replies_on (item_list what) others g);
           ran = ran_on (items (stands outside) 1 (lines ++ line ∷ [])) (item_list what) others are e;
         }
@@ -146,10 +148,11 @@ module _ (Ran Ran' : List Command → List Row → Type 0) (way : Manner) (old n
           came = came_on c.does.0;
           done = (
             before,
-            dialogue_more way (stands outside) 1 lines line replies (reply ∷ []) so.talk.suits
-                ∙ ap (λ xs. whole ++ heard line ∷ xs) (told_last way what reply c.suits) ∙ parts (deeds_of way reply),
+            dialogue_more way.manner (stands outside) 1 lines line replies (reply ∷ []) so.talk.suits
+                ∙ ap (λ xs. whole ++ heard line ∷ xs) (told_last way.manner what reply c.suits) ∙ parts (deeds_of way.manner reply),
             subst (Grows old.trace new.trace) (parts part) (done_on part c.does.1),
           );
+          stood = so.talk.stood;
           suits = subst (λ l. AreReplies l (replies ++ reply ∷ [])) (sym are) (replies_on (item_list what) (reply ∷ []) c.suits);
           ran = ran_on (items (stands outside) 1 (lines ++ line ∷ [])) (item_list what) (reply ∷ []) are c.runs;
         }
@@ -165,11 +168,12 @@ module _ (Ran Ran' : List Command → List Row → Type 0) (way : Manner) (old n
     end_done : (part : List Deed) → Grows mid.trace new.trace part → Grows old.trace new.trace (whole ++ part)
     end_done part g = grows_more old.trace mid.trace new.trace whole part (grows_same old.trace near.trace mid.trace whole so.talk.done hears.0.2) g
 
-    end_talk : (others : List Reply) → AreReplies (item_list last) others → Extends Ran Ran' (commands_in (item_list last)) (rows_in others)
-        → Does mid new (told_of way last others) → IsTalk Ran' way true old new lines (replies ++ others)
-    end_talk others g e d = record {
+    end_talk : (others : List Reply) → AreKept way others → AreReplies (item_list last) others → Extends Ran Ran' (commands_in (item_list last)) (rows_in others)
+        → Does mid new (told_of way.manner last others) → IsTalk Ran' way true old new lines (replies ++ others)
+    end_talk others k g e d = record {
       came = end_came d.0;
-      done = subst (Grows old.trace new.trace) (sym (dialogue_end way (stands outside) 1 lines replies others so.talk.suits)) (end_done (told_of way last others) d.1);
+      done = subst (Grows old.trace new.trace) (sym (dialogue_end way.manner (stands outside) 1 lines replies others so.talk.suits)) (end_done (told_of way.manner last others) d.1);
+      stood = kept_more way replies others so.talk.stood k;
       suits = replies_on (item_list last) others g;
       ran = ran_on (items (stands outside) 1 lines ++ item_list last) (item_list last) others refl e;
     }
@@ -179,9 +183,10 @@ module _ (Ran Ran' : List Command → List Row → Type 0) (way : Manner) (old n
       came = end_came c.does.0;
       done = (
         whole,
-        dialogue_end way (stands outside) 1 lines replies (reply ∷ []) so.talk.suits ∙ ap (λ xs. whole ++ xs) (told_last way last reply c.suits),
+        dialogue_end way.manner (stands outside) 1 lines replies (reply ∷ []) so.talk.suits ∙ ap (λ xs. whole ++ xs) (told_last way.manner last reply c.suits),
         end_done part c.does.1,
       );
+      stood = so.talk.stood;
       suits = replies_on (item_list last) (reply ∷ []) c.suits;
       ran = ran_on (items (stands outside) 1 lines ++ item_list last) (item_list last) (reply ∷ []) refl c.runs;
     }
@@ -200,18 +205,18 @@ module _ (Ran Ran' : List Command → List Row → Type 0) (way : Manner) (old n
   -- a round more
   pub talking_more : (reader : Reading) (answered so_far : Bool) → so_far ≡ (clean && answered) → Rounds Ran Ran' way reading near new (Goes reader answered)
       → (all : List (List ℕ)) × (told : List Reply) × IsTalking Ran' way old new all told reader so_far
-  talking_more reader answered so_far both (line, mid, hears, (is, (others, suits, runs, does, same, cleans))) =
+  talking_more reader answered so_far both (line, mid, hears, (is, (others, suits, runs, does, same, cleans, kept))) =
       let at : live_line reading.place (reading.lines + 1) line ≡ live_line place (1 + length lines) line = at_place line mid hears in
       let g : AreReplies (item_list (live_line place (1 + length lines) line).item) others = subst (λ b. AreReplies (item_list b.item) others) at suits in
       let e : Extends Ran Ran' (commands_in (item_list (live_line place (1 + length lines) line).item)) (rows_in others) =
       subst (λ b. Extends Ran Ran' (commands_in (item_list b.item)) (rows_in others)) at runs in
-      let d : Does mid new (told_of way (live_line place (1 + length lines) line).item others) = subst (λ b. Does mid new (told_of way b.item others)) at does in
+      let d : Does mid new (told_of way.manner (live_line place (1 + length lines) line).item others) = subst (λ b. Does mid new (told_of way.manner b.item others)) at does in
       let longer : length (lines ++ line ∷ []) ≡ length lines + 1 = length-append lines (line ∷ []) in (
         lines ++ line ∷ [],
         replies ++ others,
         record {
           clean_is = both ∙ clean_on answered others cleans;
-          talk = line_talk line mid hears others g e d;
+          talk = line_talk line mid hears others kept g e d;
           place = ap (λ r. r.place) is ∙ ap (λ b. b.place) at ∙ sym (place_more (stands outside) 1 lines line);
           count = ap (λ r. r.lines) is ∙ ap (λ k. k + 1) so.count ∙ sym longer;
           faults = same ∙ hears.1 ∙ so.faults;
@@ -247,18 +252,18 @@ module _ (Ran Ran' : List Command → List Row → Type 0) (way : Manner) (old n
   -- the last round
   talked : (end : TalkEnd) (answered : Bool) → Rounds Ran Ran' way reading near new (Ends end answered)
       → Talked Ran' way old new (clean && answered) end
-  talked Closed answered (mid, hears, (others, suits, runs, does, same, cleans)) = (
+  talked Closed answered (mid, hears, (others, suits, runs, does, same, cleans, kept)) = (
     lines,
     replies ++ others,
-    end_talk mid hears others (subst (λ p. AreReplies (item_list (live_end p)) others) so.place suits)
+    end_talk mid hears others kept (subst (λ p. AreReplies (item_list (live_end p)) others) so.place suits)
         (subst (λ p. Extends Ran Ran' (commands_in (item_list (live_end p))) (rows_in others)) so.place runs)
-        (subst (λ p. Does mid new (told_of way (live_end p) others)) so.place does),
+        (subst (λ p. Does mid new (told_of way.manner (live_end p) others)) so.place does),
     ended near.left mid.left new.left hears.0.0 hears.0.1 does.0,
     stayed mid hears.1 same,
     clean_on answered others cleans,
   )
   talked Deaf answered (e, d, r, k) = (lines, replies, talk_same e d, subst (λ k. Rose k new.faults) so.faults r, clean_same answered k)
-  talked Mute answered (inl (line, mid, hears, inl (reply, part, c, cut, r))) = (
+  talked Mute answered (inl (line, mid, hears, inl (reply, part, c, cut, r, kept))) = (
     false,
     lines ++ line ∷ [],
     replies,
@@ -266,12 +271,13 @@ module _ (Ran Ran' : List Command → List Row → Type 0) (way : Manner) (old n
     part,
     cut_on line mid hears reply answered part c,
     cut,
+    kept,
     rose mid hears.1 r,
     clean_last answered reply c.clean_is,
   )
   talked Mute answered (inl (line, mid, hears, inr (e, q, u, k))) = absurd u
-  talked Mute answered (inr (inl (mid, hears, (reply, part, c, cut, r)))) =
-      (true, lines, replies, reply, part, cut_end mid hears reply answered part c, cut, rose mid hears.1 r, clean_last answered reply c.clean_is)
+  talked Mute answered (inr (inl (mid, hears, (reply, part, c, cut, r, kept)))) =
+      (true, lines, replies, reply, part, cut_end mid hears reply answered part c, cut, kept, rose mid hears.1 r, clean_last answered reply c.clean_is)
   talked Mute answered (inr (inr (is, e, q, k))) = absurd (cc)
   talked Unkept answered (inl (line, mid, hears, inl (reply, c, same))) = (
     false,

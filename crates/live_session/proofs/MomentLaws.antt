@@ -1,17 +1,17 @@
 -- Beginnings of what is done at a door.
-use Rattle.std.proofs.Common.{◌≡◌, ℕ, ◌+◌, ◌≤◌, ◌++◌, List, [], ◌∷◌, length, map, true, false, refl, sym, ap, ◌∙◌, subst, arith, append_assoc, length-append, inl, inr}
+use Rattle.std.proofs.Common.{◌≡◌, ℕ, ◌+◌, ◌≤◌, ◌++◌, List, [], ◌∷◌, length, map, take, true, false, refl, sym, ap, ◌∙◌, subst, arith, append_assoc, length-append, inl, inr}
 use Rattle.std.specs.Prelude.{Bool, Option, Some, None, slice_get, ◌⊎◌}
-use Rattle.std.proofs.lemmas.List.{append-nil, map-append}
+use Rattle.std.proofs.lemmas.List.{append-nil, append_cancel_right, map-append}
 use mathlib.Core.List.{IsPrefix}
-use Rattle.live_doors.specs.Doors.{Deed, heard, kept, said}
+use Rattle.live_doors.specs.Doors.{Deed, heard, kept, said, IsPartOf}
 use Rattle.script_reader.specs.declared.live.Item.{Item}
 use Rattle.script_reader.specs.Scripts.{outside}
 use Rattle.script_reader.specs.Live.{LivePlace, stands, live_line, live_end, item_list, items, place_behind, all_items}
 use Rattle.live_session.specs.declared.replies.Manner.{Manner}
 use Rattle.live_session.specs.declared.replies.Reply.{Reply}
 use Rattle.live_session.specs.declared.replies.Reply.TheVariants.{Row as row, Error as error}
-use Rattle.live_session.specs.Talks.{reply_text, marks_of, deeds_of, AreReplies, told_of, rest_of, end_item, dialogue, heard_items}
-use Rattle.live_session.specs.Moments.{heard_in, said_in, heard_count, Begins, IsMoment, IsTold}
+use Rattle.live_session.specs.Talks.{reply_text, marks_of, deeds_of, AreReplies, told_of, rest_of, end_item, dialogue, heard_items, IsCut}
+use Rattle.live_session.specs.Moments.{heard_in, said_in, heard_count, Begins, IsMoment, IsTold, SaysUpTo}
 
 heard_more : (a b : List Deed) → heard_in (a ++ b) ≡ heard_in a ++ heard_in b
 heard_more [] b = refl
@@ -291,3 +291,36 @@ pub answered_before : (way : Manner) (ended : Bool) (lines : List (List ℕ)) (r
     → Begins way ended lines r before (heard line ∷ after) → length (said_in before) ≡ heard_count before
 answered_before way ended lines r before after line b =
     answered way ended (stands outside) 1 lines r before after line (suited ended lines r b.0) b.1
+
+-- where the last reply is not told whole
+pub before_last : (way : Manner) (ended : Bool) (lines : List (List ℕ)) (r : List Reply) (last : Reply) (before : List Deed)
+    → Begins way ended lines (r ++ last ∷ []) before (deeds_of way last) → said_in before ≡ map (reply_text way.clocks) r
+before_last way ended lines r last before b =
+    let text = reply_text way.clocks last in
+    let all = all_said way ended (stands outside) 1 lines (r ++ last ∷ []) (suited ended lines (r ++ last ∷ []) b.0) in
+    append_cancel_right (said_in before) (map (reply_text way.clocks) r) (text ∷ [])
+    (ap (λ l. said_in before ++ l) (sym (marked_says way.keeps last text))
+    ∙ sym (said_more before (deeds_of way last))
+    ∙ sym (ap said_in b.1)
+    ∙ all
+    ∙ map-append (reply_text way.clocks) r (last ∷ []))
+
+says_part : (keeps : Bool) (last : Reply) (text : List ℕ) (piece : List Deed) → IsPartOf text piece
+    → (said_in (marks_of keeps last ++ piece) ≡ []) ⊎ ((n : ℕ) × (said_in (marks_of keeps last ++ piece) ≡ take n text ∷ []))
+says_part true (row x) text piece (inl is) = inl (ap said_in is)
+says_part true (row x) text piece (inr (n, is)) = inr (n, ap said_in is)
+says_part true (error w) text piece (inl is) = inl (ap said_in is)
+says_part true (error w) text piece (inr (n, is)) = inr (n, ap said_in is)
+says_part false last text piece (inl is) = inl (ap said_in is)
+says_part false last text piece (inr (n, is)) = inr (n, ap said_in is)
+
+pub cut_last : (way : Manner) (ended : Bool) (lines : List (List ℕ)) (r : List Reply) (last : Reply) (before part : List Deed)
+    → Begins way ended lines (r ++ last ∷ []) before (deeds_of way last) → IsCut way last part → SaysUpTo way r last (before ++ part)
+cut_last way ended lines r last before part b (piece, of, is) =
+    let first = before_last way ended lines r last before b in
+    let both : said_in (before ++ part) ≡ map (reply_text way.clocks) r ++ said_in (marks_of way.keeps last ++ piece) =
+    said_more before part ∙ ap (λ l. l ++ said_in part) first ∙ ap (λ l. map (reply_text way.clocks) r ++ said_in l) is in
+    elim (says_part way.keeps last (reply_text way.clocks last) piece of) [
+      | inl h ↦ inl (both ∙ ap (λ l. map (reply_text way.clocks) r ++ l) h ∙ append-nil (map (reply_text way.clocks) r))
+      | inr h ↦ inr (h.0, both ∙ ap (λ l. map (reply_text way.clocks) r ++ l) h.1)
+    ]

@@ -12,7 +12,7 @@ use Rattle.script_reader.specs.Live.{LivePlace, Behind, stands, live_line, live_
 use Rattle.live_session.specs.declared.replies.Manner.{Manner}
 use Rattle.live_session.specs.declared.replies.Reply.{Reply}
 use Rattle.live_session.specs.declared.replies.Reply.TheVariants.{Row as row, Error as error}
-use Rattle.live_session.specs.Talks.{AreReplies, IsReply, commands_in, rows_in, deeds_of, told_of, rest_of, end_item, dialogue, heard_items}
+use Rattle.live_session.specs.Talks.{Telling, AreReplies, IsReply, commands_in, rows_in, deeds_of, told_of, rest_of, end_item, dialogue, heard_items, AreKept}
 
 pub commands_more : (a b : List Item) → commands_in (a ++ b) ≡ commands_in a ++ commands_in b
 commands_more [] b = refl
@@ -29,6 +29,10 @@ replies_more [] b [] s g h = h
 replies_more [] b (x ∷ r) s g h = absurd g
 replies_more (i ∷ a) b [] s g h = absurd g
 replies_more (i ∷ a) b (x ∷ r) s g h = (g.0, replies_more a b r s g.1 h)
+
+pub kept_more : (way : Telling) (a b : List Reply) → AreKept way a → AreKept way b → AreKept way (a ++ b)
+kept_more way [] b g h = h
+kept_more way (x ∷ a) b g h = (g.0, kept_more way a b g.1 h)
 
 -- one line more
 pub items_more : (p : LivePlace) (n : ℕ) (lines : List (List ℕ)) (line : List ℕ)

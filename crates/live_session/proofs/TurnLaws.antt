@@ -10,30 +10,30 @@ use Rattle.script_reader.specs.declared.live.Item.{Item}
 use Rattle.script_reader.specs.Scripts.{outside, inside, drafted, tried}
 use Rattle.script_reader.specs.Live.{Reading, LivePlace, stands, passing_eco, passing_draft, live_end}
 use Rattle.live_session.specs.Answerable.{CanBeAnswered}
-use Rattle.live_session.specs.declared.replies.Manner.{Manner}
 use Rattle.live_session.specs.declared.replies.Reply.{Reply}
 use Rattle.live_session.specs.declared.replies.TalkEnd.{TalkEnd}
 use Rattle.live_session.specs.declared.replies.TalkEnd.TheVariants.{Closed, Deaf, Mute, Unkept, Wanting, Full}
 use Rattle.live_session.specs.declared.talking.Round.{Round}
 use Rattle.live_session.specs.declared.talking.Round.TheVariants.{Goes, Ends}
-use Rattle.live_session.specs.Talks.{AtDoor, at_door, reply_text, marks_of, is_clean, are_clean}
+use Rattle.live_session.specs.Talks.{Telling, AtDoor, at_door, IsKept, reply_text, marks_of, is_clean, are_clean}
 use Rattle.live_session.specs.Turns.{Tells, Answers, Replies, Reads, HearsAt, Rounds}
 use Rattle.live_session.proofs.DoorLaws.{grows_more, loses_more}
 
 -- the output failed within a reply
-pub cut_told : (way : Manner) (reply : Reply) (old mid new : AtDoor) (text : List ℕ)
-    → Loses old.left mid.left [] → mid.faults ≡ old.faults → Grows old.trace mid.trace (marks_of way.keeps reply)
+pub cut_told : (way : Telling) (reply : Reply) (old mid new : AtDoor) (text : List ℕ)
+    → Loses old.left mid.left [] → mid.faults ≡ old.faults → Grows old.trace mid.trace (marks_of way.manner.keeps reply)
     → Loses mid.left new.left [] → SaysPart mid.trace new.trace text → Rose mid.faults new.faults
-    → text ≡ reply_text way.clocks reply → Tells way reply old new (Some Mute)
-cut_told way reply old mid new text l same m l' part rose is =
-    let said : SaysPart mid.trace new.trace (reply_text way.clocks reply) = subst (SaysPart mid.trace new.trace) is part in
-    let deeds = marks_of way.keeps reply ++ said.0 in (
+    → text ≡ reply_text way.manner.clocks reply → IsKept way reply → Tells way reply old new (Some Mute)
+cut_told way reply old mid new text l same m l' part rose is kept =
+    let said : SaysPart mid.trace new.trace (reply_text way.manner.clocks reply) = subst (SaysPart mid.trace new.trace) is part in
+    let deeds = marks_of way.manner.keeps reply ++ said.0 in (
       (
         deeds,
         (said.0, said.1, refl),
-        (loses_more old.left mid.left new.left [] [] l l', grows_more old.trace mid.trace new.trace (marks_of way.keeps reply) said.0 m said.2),
+        (loses_more old.left mid.left new.left [] [] l l', grows_more old.trace mid.trace new.trace (marks_of way.manner.keeps reply) said.0 m said.2),
       ),
       subst (λ k. Rose k new.faults) same rose,
+      kept,
     )
 
 pub clean_one : (reply : Reply) → is_clean reply ≡ are_clean (reply ∷ [])
@@ -42,13 +42,13 @@ clean_one reply = elim (cases_Bool (is_clean reply)) [
   | inr h ↦ rw h refl
 ]
 
-module _ (Ran Ran' : List Command → List Row → Type 0) (way : Manner) where
+module _ (Ran Ran' : List Command → List Row → Type 0) (way : Telling) where
   -- an item has its reply, which is told or not
   pub replied : (item : Item) (reply : Reply) (old new : AtDoor) (end : Option TalkEnd) → Answers Ran Ran' item (Ok reply)
       → Tells way reply old new end → Replies Ran Ran' way (Some item) old new (is_clean reply) end
-  replied item reply old new None a t = (reply ∷ [], (a.0, tt), a.1, t.0, t.1, clean_one reply)
+  replied item reply old new None a t = (reply ∷ [], (a.0, tt), a.1, t.0, t.1, clean_one reply, (t.2, tt))
   replied item reply old new (Some Mute) a t =
-      (reply, t.0.0, record { clean_is = refl; suits = (a.0, tt); runs = a.1; does = t.0.2 }, t.0.1, t.1)
+      (reply, t.0.0, record { clean_is = refl; suits = (a.0, tt); runs = a.1; does = t.0.2 }, t.0.1, t.1, t.2)
   replied item reply old new (Some Unkept) a t =
       (reply, record { clean_is = refl; suits = (a.0, tt); runs = a.1; does = (t.0, t.1) }, t.2)
   replied item reply old new (Some Wanting) a t =

@@ -1,6 +1,6 @@
 -- What holds at each moment of a session: of each beginning of what is done at its door.
 
-use Rattle.std.specs.Prelude.{ℕ, ◌≡◌, ◌+◌, ◌≤◌, Bool, List, [], ◌∷◌, ◌++◌, length, map}
+use Rattle.std.specs.Prelude.{ℕ, ◌≡◌, ◌+◌, ◌≤◌, Bool, List, [], ◌∷◌, ◌++◌, length, map, take, ◌⊎◌}
 use mathlib.Core.List.{IsPrefix}
 use Rattle.live_doors.specs.Doors.{Deed, heard, kept, said}
 use Rattle.script_reader.specs.Scripts.{outside}
@@ -43,3 +43,10 @@ IsTold way replies before text =
     (first : List Reply) × (reply : Reply) × (others : List Reply) × (earlier : List Deed)
     × (replies ≡ first ++ reply ∷ others) × (said_in before ≡ map (reply_text way.clocks) first)
     × (text ≡ reply_text way.clocks reply) × (before ≡ earlier ++ marks_of way.keeps reply)
+
+-- the texts that were said where the last reply was not told whole: those of the replies before it, and nothing of its own, or a
+-- prefix of it
+abbrev pub SaysUpTo : Manner → List Reply → Reply → List Deed → Type 0
+SaysUpTo way replies last deeds =
+    (said_in deeds ≡ map (reply_text way.clocks) replies)
+    ⊎ ((n : ℕ) × (said_in deeds ≡ map (reply_text way.clocks) replies ++ take n (reply_text way.clocks last) ∷ []))

@@ -1,6 +1,6 @@
 -- The conversation of a live session: the replies to what its lines ask, what is done at its door to tell them, and how it ends.
 
-use Rattle.std.specs.Prelude.{ℕ, ◌≡◌, ◌⊎◌, ◌-◌, ◌+◌, ◌^◌, Bool, true, false, List, [], ◌∷◌, ◌++◌, length, Option, Some, None, ⊤}
+use Rattle.std.specs.Prelude.{ℕ, ◌≡◌, ◌⊎◌, ◌-◌, ◌+◌, ◌^◌, Bool, true, false, IsTrue, List, [], ◌∷◌, ◌++◌, length, Option, Some, None, ⊤}
 use Rattle.std.specs.List.{list_all}
 use Rattle.sta_outside.specs.Shelf.{Rose}
 use Rattle.timing_defs.specs.declared.constraints.Clock.{Clock}
@@ -21,6 +21,14 @@ use Rattle.live_session.specs.declared.replies.Reply.TheVariants.{Row as row, Er
 use Rattle.live_session.specs.declared.replies.TalkEnd.{TalkEnd}
 use Rattle.live_session.specs.declared.replies.TalkEnd.TheVariants.{Closed, Deaf, Mute, Unkept, Wanting, Full}
 
+-- how replies are told, and what is known of a number once it was kept: all entries up to it stand in the journal
+pub record Telling : Type 1 where
+  pub manner : Manner
+  pub stands : ℕ → Type 0
+
+abbrev pub telling : (ℕ → Type 0) → Manner → Telling
+telling stands manner = record { manner = manner; stands = stands }
+
 -- the text of a reply: a row as in a batch run, or `error CODE LINE`
 abbrev pub reply_text : List Clock → Reply → List ℕ
 reply_text clocks (row r) = row_text clocks r
@@ -35,6 +43,15 @@ marks_of false reply = []
 -- what is done to tell a reply
 abbrev pub deeds_of : Manner → Reply → List Deed
 deeds_of way reply = marks_of way.keeps reply ++ said (reply_text way.clocks reply) ∷ []
+
+-- where there is a journal, its keeper has said that all entries up to a row's number stand there
+abbrev pub IsKept : Telling → Reply → Type 0
+IsKept way (row r) = IsTrue way.manner.keeps → way.stands r.number
+IsKept way (error wrong) = ⊤
+
+abbrev pub AreKept : Telling → List Reply → Type 0
+AreKept way [] = ⊤
+AreKept way (reply ∷ replies) = IsKept way reply × AreKept way replies
 
 -- a row that is an answer: it is not refused, not `no` and not `not_yet`
 abbrev pub is_answer : Answer → Bool
@@ -121,27 +138,30 @@ at_door left trace faults = record { left = left; trace = trace; faults = faults
 
 -- a session at a door, over what is known of its commands and their rows: these lines were heard, each item of theirs has its
 -- reply, and what was done at the door is to tell each reply before the next line was heard
-pub record IsTalk (Ran : List Command → List Row → Type 0) (way : Manner) (ended : Bool) (old new : AtDoor) (lines : List (List ℕ)) (replies : List Reply) : Type 0 where
+pub record IsTalk (Ran : List Command → List Row → Type 0) (way : Telling) (ended : Bool) (old new : AtDoor) (lines : List (List ℕ)) (replies : List Reply) : Type 0 where
   pub came : Loses old.left new.left lines
-  pub done : Grows old.trace new.trace (dialogue way ended (stands outside) 1 lines replies)
+  pub done : Grows old.trace new.trace (dialogue way.manner ended (stands outside) 1 lines replies)
+  pub stood : AreKept way replies
   pub suits : AreReplies (heard_items ended lines) replies
   pub ran : Ran (commands_in (heard_items ended lines)) (rows_in replies)
 
 -- the same, where of the last reply no more was done than this part: its command is among the commands, and its row among the rows
-pub record IsCutTalk (Ran : List Command → List Row → Type 0) (way : Manner) (ended : Bool) (old new : AtDoor) (lines : List (List ℕ)) (replies : List Reply)
+pub record IsCutTalk (Ran : List Command → List Row → Type 0) (way : Telling) (ended : Bool) (old new : AtDoor) (lines : List (List ℕ)) (replies : List Reply)
     (last : Reply) (part : List Deed) : Type 0 where
   pub came : Loses old.left new.left lines
   pub done :
       (before : List Deed)
-      × (dialogue way ended (stands outside) 1 lines (replies ++ last ∷ []) ≡ before ++ deeds_of way last)
+      × (dialogue way.manner ended (stands outside) 1 lines (replies ++ last ∷ []) ≡ before ++ deeds_of way.manner last)
       × Grows old.trace new.trace (before ++ part)
+  pub stood : AreKept way replies
   pub suits : AreReplies (heard_items ended lines) (replies ++ last ∷ [])
   pub ran : Ran (commands_in (heard_items ended lines)) (rows_in (replies ++ last ∷ []))
 
 -- the same, where behind lines that were answered one more was heard, and nothing was done about it
-pub record IsUnanswered (Ran : List Command → List Row → Type 0) (way : Manner) (old new : AtDoor) (lines : List (List ℕ)) (line : List ℕ) (replies : List Reply) : Type 0 where
+pub record IsUnanswered (Ran : List Command → List Row → Type 0) (way : Telling) (old new : AtDoor) (lines : List (List ℕ)) (line : List ℕ) (replies : List Reply) : Type 0 where
   pub came : Loses old.left new.left (lines ++ line ∷ [])
-  pub done : Grows old.trace new.trace (dialogue way false (stands outside) 1 lines replies ++ heard line ∷ [])
+  pub done : Grows old.trace new.trace (dialogue way.manner false (stands outside) 1 lines replies ++ heard line ∷ [])
+  pub stood : AreKept way replies
   pub suits : AreReplies (heard_items false lines) replies
   pub ran : Ran (commands_in (heard_items false lines)) (rows_in replies)
 
@@ -157,7 +177,7 @@ IsFull lines = (length (commands_in (heard_items false lines)) ≡ 2 ^ 32 - 1) �
 -- answered. `Deaf`: the input failed. `Mute`: the output failed within the last reply. `Unkept`: the journal failed before the last
 -- row was told. `Wanting`: memory was wanting to hear a line, to answer the last one or to tell the last reply. `Full`: the last
 -- line has no number, or its command has none
-abbrev pub Talked : (List Command → List Row → Type 0) → Manner → AtDoor → AtDoor → Bool → TalkEnd → Type 0
+abbrev pub Talked : (List Command → List Row → Type 0) → Telling → AtDoor → AtDoor → Bool → TalkEnd → Type 0
 Talked Ran way old new clean Closed =
     (lines : List (List ℕ)) × (replies : List Reply)
     × IsTalk Ran way true old new lines replies × IsAtEnd new.left × (new.faults ≡ old.faults) × (clean ≡ are_clean replies)
@@ -166,7 +186,7 @@ Talked Ran way old new clean Deaf =
     × IsTalk Ran way false old new lines replies × Rose old.faults new.faults × (clean ≡ are_clean replies)
 Talked Ran way old new clean Mute =
     (ended : Bool) × (lines : List (List ℕ)) × (replies : List Reply) × (last : Reply) × (part : List Deed)
-    × IsCutTalk Ran way ended old new lines replies last part × IsCut way last part
+    × IsCutTalk Ran way ended old new lines replies last part × IsCut way.manner last part × IsKept way last
     × Rose old.faults new.faults × (clean ≡ are_clean (replies ++ last ∷ []))
 Talked Ran way old new clean Unkept =
     (ended : Bool) × (lines : List (List ℕ)) × (replies : List Reply) × (last : Reply)

@@ -9,7 +9,6 @@ use Rattle.script_reader.specs.declared.live.Item.{Item}
 use Rattle.script_reader.specs.declared.live.Item.TheVariants.{Asked, Faulty}
 use Rattle.script_reader.specs.Scripts.{outside}
 use Rattle.script_reader.specs.Live.{Reading, stands, live_line, live_end, item_list, place_behind}
-use Rattle.live_session.specs.declared.replies.Manner.{Manner}
 use Rattle.live_session.specs.declared.replies.Reply.{Reply}
 use Rattle.live_session.specs.declared.replies.TalkEnd.{TalkEnd}
 use Rattle.live_session.specs.declared.replies.TalkEnd.TheVariants.{Closed, Deaf, Mute, Unkept, Wanting, Full}
@@ -17,7 +16,7 @@ use Rattle.live_session.specs.declared.replies.Unanswered.{Unanswered}
 use Rattle.live_session.specs.declared.replies.Unanswered.TheVariants.{Memory as no_memory, Full as no_number}
 use Rattle.live_session.specs.declared.talking.Round.{Round}
 use Rattle.live_session.specs.declared.talking.Round.TheVariants.{Goes, Ends}
-use Rattle.live_session.specs.Talks.{AtDoor, IsReply, AreReplies, commands_in, rows_in, deeds_of, told_of, IsCut, IsTalk, is_clean, are_clean}
+use Rattle.live_session.specs.Talks.{Telling, AtDoor, IsKept, AreKept, IsReply, AreReplies, commands_in, rows_in, deeds_of, told_of, IsCut, IsTalk, is_clean, are_clean}
 
 -- what was run goes on by these commands and rows
 abbrev pub Extends : (List Command → List Row → Type 0) → (List Command → List Row → Type 0) → List Command → List Row → Type 0
@@ -46,9 +45,9 @@ abbrev pub Does : AtDoor → AtDoor → List Deed → Type 0
 Does old new deeds = Loses old.left new.left [] × Grows old.trace new.trace deeds
 
 -- a reply is told, or why it is not told whole
-abbrev pub Tells : Manner → Reply → AtDoor → AtDoor → Option TalkEnd → Type 0
-Tells way reply old new None = Does old new (deeds_of way reply) × (new.faults ≡ old.faults)
-Tells way reply old new (Some Mute) = ((part : List Deed) × IsCut way reply part × Does old new part) × Rose old.faults new.faults
+abbrev pub Tells : Telling → Reply → AtDoor → AtDoor → Option TalkEnd → Type 0
+Tells way reply old new None = Does old new (deeds_of way.manner reply) × (new.faults ≡ old.faults) × IsKept way reply
+Tells way reply old new (Some Mute) = ((part : List Deed) × IsCut way.manner reply part × Does old new part) × Rose old.faults new.faults × IsKept way reply
 Tells way reply old new (Some Unkept) = IsQuiet old new
 Tells way reply old new (Some Wanting) = IsQuiet old new
 Tells way reply old new (Some Closed) = ⊥
@@ -79,13 +78,13 @@ pub record IsCutReply (Ran Ran' : List Command → List Row → Type 0) (what : 
   pub does : Does old new part
 
 -- what a line ends is answered and told, if it ends something, or why not; and whether the reply, if there is one, is an answer
-abbrev pub Replies : (List Command → List Row → Type 0) → (List Command → List Row → Type 0) → Manner → Option Item → AtDoor → AtDoor → Bool → Option TalkEnd → Type 0
+abbrev pub Replies : (List Command → List Row → Type 0) → (List Command → List Row → Type 0) → Telling → Option Item → AtDoor → AtDoor → Bool → Option TalkEnd → Type 0
 Replies Ran Ran' way what old new clean None =
     (replies : List Reply)
     × AreReplies (item_list what) replies × Extends Ran Ran' (commands_in (item_list what)) (rows_in replies)
-    × Does old new (told_of way what replies) × (new.faults ≡ old.faults) × (clean ≡ are_clean replies)
+    × Does old new (told_of way.manner what replies) × (new.faults ≡ old.faults) × (clean ≡ are_clean replies) × AreKept way replies
 Replies Ran Ran' way what old new clean (Some Mute) =
-    (reply : Reply) × (part : List Deed) × IsCutReply Ran Ran' what reply old new clean part × IsCut way reply part × Rose old.faults new.faults
+    (reply : Reply) × (part : List Deed) × IsCutReply Ran Ran' what reply old new clean part × IsCut way.manner reply part × Rose old.faults new.faults × IsKept way reply
 Replies Ran Ran' way what old new clean (Some Unkept) = (reply : Reply) × IsCutReply Ran Ran' what reply old new clean [] × (new.faults ≡ old.faults)
 Replies Ran Ran' way what old new clean (Some Wanting) =
     (Remains Ran Ran' × IsQuiet old new × (clean ≡ true))
@@ -112,7 +111,7 @@ IsUnread reading Mute = ⊥
 IsUnread reading Unkept = ⊥
 
 -- a line that was heard is read, answered and told, or how the session ends at it
-abbrev pub Reads : (List Command → List Row → Type 0) → (List Command → List Row → Type 0) → Manner → Reading → List ℕ → AtDoor → AtDoor → Round → Type 0
+abbrev pub Reads : (List Command → List Row → Type 0) → (List Command → List Row → Type 0) → Telling → Reading → List ℕ → AtDoor → AtDoor → Round → Type 0
 Reads Ran Ran' way reading line old new (Goes reader clean) =
     (reader ≡ reading_on reading line) × Replies Ran Ran' way (item_of reading line) old new clean None
 Reads Ran Ran' way reading line old new (Ends end clean) =
@@ -124,14 +123,14 @@ abbrev pub HearsAt : AtDoor → AtDoor → Option (List ℕ) → Type 0
 HearsAt old new got = Hears old.left new.left old.trace new.trace got × (new.faults ≡ old.faults)
 
 -- a round ends the session: at a line, at the input's end, or for want of memory before a line
-abbrev pub Stops : (List Command → List Row → Type 0) → (List Command → List Row → Type 0) → Manner → Reading → AtDoor → AtDoor → TalkEnd → Bool → Type 0
+abbrev pub Stops : (List Command → List Row → Type 0) → (List Command → List Row → Type 0) → Telling → Reading → AtDoor → AtDoor → TalkEnd → Bool → Type 0
 Stops Ran Ran' way reading old new end clean =
     ((line : List ℕ) × (mid : AtDoor) × HearsAt old mid (Some line) × Reads Ran Ran' way reading line mid new (Ends end clean))
     ⊎ ((mid : AtDoor) × HearsAt old mid None × Replies Ran Ran' way (live_end reading.place) mid new clean (Some end))
     ⊎ ((end ≡ Wanting) × Remains Ran Ran' × IsQuiet old new × (clean ≡ true))
 
 -- one round of a session: a line is heard, read, answered and told
-abbrev pub Rounds : (List Command → List Row → Type 0) → (List Command → List Row → Type 0) → Manner → Reading → AtDoor → AtDoor → Round → Type 0
+abbrev pub Rounds : (List Command → List Row → Type 0) → (List Command → List Row → Type 0) → Telling → Reading → AtDoor → AtDoor → Round → Type 0
 Rounds Ran Ran' way reading old new (Goes reader clean) =
     (line : List ℕ) × (mid : AtDoor) × HearsAt old mid (Some line) × Reads Ran Ran' way reading line mid new (Goes reader clean)
 Rounds Ran Ran' way reading old new (Ends Closed clean) =
@@ -140,7 +139,7 @@ Rounds Ran Ran' way reading old new (Ends Deaf clean) = Remains Ran Ran' × Does
 Rounds Ran Ran' way reading old new (Ends end clean) = Stops Ran Ran' way reading old new end clean
 
 -- the rounds so far: all lines that were heard are read, answered and told
-pub record IsTalking (Ran : List Command → List Row → Type 0) (way : Manner) (old new : AtDoor) (lines : List (List ℕ)) (replies : List Reply) (reading : Reading) (clean : Bool) : Type 0 where
+pub record IsTalking (Ran : List Command → List Row → Type 0) (way : Telling) (old new : AtDoor) (lines : List (List ℕ)) (replies : List Reply) (reading : Reading) (clean : Bool) : Type 0 where
   pub clean_is : clean ≡ are_clean replies
   pub talk : IsTalk Ran way false old new lines replies
   pub place : reading.place ≡ place_behind (stands outside) 1 lines

@@ -8,6 +8,6 @@ mod moments;
 mod replies;
 mod talking;
 
-pub use moments::{answered_before_heard, each_moment, marked_before_said};
+pub use moments::{answered_before_heard, cut_within_the_last, each_moment, marked_before_said};
 pub use replies::{Answering, Manner, Outcome, Reply, TalkEnd, Unanswered, Untold};
 pub use talking::talk;

@@ -1,6 +1,6 @@
 //! What a session replies, and what it asks of the session behind it.
 
-ghost use Rattle.std.specs.Prelude.{◌≡◌, List, [], ◌∷◌, true};
+ghost use Rattle.std.specs.Prelude.{◌≡◌, ℕ, OnOk, List, [], ◌∷◌, true};
 ghost use Rattle.timing_defs.specs.declared.scripts.Command.{Command};
 ghost use Rattle.timing_defs.specs.declared.scripts.Row.{Row};
 ghost use Rattle.live_session.specs.Answerable.{CanBeAnswered};
@@ -73,6 +73,9 @@ pub trait Answering {
     /// These commands were answered by these rows, in order.
     ghost ran: { Self → List Command → List Row → Type 0 };
 
+    /// What is known of a number that was kept: all entries up to it stand in the journal.
+    ghost stands: { ℕ → Type 0 };
+
     /// Answers the next command.
     ///
     /// # Errors
@@ -88,5 +91,6 @@ pub trait Answering {
     /// # Errors
     ///
     /// What kept it from that.
-    fn keep(&self, alloc: Global, number: u64) -> Result<(), Untold>;
+    fn keep(&self, alloc: Global, number: u64) -> Result<(), Untold>
+        ensures { OnOk result (stands number) };
 }

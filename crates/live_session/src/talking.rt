@@ -6,7 +6,7 @@ ghost use Rattle.timing_defs.specs.declared.scripts.Row.{Row};
 ghost use Rattle.script_reader.specs.Live.{beginning};
 ghost use Rattle.live_session.specs.Answerable.{CanBeAnswered};
 ghost use Rattle.live_doors.specs.Doors.{Grows, Loses};
-ghost use Rattle.live_session.specs.Talks.{Talked, at_door, reply_text, marks_of, is_clean};
+ghost use Rattle.live_session.specs.Talks.{Talked, at_door, telling, reply_text, marks_of, is_clean, IsKept};
 ghost use Rattle.live_session.specs.Turns.{Tells, Answers, Replies, Reads, Rounds};
 
 use crate::replies::{Answering, Manner, Outcome, Reply, TalkEnd, Unanswered, Untold};
@@ -38,6 +38,7 @@ fn mark<D: Door, S: Answering>(
 ) -> Result<(), Untold>
     ensures quiet { (Loses (D.left door.old) (D.left door.new) []) × (D.faults door.new ≡ D.faults door.old) }
     ensures marked { OnOk result (Grows (D.trace door.old) (D.trace door.new) (marks_of manner.now.keeps reply.now)) }
+    ensures kept { OnOk result (IsKept (telling S.stands manner.now) reply.now) }
     ensures unmarked { OnErr result (Grows (D.trace door.old) (D.trace door.new) []) }
 {
     match reply {
@@ -61,7 +62,7 @@ fn tell<D: Door, S: Answering>(
     manner: &Manner,
     reply: &Reply,
 ) -> Option<TalkEnd>
-    ensures { Tells manner.now reply.now (at_door (D.left door.old) (D.trace door.old) (D.faults door.old)) (at_door (D.left door.new) (D.trace door.new) (D.faults door.new)) result }
+    ensures { Tells (telling S.stands manner.now) reply.now (at_door (D.left door.old) (D.trace door.old) (D.faults door.old)) (at_door (D.left door.new) (D.trace door.new) (D.faults door.new)) result }
 {
     match reply_bytes(alloc, manner, reply) {
         Ok(text) => match mark(alloc, door, session, manner, reply) {
@@ -126,7 +127,7 @@ fn reply_to<D: Door, S: Answering>(
 ) -> Told
     requires able { (before : List Command) × (rows : List Row) × S.ran session.old before rows }
     requires item { IfSome item CanBeAnswered }
-    ensures { Replies (S.ran session.old) (S.ran session.new) manner.now item (at_door (D.left door.old) (D.trace door.old) (D.faults door.old)) (at_door (D.left door.new) (D.trace door.new) (D.faults door.new)) result.clean result.end }
+    ensures { Replies (S.ran session.old) (S.ran session.new) (telling S.stands manner.now) item (at_door (D.left door.old) (D.trace door.old) (D.faults door.old)) (at_door (D.left door.new) (D.trace door.new) (D.faults door.new)) result.clean result.end }
 {
     match item {
         None => Told {
@@ -165,7 +166,7 @@ fn read_line<D: Door, S: Answering>(
     line: Vec<u8>,
 ) -> Round
     requires able { (before : List Command) × (rows : List Row) × S.ran session.old before rows }
-    ensures { Reads (S.ran session.old) (S.ran session.new) manner.now reader line.items (at_door (D.left door.old) (D.trace door.old) (D.faults door.old)) (at_door (D.left door.new) (D.trace door.new) (D.faults door.new)) result }
+    ensures { Reads (S.ran session.old) (S.ran session.new) (telling S.stands manner.now) reader line.items (at_door (D.left door.old) (D.trace door.old) (D.faults door.old)) (at_door (D.left door.new) (D.trace door.new) (D.faults door.new)) result }
 {
     let read = reader.line(alloc, &line);
     drop(line);
@@ -200,7 +201,7 @@ fn hear_next<D: Door, S: Answering>(
     reader: LiveReader,
 ) -> Round
     requires able { (before : List Command) × (rows : List Row) × S.ran session.old before rows }
-    ensures { Rounds (S.ran session.old) (S.ran session.new) manner.now reader (at_door (D.left door.old) (D.trace door.old) (D.faults door.old)) (at_door (D.left door.new) (D.trace door.new) (D.faults door.new)) result }
+    ensures { Rounds (S.ran session.old) (S.ran session.new) (telling S.stands manner.now) reader (at_door (D.left door.old) (D.trace door.old) (D.faults door.old)) (at_door (D.left door.new) (D.trace door.new) (D.faults door.new)) result }
 {
     match door.hear(alloc) {
         Ok(Some(line)) => read_line(alloc, door, session, manner, reader, line),
@@ -246,7 +247,7 @@ pub fn talk<H: Wait, D: Door, S: Answering>(
     manner: &Manner,
 ) -> Outcome
     requires { S.ran session.old [] [] }
-    ensures { Talked (S.ran session.new) manner.now (at_door (D.left door.old) (D.trace door.old) (D.faults door.old)) (at_door (D.left door.new) (D.trace door.new) (D.faults door.new)) result.clean result.end }
+    ensures { Talked (S.ran session.new) (telling S.stands manner.now) (at_door (D.left door.old) (D.trace door.old) (D.faults door.old)) (at_door (D.left door.new) (D.trace door.new) (D.faults door.new)) result.clean result.end }
 {
     let mut reader = LiveReader::new();
     let mut clean = true;

@@ -1,7 +1,7 @@
 use Rattle.std.proofs.Common.{rules, subst, sym}
 use Rattle.std.specs.Prelude.{IfSome, None, Some}
 use Rattle.live_session.specs.Answerable.{CanBeAnswered}
-use Rattle.live_session.specs.Talks.{at_door}
+use Rattle.live_session.specs.Talks.{at_door, telling}
 use Rattle.live_session.specs.Turns.{Replies}
 use Rattle.live_session.proofs.TurnLaws.{line_round, end_round, end_runs}
 use Rattle.live_session.proofs.talking.hear_next.Goals as goal
@@ -11,7 +11,7 @@ reply_to-requires-clause-item g c = subst (λ what. IfSome what CanBeAnswered) (
 
 pub returns-in-Ok-Some : goal.returns-in-Ok-Some
 returns-in-Ok-Some g c =
-    line_round (g.S.Answering.ran c.args.session.now) (g.S.Answering.ran c.read_line.new.session) c.args.manner.now c.args.reader c.in-Ok-Some.line.items
+    line_round (g.S.Answering.ran c.args.session.now) (g.S.Answering.ran c.read_line.new.session) (telling g.S.Answering.stands c.args.manner.now) c.args.reader c.in-Ok-Some.line.items
     (at_door (g.D.Door.left c.args.door.now) (g.D.Door.trace c.args.door.now) (g.D.Door.faults c.args.door.now))
     (at_door (g.D.Door.left c.hear.new.self) (g.D.Door.trace c.hear.new.self) (g.D.Door.faults c.hear.new.self))
     (at_door (g.D.Door.left c.read_line.new.door) (g.D.Door.trace c.read_line.new.door) (g.D.Door.faults c.read_line.new.door))
@@ -26,7 +26,7 @@ returns-in-None g c = (
 
 pub returns-in-Some : goal.returns-in-Some
 returns-in-Some g c =
-    end_round (g.S.Answering.ran c.args.session.now) (g.S.Answering.ran c.reply_to.new.session) c.args.manner.now c.args.reader
+    end_round (g.S.Answering.ran c.args.session.now) (g.S.Answering.ran c.reply_to.new.session) (telling g.S.Answering.stands c.args.manner.now) c.args.reader
     (at_door (g.D.Door.left c.args.door.now) (g.D.Door.trace c.args.door.now) (g.D.Door.faults c.args.door.now))
     (at_door (g.D.Door.left c.hear.new.self) (g.D.Door.trace c.hear.new.self) (g.D.Door.faults c.hear.new.self))
     (at_door (g.D.Door.left c.reply_to.new.door) (g.D.Door.trace c.reply_to.new.door) (g.D.Door.faults c.reply_to.new.door))
