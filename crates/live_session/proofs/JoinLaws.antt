@@ -279,18 +279,19 @@ module _ (Ran Ran' : List Command → List Row → Type 0) (way : Telling) (old 
   talked Mute answered (inr (inl (mid, hears, (reply, part, c, cut, r, kept)))) =
       (true, lines, replies, reply, part, cut_end mid hears reply answered part c, cut, kept, rose mid hears.1 r, clean_last answered reply c.clean_is)
   talked Mute answered (inr (inr (is, e, q, k))) = absurd (cc)
-  talked Unkept answered (inl (line, mid, hears, inl (reply, c, same))) = (
+  talked Unkept answered (inl (line, mid, hears, inl (reply, c, keeps, same))) = (
     false,
     lines ++ line ∷ [],
     replies,
     reply,
     cut_on line mid hears reply answered [] c,
+    keeps,
     stayed mid hears.1 same,
     clean_last answered reply c.clean_is,
   )
   talked Unkept answered (inl (line, mid, hears, inr (e, q, u, k))) = absurd u
-  talked Unkept answered (inr (inl (mid, hears, (reply, c, same)))) =
-      (true, lines, replies, reply, cut_end mid hears reply answered [] c, stayed mid hears.1 same, clean_last answered reply c.clean_is)
+  talked Unkept answered (inr (inl (mid, hears, (reply, c, keeps, same)))) =
+      (true, lines, replies, reply, cut_end mid hears reply answered [] c, keeps, stayed mid hears.1 same, clean_last answered reply c.clean_is)
   talked Unkept answered (inr (inr (is, e, q, k))) = absurd (cc)
   talked Wanting answered (inl (line, mid, hears, inl (inl (e, q, k)))) =
       (inr (inl (lines, line, replies, unanswered line mid hears e q, clean_same answered k)), stayed mid hears.1 q.2)

@@ -50,7 +50,7 @@ module _ (Ran Ran' : List Command → List Row → Type 0) (way : Telling) where
   replied item reply old new (Some Mute) a t =
       (reply, t.0.0, record { clean_is = refl; suits = (a.0, tt); runs = a.1; does = t.0.2 }, t.0.1, t.1, t.2)
   replied item reply old new (Some Unkept) a t =
-      (reply, record { clean_is = refl; suits = (a.0, tt); runs = a.1; does = (t.0, t.1) }, t.2)
+      (reply, record { clean_is = refl; suits = (a.0, tt); runs = a.1; does = (t.0.0, t.0.1) }, t.1, t.0.2)
   replied item reply old new (Some Wanting) a t =
       inr (reply, record { clean_is = refl; suits = (a.0, tt); runs = a.1; does = (t.0, t.1) }, t.2)
   replied item reply old new (Some Closed) a t = absurd t

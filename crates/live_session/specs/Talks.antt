@@ -190,7 +190,7 @@ Talked Ran way old new clean Mute =
     × Rose old.faults new.faults × (clean ≡ are_clean (replies ++ last ∷ []))
 Talked Ran way old new clean Unkept =
     (ended : Bool) × (lines : List (List ℕ)) × (replies : List Reply) × (last : Reply)
-    × IsCutTalk Ran way ended old new lines replies last []
+    × IsCutTalk Ran way ended old new lines replies last [] × (way.manner.keeps ≡ true)
     × (new.faults ≡ old.faults) × (clean ≡ are_clean (replies ++ last ∷ []))
 Talked Ran way old new clean Wanting =
     (((lines : List (List ℕ)) × (replies : List Reply) × IsTalk Ran way false old new lines replies × (clean ≡ are_clean replies))

@@ -48,7 +48,7 @@ Does old new deeds = Loses old.left new.left [] × Grows old.trace new.trace dee
 abbrev pub Tells : Telling → Reply → AtDoor → AtDoor → Option TalkEnd → Type 0
 Tells way reply old new None = Does old new (deeds_of way.manner reply) × (new.faults ≡ old.faults) × IsKept way reply
 Tells way reply old new (Some Mute) = ((part : List Deed) × IsCut way.manner reply part × Does old new part) × Rose old.faults new.faults × IsKept way reply
-Tells way reply old new (Some Unkept) = IsQuiet old new
+Tells way reply old new (Some Unkept) = IsQuiet old new × (way.manner.keeps ≡ true)
 Tells way reply old new (Some Wanting) = IsQuiet old new
 Tells way reply old new (Some Closed) = ⊥
 Tells way reply old new (Some Deaf) = ⊥
@@ -85,7 +85,8 @@ Replies Ran Ran' way what old new clean None =
     × Does old new (told_of way.manner what replies) × (new.faults ≡ old.faults) × (clean ≡ are_clean replies) × AreKept way replies
 Replies Ran Ran' way what old new clean (Some Mute) =
     (reply : Reply) × (part : List Deed) × IsCutReply Ran Ran' what reply old new clean part × IsCut way.manner reply part × Rose old.faults new.faults × IsKept way reply
-Replies Ran Ran' way what old new clean (Some Unkept) = (reply : Reply) × IsCutReply Ran Ran' what reply old new clean [] × (new.faults ≡ old.faults)
+Replies Ran Ran' way what old new clean (Some Unkept) =
+    (reply : Reply) × IsCutReply Ran Ran' what reply old new clean [] × (way.manner.keeps ≡ true) × (new.faults ≡ old.faults)
 Replies Ran Ran' way what old new clean (Some Wanting) =
     (Remains Ran Ran' × IsQuiet old new × (clean ≡ true))
     ⊎ ((reply : Reply) × IsCutReply Ran Ran' what reply old new clean [] × (new.faults ≡ old.faults))

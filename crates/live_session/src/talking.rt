@@ -39,6 +39,7 @@ fn mark<D: Door, S: Answering>(
     ensures quiet { (Loses (D.left door.old) (D.left door.new) []) × (D.faults door.new ≡ D.faults door.old) }
     ensures marked { OnOk result (Grows (D.trace door.old) (D.trace door.new) (marks_of manner.now.keeps reply.now)) }
     ensures kept { OnOk result (IsKept (telling S.stands manner.now) reply.now) }
+    ensures journal { OnErr result (manner.now.keeps ≡ true) }
     ensures unmarked { OnErr result (Grows (D.trace door.old) (D.trace door.new) []) }
 {
     match reply {

@@ -47,8 +47,10 @@ fn heard<'a>(lines: &'a str, story: &'a str, clean: bool) -> Case<'a> {
 
 #[test]
 fn each_line_is_answered_before_the_next(rt: HostRuntime) {
-    let lines = "take\n# a comment\n\nrepower_gate g1 INV_X2\nbegin_eco\nrepower_gate g1 INV_X1\ncommit_eco\nreport_wns setup";
-    let told = "< take\nkept 0\n1 0 taken\n< # a comment\n< \n< repower_gate g1 INV_X2\nkept 1\n2 1 accepted\n< begin_eco\n< repower_gate g1 INV_X1\n< commit_eco\nkept 2\n3 2 accepted\n< report_wns setup\nkept 2\n4 2 taken\n";
+    let lines =
+        "take\n# a comment\n\nrepower_gate g1 INV_X2\nbegin_eco\nrepower_gate g1 INV_X1\ncommit_eco\nreport_wns setup";
+    let told =
+        "< take\nkept 0\n1 0 taken\n< # a comment\n< \n< repower_gate g1 INV_X2\nkept 1\n2 1 accepted\n< begin_eco\n< repower_gate g1 INV_X1\n< commit_eco\nkept 2\n3 2 accepted\n< report_wns setup\nkept 2\n4 2 taken\n";
     assert_case(&rt, rt.alloc(), &heard(lines, told, true));
 }
 
@@ -68,14 +70,20 @@ fn without_a_journal_nothing_is_kept(rt: HostRuntime) {
 
 #[test]
 fn a_row_that_is_no_answer_is_counted(rt: HostRuntime) {
-    let told = "< take\nkept 0\n1 0 taken\n< await 9 2\nkept 0\n2 0 not_yet 0\n< take\nkept 0\n3 0 taken\n";
-    assert_case(&rt, rt.alloc(), &heard("take\nawait 9 2\ntake", told, false));
+    let told =
+        "< take\nkept 0\n1 0 taken\n< await 9 2\nkept 0\n2 0 not_yet 0\n< take\nkept 0\n3 0 taken\n";
+    assert_case(
+        &rt,
+        rt.alloc(),
+        &heard("take\nawait 9 2\ntake", told, false),
+    );
 }
 
 #[test]
 fn a_wrong_line_is_told_and_the_rest_of_its_group_passed_over(rt: HostRuntime) {
     let lines = "begin_eco\nnonsense\nrepower_gate g1 INV_X1\ncommit_eco\ntake";
-    let told = "< begin_eco\n< nonsense\nerror C1 2\n< repower_gate g1 INV_X1\n< commit_eco\n< take\nkept 0\n1 0 taken\n";
+    let told =
+        "< begin_eco\n< nonsense\nerror C1 2\n< repower_gate g1 INV_X1\n< commit_eco\n< take\nkept 0\n1 0 taken\n";
     assert_case(&rt, rt.alloc(), &heard(lines, told, false));
 }
 
@@ -100,10 +108,34 @@ fn assert_fault<R: Wait + Abort>(rt: &R, alloc: Global, fails: u64, told: &str, 
 fn each_call_of_the_door_fails_in_turn(rt: HostRuntime) {
     assert_fault(&rt, rt.alloc(), 1, "", TalkEnd::Deaf);
     assert_fault(&rt, rt.alloc(), 2, "< take\nkept 0\n1 0 t", TalkEnd::Mute);
-    assert_fault(&rt, rt.alloc(), 3, "< take\nkept 0\n1 0 taken\n", TalkEnd::Deaf);
-    assert_fault(&rt, rt.alloc(), 4, "< take\nkept 0\n1 0 taken\n< take\nkept 0\n2 0 t", TalkEnd::Mute);
-    assert_fault(&rt, rt.alloc(), 5, "< take\nkept 0\n1 0 taken\n< take\nkept 0\n2 0 taken\n", TalkEnd::Deaf);
-    assert_fault(&rt, rt.alloc(), 6, "< take\nkept 0\n1 0 taken\n< take\nkept 0\n2 0 taken\n", TalkEnd::Closed);
+    assert_fault(
+        &rt,
+        rt.alloc(),
+        3,
+        "< take\nkept 0\n1 0 taken\n",
+        TalkEnd::Deaf,
+    );
+    assert_fault(
+        &rt,
+        rt.alloc(),
+        4,
+        "< take\nkept 0\n1 0 taken\n< take\nkept 0\n2 0 t",
+        TalkEnd::Mute,
+    );
+    assert_fault(
+        &rt,
+        rt.alloc(),
+        5,
+        "< take\nkept 0\n1 0 taken\n< take\nkept 0\n2 0 taken\n",
+        TalkEnd::Deaf,
+    );
+    assert_fault(
+        &rt,
+        rt.alloc(),
+        6,
+        "< take\nkept 0\n1 0 taken\n< take\nkept 0\n2 0 taken\n",
+        TalkEnd::Closed,
+    );
 }
 
 #[test]
@@ -125,7 +157,11 @@ fn want_of_memory_ends_the_session(rt: HostRuntime) {
     let case = Case {
         answers: 1,
         end: TalkEnd::Wanting,
-        ..heard("take\ntake\ntake", "< take\nkept 0\n1 0 taken\n< take\n", true)
+        ..heard(
+            "take\ntake\ntake",
+            "< take\nkept 0\n1 0 taken\n< take\n",
+            true,
+        )
     };
     assert_case(&rt, rt.alloc(), &case);
 }
