@@ -34,6 +34,7 @@ mod netlists;
 mod parasitics;
 mod rows;
 mod scripts;
+mod sessions;
 mod texts;
 mod tokens;
 mod trees;

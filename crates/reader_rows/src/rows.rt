@@ -8,6 +8,8 @@
 //! - `netlist`, `parasitics`;
 //! - `constraints-ps`, `constraints-ns`: constraints in fF and in ps or ns;
 //! - `script`, `commands`: a script, by its commands or by their count;
+//! - `session`, `session-counts`: a session that is read line by line, by its items, or by its errors and the count of
+//!   its commands;
 //! - `journal`, `saved`, `saved-scaled`: a journal, and a saved one under derates that change nothing or some;
 //! - `edits`, `edit-count`, `block`: edits, written as an entry, counted, or written as a block.
 
@@ -21,6 +23,7 @@ use crate::names::answer_names;
 use crate::netlists::answer_netlist;
 use crate::parasitics::answer_parasitics;
 use crate::scripts::{answer_script, count_commands};
+use crate::sessions::{answer_session, count_session};
 use crate::texts::Text;
 use crate::tokens::answer_tokens;
 use crate::trees::{answer_statements, answer_tree};
@@ -42,6 +45,8 @@ enum Reader {
     Constraints { time: i32 },
     Script,
     Commands,
+    Session,
+    SessionCounts,
     Journal,
     Saved { scaled: bool },
     Edits,
@@ -59,6 +64,8 @@ fn reader_of(word: &str) -> Option<Reader> {
         "constraints-ns" => Some(Reader::Constraints { time: 6 }),
         "script" => Some(Reader::Script),
         "commands" => Some(Reader::Commands),
+        "session" => Some(Reader::Session),
+        "session-counts" => Some(Reader::SessionCounts),
         _ => match journal_reader(word) {
             None => liberty_reader(word),
             found => found,
@@ -118,6 +125,8 @@ fn answer(alloc: Global, reader: Reader, document: &[u8], out: &mut Text) {
         Reader::Constraints { time } => answer_constraints(alloc, time, document, out),
         Reader::Script => answer_script(alloc, document, out),
         Reader::Commands => count_commands(alloc, document, out),
+        Reader::Session => answer_session(alloc, document, out),
+        Reader::SessionCounts => count_session(alloc, document, out),
         Reader::Journal => answer_journal(alloc, document, out),
         Reader::Saved { scaled: true } => answer_saved(alloc, &scaled(), document, out),
         Reader::Saved { scaled: false } => answer_saved(alloc, &Derates::none(), document, out),

@@ -134,7 +134,8 @@ fn show_trials(query: &Query, out: &mut Text) {
     }
 }
 
-fn show_command(command: &Command, out: &mut Text) {
+/// Writes a command.
+pub(crate) fn show_command(command: &Command, out: &mut Text) {
     match command {
         Command::Take => out.add(b"take\n"),
         Command::Await { number, looks } => {

@@ -1,9 +1,11 @@
 -- The items of a session's lines, and the commands of a script.
 use Rattle.std.proofs.Common.{◌≡◌, ℕ, ◌+◌, ◌≤◌, ◌<◌, Bool, true, false, List, [], ◌∷◌, ◌++◌, length, map, cond, refl, ap, sym, ◌∙◌, arith, inl, inr, append_assoc, add-zero, length-append}
-use Rattle.std.specs.Prelude.{Option, Some, None, Result, Ok, Err, nat_le, codes}
+use Rattle.std.specs.Prelude.{Option, Some, None, Result, Ok, Err, nat_le, nat_lt, codes, ◌==◌}
 use Rattle.std.specs.List.{list_all}
-use Rattle.std.proofs.lemmas.Bool.{cases_Bool, cond_both, lt-leb}
+use Rattle.std.proofs.lemmas.Bool.{cases_Bool, cond_both, lt-leb, le-ltb}
+use Rattle.std.proofs.Math.Bool.{and-false}
 use Rattle.std.proofs.lemmas.Bool.Decides.{nat_tests}
+use Rattle.timing_defs.specs.declared.codes.Code.TheVariants.{ScriptBadCommand}
 use Rattle.timing_defs.specs.declared.codes.ReadFault.{ReadFault}
 use Rattle.timing_defs.specs.declared.edits.Edit.{Edit}
 use Rattle.timing_defs.specs.declared.reports.Query.{Query}
@@ -14,11 +16,12 @@ use Rattle.timing_defs.specs.declared.scripts.Command.TheVariants.{Ask}
 use Rattle.timing_defs.specs.declared.scripts.Script.{Script}
 use Rattle.timing_defs.specs.Documents.{is_plain}
 use Rattle.sta_text.specs.declared.faults.Wrong.{Wrong}
-use Rattle.sta_text.specs.Faults.{least_from}
+use Rattle.sta_text.specs.Faults.{least_from, told_fault}
 use Rattle.sta_text.proofs.FaultsLemmas.{least_none}
 use Rattle.eco_journal.specs.declared.stops.Stop.{Stop}
 use Rattle.eco_journal.specs.Lines.{Part, cut_lines, placed, lines_of}
 use Rattle.eco_journal.specs.EditLines.{edit_of}
+use Rattle.script_reader.proofs.ProgressLemmas.{none_more}
 use Rattle.script_reader.specs.declared.live.Item.{Item}
 use Rattle.script_reader.specs.declared.live.Item.TheVariants.{Asked, Faulty}
 use Rattle.script_reader.specs.Commands.{words_in, command_of}
@@ -74,15 +77,30 @@ Fits count (tried begin trials group edits) = count < 10000
 abbrev IsLimit : ℕ → Place → List Wrong → Type 0
 IsLimit count place limit = (count < 10000 → limit ≡ []) × (limit ≡ [] → Fits count place → count < 10000)
 
--- what a line makes of a place, of the faults and of the commands of a script whose other events are these
-data Stepping (count : ℕ) (place : Place) (b : Behind) (fs : List Wrong) (cs : List Command) (rest : List Event) : Type 0 where
-  quiet : b ≡ goes_on (stands place) → fs ≡ faults count place rest → cs ≡ commands place rest → Stepping count place b fs cs rest
-  goes : (next : Place) (limit : List Wrong) → IsLimit count place limit → IsOpen next → b ≡ goes_on (stands next)
-      → fs ≡ limit ++ faults count next rest → cs ≡ commands next rest → Stepping count place b fs cs rest
+-- what stands open at a line begins before it, and a group of a draft behind the draft
+abbrev Stands : ℕ → Place → Type 0
+Stands n outside = Unit {0}
+Stands n (inside begin edits) = Unit {0}
+Stands n (drafted begin trials) = begin ≤ n
+Stands n (tried begin trials group edits) = (begin ≤ group) × (begin ≤ n)
+
+-- nothing is looked at behind a line that may not stand in its place
+abbrev IsAlone : Wrong → List Wrong → Type 0
+IsAlone wrong others = wrong.code ≡ ScriptBadCommand → others ≡ []
+
+-- what line n makes of a place, of the faults and of the commands of a script whose other events are these
+data Stepping (n count : ℕ) (place : Place) (b : Behind) (fs : List Wrong) (cs : List Command) (rest : List Event) : Type 0 where
+  quiet : b ≡ goes_on (stands place) → fs ≡ faults count place rest → cs ≡ commands place rest → Stepping n count place b fs cs rest
+  goes : (next : Place) (limit : List Wrong) → IsLimit count place limit → IsOpen next → (Stands n place → Stands n next)
+      → b ≡ goes_on (stands next) → fs ≡ limit ++ faults count next rest → cs ≡ commands next rest → Stepping n count place b fs cs rest
   ends : (command : Command) (limit : List Wrong) → IsLimit count place limit → b ≡ asks command
-      → fs ≡ limit ++ faults (count + 1) outside rest → cs ≡ command ∷ commands outside rest → Stepping count place b fs cs rest
-  stops : (next : LivePlace) (wrong : Wrong) (others : List Wrong) → b ≡ fails next wrong
-      → fs ≡ wrong ∷ others → Stepping count place b fs cs rest
+      → fs ≡ limit ++ faults (count + 1) outside rest → cs ≡ command ∷ commands outside rest → Stepping n count place b fs cs rest
+  stops : (next : LivePlace) (wrong : Wrong) (others : List Wrong) → IsAlone wrong others → b ≡ fails next wrong
+      → fs ≡ wrong ∷ others → Stepping n count place b fs cs rest
+
+-- C2 is another code
+excess_alone : (n : ℕ) (others : List Wrong) → IsAlone (excess n) others
+excess_alone n others same = absurd (cc)
 
 below : (count n : ℕ) → behind 10000 count n ≡ [] → count < 10000
 below count n none = elim (cases_Bool (nat_le 10000 count)) [
@@ -102,117 +120,135 @@ uncounted count (drafted begin trials) opened = (λ few. refl, λ none fits. fit
 uncounted count (tried begin trials group edits) opened = (λ few. refl, λ none fits. fits)
 
 -- one more where there is room
-room : (most before n count : ℕ) (place next : Place) (b : Behind) (fs : List Wrong) (cs : List Command) (rest : List Event)
-    → IsOpen place → IsOpen next → b ≡ if_room most before n place next → fs ≡ behind most before n ++ faults count next rest
-    → cs ≡ commands next rest → Stepping count place b fs cs rest
-room most before n count place next b fs cs rest here opened live fault said = elim (cases_Bool (nat_le most before)) [
-  | inl hit ↦ stops (given_up place) (excess n) (faults count next rest)
-      (live ∙ ap (λ (full : Bool). cond full (crowded place n) (goes_on (stands next))) hit)
-      (fault ∙ ap (λ (full : Bool). cond full (excess n ∷ []) [] ++ faults count next rest) hit)
-  | inr miss ↦ goes next [] (uncounted count place here) opened
-      (live ∙ ap (λ (full : Bool). cond full (crowded place n) (goes_on (stands next))) miss)
-      (fault ∙ ap (λ (full : Bool). cond full (excess n ∷ []) [] ++ faults count next rest) miss)
+room : (n most before count : ℕ) (place next : Place) (b : Behind) (fs : List Wrong) (cs : List Command) (rest : List Event)
+    → IsOpen place → IsOpen next → (Stands n place → Stands n next) → (m : ℕ)
+    → b ≡ if_room most before m place next → fs ≡ behind most before m ++ faults count next rest
+    → cs ≡ commands next rest → Stepping n count place b fs cs rest
+room n most before count place next b fs cs rest here opened stood m live fault said = elim (cases_Bool (nat_le most before)) [
+  | inl hit ↦ stops (given_up place) (excess m) (faults count next rest) (excess_alone m (faults count next rest))
+      (live ∙ ap (λ (full : Bool). cond full (crowded place m) (goes_on (stands next))) hit)
+      (fault ∙ ap (λ (full : Bool). cond full (excess m ∷ []) [] ++ faults count next rest) hit)
+  | inr miss ↦ goes next [] (uncounted count place here) opened stood
+      (live ∙ ap (λ (full : Bool). cond full (crowded place m) (goes_on (stands next))) miss)
+      (fault ∙ ap (λ (full : Bool). cond full (excess m ∷ []) [] ++ faults count next rest) miss)
       said
 ]
 
--- an event at a place, before others
-abbrev Steps : ℕ → Place → Event → List Event → Type 0
-Steps count place e rest = Stepping count place (live_event (stands place) e) (faults count place (e ∷ rest)) (commands place (e ∷ rest)) rest
+-- an event of line n at a place, before others
+abbrev Steps : ℕ → ℕ → Place → Event → List Event → Type 0
+Steps n count place e rest = Stepping n count place (live_event (stands place) e) (faults count place (e ∷ rest)) (commands place (e ∷ rest)) rest
 
 -- a question in a draft
-question : (count begin : ℕ) (trials : List Trial) (n : ℕ) (q : Query) (rest : List Event) → Steps count (drafted begin trials) (single n (Ask q)) rest
+question : (n count begin : ℕ) (trials : List Trial) (m : ℕ) (q : Query) (rest : List Event) → Steps n count (drafted begin trials) (single m (Ask q)) rest
 unfolding commands faults
-question count begin trials n q rest = elim (cases_Bool (is_plain q)) [
-  | inl hit ↦ room 100 (length trials) n count (drafted begin trials) (drafted begin (trials ++ ask_draft q ∷ [])) _ _ _ rest tt tt
+question n count begin trials m q rest = elim (cases_Bool (is_plain q)) [
+  | inl hit ↦ room n 100 (length trials) count (drafted begin trials) (drafted begin (trials ++ ask_draft q ∷ [])) _ _ _ rest tt tt (λ s. s) m
       (rw hit refl) (rw hit refl) (rw hit refl)
-  | inr miss ↦ stops passing_draft (bad n) [] (rw miss refl) (rw miss refl)
+  | inr miss ↦ stops passing_draft (bad m) [] (λ _. refl) (rw miss refl) (rw miss refl)
 ]
 
-step : (count : ℕ) (place : Place) (e : Event) (rest : List Event) → Steps count place e rest
+step : (n count : ℕ) (place : Place) (e : Event) (rest : List Event) → line_of e ≡ n → Steps n count place e rest
 unfolding commands faults
-step count outside (long n) rest = stops (stands outside) (excess n) (faults count outside rest) refl refl
-step count outside (single n c) rest = ends c (behind 10000 count n) (counted count n) refl refl refl
-step count outside (change n e) rest = ends (eco (e ∷ [])) (behind 10000 count n) (counted count n) refl refl refl
-step count outside (group_begin n) rest = goes (inside n []) (behind 10000 count n) (counted count n) tt refl refl refl
-step count outside (draft_begin n) rest = goes (drafted n []) (behind 10000 count n) (counted count n) tt refl refl refl
-step count outside e rest = stops (stands outside) (bad (line_of e)) [] refl refl
-step count (inside begin edits) (long n) rest = stops passing_eco (excess n) (faults count (inside begin edits) rest) refl refl
-step count (inside begin edits) (change n e) rest =
-    room 1000 (length edits) n count (inside begin edits) (inside begin (edits ++ e ∷ [])) _ _ _ rest tt tt refl refl refl
-step count (inside begin []) (group_end n) rest = stops (stands outside) (bad begin) [] refl refl
-step count (inside begin (x ∷ xs)) (group_end n) rest = ends (eco (x ∷ xs)) [] (uncounted count (inside begin (x ∷ xs)) tt) refl refl refl
-step count (inside begin edits) e rest = stops passing_eco (bad (line_of e)) [] refl refl
-step count (drafted begin trials) (long n) rest = stops passing_draft (excess n) (faults count (drafted begin trials) rest) refl refl
-step count (drafted begin trials) (single n (Ask q)) rest = question count begin trials n q rest
-step count (drafted begin trials) (change n e) rest =
-    room 100 (length trials) n count (drafted begin trials) (drafted begin (trials ++ trial (e ∷ []) ∷ [])) _ _ _ rest tt tt refl refl refl
-step count (drafted begin trials) (dropped n) rest =
-    room 100 (length trials) n count (drafted begin trials) (drafted begin (trials ++ Drop ∷ [])) _ _ _ rest tt tt refl refl refl
-step count (drafted begin trials) (group_begin n) rest =
-    room 100 (length trials) n count (drafted begin trials) (tried begin trials n []) _ _ _ rest tt tt refl refl refl
-step count (drafted begin []) (draft_end n) rest = stops (stands outside) (bad begin) [] refl refl
-step count (drafted begin (t ∷ ts)) (draft_end n) rest = ends (what_if (t ∷ ts)) [] (uncounted count (drafted begin (t ∷ ts)) tt) refl refl refl
-step count (drafted begin trials) e rest = stops passing_draft (bad (line_of e)) [] refl refl
-step count (tried begin trials group edits) (long n) rest =
-    stops passing_draft (excess n) (faults count (tried begin trials group edits) rest) refl refl
-step count (tried begin trials group edits) (change n e) rest =
-    room 1000 (length edits) n count (tried begin trials group edits) (tried begin trials group (edits ++ e ∷ [])) _ _ _ rest tt tt refl refl refl
-step count (tried begin trials group []) (group_end n) rest = stops passing_draft (bad group) [] refl refl
-step count (tried begin trials group (x ∷ xs)) (group_end n) rest =
-    goes (drafted begin (trials ++ trial (x ∷ xs) ∷ [])) [] (uncounted count (tried begin trials group (x ∷ xs)) tt) tt refl refl refl
-step count (tried begin trials group edits) e rest = stops passing_draft (bad (line_of e)) [] refl refl
+step n count outside (long m) rest h =
+    stops (stands outside) (excess m) (faults count outside rest) (excess_alone m (faults count outside rest)) refl refl
+step n count outside (single m c) rest h = ends c (behind 10000 count m) (counted count m) refl refl refl
+step n count outside (change m e) rest h = ends (eco (e ∷ [])) (behind 10000 count m) (counted count m) refl refl refl
+step n count outside (group_begin m) rest h = goes (inside m []) (behind 10000 count m) (counted count m) tt (λ s. tt) refl refl refl
+step n count outside (draft_begin m) rest h =
+    goes (drafted m []) (behind 10000 count m) (counted count m) tt (λ s. omega (arith, h)) refl refl refl
+step n count outside e rest h = stops (stands outside) (bad (line_of e)) [] (λ _. refl) refl refl
+step n count (inside begin edits) (long m) rest h =
+    let others : List Wrong = faults count (inside begin edits) rest in
+    stops passing_eco (excess m) others (excess_alone m others) refl refl
+step n count (inside begin edits) (change m e) rest h =
+    room n 1000 (length edits) count (inside begin edits) (inside begin (edits ++ e ∷ [])) _ _ _ rest tt tt (λ s. s) m refl refl refl
+step n count (inside begin []) (group_end m) rest h = stops (stands outside) (bad begin) [] (λ _. refl) refl refl
+step n count (inside begin (x ∷ xs)) (group_end m) rest h =
+    ends (eco (x ∷ xs)) [] (uncounted count (inside begin (x ∷ xs)) tt) refl refl refl
+step n count (inside begin edits) e rest h = stops passing_eco (bad (line_of e)) [] (λ _. refl) refl refl
+step n count (drafted begin trials) (long m) rest h =
+    let others : List Wrong = faults count (drafted begin trials) rest in
+    stops passing_draft (excess m) others (excess_alone m others) refl refl
+step n count (drafted begin trials) (single m (Ask q)) rest h = question n count begin trials m q rest
+step n count (drafted begin trials) (change m e) rest h =
+    room n 100 (length trials) count (drafted begin trials) (drafted begin (trials ++ trial (e ∷ []) ∷ [])) _ _ _ rest tt tt (λ s. s) m refl refl refl
+step n count (drafted begin trials) (dropped m) rest h =
+    room n 100 (length trials) count (drafted begin trials) (drafted begin (trials ++ Drop ∷ [])) _ _ _ rest tt tt (λ s. s) m refl refl refl
+step n count (drafted begin trials) (group_begin m) rest h =
+    room n 100 (length trials) count (drafted begin trials) (tried begin trials m []) _ _ _ rest tt tt
+    (λ s. (omega (arith, s, h), s)) m refl refl refl
+step n count (drafted begin []) (draft_end m) rest h = stops (stands outside) (bad begin) [] (λ _. refl) refl refl
+step n count (drafted begin (t ∷ ts)) (draft_end m) rest h =
+    ends (what_if (t ∷ ts)) [] (uncounted count (drafted begin (t ∷ ts)) tt) refl refl refl
+step n count (drafted begin trials) e rest h = stops passing_draft (bad (line_of e)) [] (λ _. refl) refl refl
+step n count (tried begin trials group edits) (long m) rest h =
+    let others : List Wrong = faults count (tried begin trials group edits) rest in
+    stops passing_draft (excess m) others (excess_alone m others) refl refl
+step n count (tried begin trials group edits) (change m e) rest h =
+    room n 1000 (length edits) count (tried begin trials group edits) (tried begin trials group (edits ++ e ∷ [])) _ _ _ rest tt tt
+    (λ s. s) m refl refl refl
+step n count (tried begin trials group []) (group_end m) rest h = stops passing_draft (bad group) [] (λ _. refl) refl refl
+step n count (tried begin trials group (x ∷ xs)) (group_end m) rest h =
+    goes (drafted begin (trials ++ trial (x ∷ xs) ∷ [])) [] (uncounted count (tried begin trials group (x ∷ xs)) tt) tt (λ s. s.1) refl refl refl
+step n count (tried begin trials group edits) e rest h = stops passing_draft (bad (line_of e)) [] (λ _. refl) refl refl
 
--- at most one event
-abbrev IsOne : List Event → Type 0
-IsOne [] = Unit {0}
-IsOne (e ∷ []) = Unit {0}
-IsOne (e ∷ f ∷ es) = ⊥
+-- at most one event, of line n
+abbrev IsOne : ℕ → List Event → Type 0
+IsOne n [] = Unit {0}
+IsOne n (e ∷ []) = line_of e ≡ n
+IsOne n (e ∷ f ∷ es) = ⊥
 
-edit_one : (n : ℕ) (r : Result Edit Stop) → IsOne (edit_said n r)
-edit_one n (Ok e) = tt
-edit_one n (Err stop) = tt
+edit_one : (n : ℕ) (r : Result Edit Stop) → IsOne n (edit_said n r)
+edit_one n (Ok e) = refl
+edit_one n (Err stop) = refl
 
-command_one : (n : ℕ) (words : List Part) (command : Option Command) → IsOne (command_said n words command)
+command_one : (n : ℕ) (words : List Part) (command : Option Command) → IsOne n (command_said n words command)
 command_one n words None = edit_one n (edit_of true words)
-command_one n words (Some command) = tt
+command_one n words (Some command) = refl
 
-words_one : (n : ℕ) (words : List Part) → IsOne (words_said n words)
+words_one : (n : ℕ) (words : List Part) → IsOne n (words_said n words)
 words_one n words =
-    cond_both (is_passed words) _ _ IsOne (λ _. tt)
-    (λ _. cond_both (is_alone words (codes "begin_eco")) _ _ IsOne (λ _. tt)
-    (λ _. cond_both (is_alone words (codes "commit_eco")) _ _ IsOne (λ _. tt)
-    (λ _. cond_both (is_alone words (codes "begin_what_if")) _ _ IsOne (λ _. tt)
-    (λ _. cond_both (is_alone words (codes "end_what_if")) _ _ IsOne (λ _. tt)
-    (λ _. cond_both (is_alone words (codes "drop_last")) _ _ IsOne (λ _. tt)
+    cond_both (is_passed words) _ _ (IsOne n) (λ _. tt)
+    (λ _. cond_both (is_alone words (codes "begin_eco")) _ _ (IsOne n) (λ _. refl)
+    (λ _. cond_both (is_alone words (codes "commit_eco")) _ _ (IsOne n) (λ _. refl)
+    (λ _. cond_both (is_alone words (codes "begin_what_if")) _ _ (IsOne n) (λ _. refl)
+    (λ _. cond_both (is_alone words (codes "end_what_if")) _ _ (IsOne n) (λ _. refl)
+    (λ _. cond_both (is_alone words (codes "drop_last")) _ _ (IsOne n) (λ _. refl)
     (λ _. command_one n words (command_of words)))))))
 
-line_one : (n : ℕ) (line : List ℕ) → IsOne (line_said n line)
-line_one n line = cond_both (list_all is_ascii line) _ _ IsOne (λ _. words_one n (words_in line)) (λ _. tt)
+line_one : (n : ℕ) (line : List ℕ) → IsOne n (line_said n line)
+line_one n line = cond_both (list_all is_ascii line) _ _ (IsOne n) (λ _. words_one n (words_in line)) (λ _. refl)
 
-said_step : (count : ℕ) (place : Place) (es rest : List Event) → IsOne es
-    → Stepping count place (live_said (stands place) es) (faults count place (es ++ rest)) (commands place (es ++ rest)) rest
-said_step count place [] rest h = quiet refl refl refl
-said_step count place (e ∷ []) rest h = step count place e rest
-said_step count place (e ∷ f ∷ es) rest h = absurd h
+said_step : (n count : ℕ) (place : Place) (es rest : List Event) → IsOne n es
+    → Stepping n count place (live_said (stands place) es) (faults count place (es ++ rest)) (commands place (es ++ rest)) rest
+said_step n count place [] rest h = quiet refl refl refl
+said_step n count place (e ∷ []) rest h = step n count place e rest h
+said_step n count place (e ∷ f ∷ es) rest h = absurd h
 
 -- a line that is too long, whatever else it is said to say
-long_step : (count : ℕ) (place : Place) (n : ℕ) (others rest : List Event)
-    → Stepping count place (live_said (stands place) (long n ∷ [])) (faults count place (long n ∷ others)) (commands place (long n ∷ others)) rest
+long_step : (n count : ℕ) (place : Place) (others rest : List Event)
+    → Stepping n count place (live_said (stands place) (long n ∷ [])) (faults count place (long n ∷ others)) (commands place (long n ∷ others)) rest
 unfolding commands faults
-long_step count outside n others rest = stops (stands outside) (excess n) (faults count outside others) refl refl
-long_step count (inside begin edits) n others rest = stops passing_eco (excess n) (faults count (inside begin edits) others) refl refl
-long_step count (drafted begin trials) n others rest = stops passing_draft (excess n) (faults count (drafted begin trials) others) refl refl
-long_step count (tried begin trials group edits) n others rest =
-    stops passing_draft (excess n) (faults count (tried begin trials group edits) others) refl refl
+long_step n count outside others rest =
+    stops (stands outside) (excess n) (faults count outside others) (excess_alone n (faults count outside others)) refl refl
+long_step n count (inside begin edits) others rest =
+    let later : List Wrong = faults count (inside begin edits) others in
+    stops passing_eco (excess n) later (excess_alone n later) refl refl
+long_step n count (drafted begin trials) others rest =
+    let later : List Wrong = faults count (drafted begin trials) others in
+    stops passing_draft (excess n) later (excess_alone n later) refl refl
+long_step n count (tried begin trials group edits) others rest =
+    let later : List Wrong = faults count (tried begin trials group edits) others in
+    stops passing_draft (excess n) later (excess_alone n later) refl refl
 
--- a line at a place, before other events
-line_step : (count : ℕ) (place : Place) (n : ℕ) (line : List ℕ) (rest : List Event)
-    → Stepping count place (live_line (stands place) n line) (faults count place (too_long n line ++ (line_said n line ++ rest)))
+-- line n at a place, before other events
+line_step : (n count : ℕ) (place : Place) (line : List ℕ) (rest : List Event)
+    → Stepping n count place (live_line (stands place) n line) (faults count place (too_long n line ++ (line_said n line ++ rest)))
     (commands place (too_long n line ++ (line_said n line ++ rest))) rest
 unfolding live_line
-line_step count place n line rest = elim (cases_Bool (nat_le (length line) 65536)) [
-  | inl fits ↦ rw fits (said_step count place (line_said n line) rest (line_one n line))
-  | inr over ↦ rw over (long_step count place n (line_said n line ++ rest) rest)
+line_step n count place line rest = elim (cases_Bool (nat_le (length line) 65536)) [
+  | inl fits ↦ rw fits (said_step n count place (line_said n line) rest (line_one n line))
+  | inr over ↦ rw over (long_step n count place (line_said n line ++ rest) rest)
 ]
 
 -- the items of lines and of their end
@@ -240,19 +276,19 @@ two_none [] ys h = (refl, h)
 two_none (x ∷ xs) ys h = absurd (cc)
 
 -- the lines of a script ask its commands
-forward_step : (count : ℕ) (place : Place) (b : Behind) (fs : List Wrong) (cs : List Command) (rest : List Event) (more : LivePlace → List Item)
-    → Stepping count place b fs cs rest
+forward_step : (n count : ℕ) (place : Place) (b : Behind) (fs : List Wrong) (cs : List Command) (rest : List Event) (more : LivePlace → List Item)
+    → Stepping n count place b fs cs rest
     → ((c : ℕ) (p : Place) → faults c p rest ≡ [] → more (stands p) ≡ map Asked (commands p rest))
     → fs ≡ [] → and_behind more b ≡ map Asked cs
-forward_step count place b fs cs rest more (quiet live fault said) others none =
+forward_step n count place b fs cs rest more (quiet live fault said) others none =
     ap (and_behind more) live ∙ others count place (sym fault ∙ none) ∙ ap (map Asked) (sym said)
-forward_step count place b fs cs rest more (goes next limit few opened live fault said) others none =
+forward_step n count place b fs cs rest more (goes next limit few opened stood live fault said) others none =
     ap (and_behind more) live ∙ others count next (two_none limit (faults count next rest) (sym fault ∙ none)).1 ∙ ap (map Asked) (sym said)
-forward_step count place b fs cs rest more (ends command limit few live fault said) others none =
+forward_step n count place b fs cs rest more (ends command limit few live fault said) others none =
     ap (and_behind more) live
     ∙ ap (λ (xs : List Item). Asked command ∷ xs) (others (count + 1) outside (two_none limit (faults (count + 1) outside rest) (sym fault ∙ none)).1)
     ∙ ap (map Asked) (sym said)
-forward_step count place b fs cs rest more (stops next wrong others live fault) later none = absurd (cc)
+forward_step n count place b fs cs rest more (stops next wrong others alone live fault) later none = absurd (cc)
 
 forward : (count : ℕ) (place : Place) (n at : ℕ) (texts : List (List ℕ)) → faults count place (told_by n at texts) ≡ []
     → rest_items (stands place) n texts ≡ map Asked (commands place (told_by n at texts))
@@ -264,8 +300,8 @@ forward count (tried begin trials group edits) n at [] none = absurd (cc)
 forward count place n at (text ∷ texts) none =
     let behind_text : ℕ = at + length text + 1 in
     rest_more (stands place) n text texts
-    ∙ forward_step count place _ _ _ (told_by (n + 1) behind_text texts) (λ (p : LivePlace). rest_items p (n + 1) texts)
-    (line_step count place n text (told_by (n + 1) behind_text texts)) (λ c p h. forward c p (n + 1) behind_text texts h) none
+    ∙ forward_step n count place _ _ _ (told_by (n + 1) behind_text texts) (λ (p : LivePlace). rest_items p (n + 1) texts)
+    (line_step n count place text (told_by (n + 1) behind_text texts)) (λ c p h. forward c p (n + 1) behind_text texts h) none
 
 open_fits : (count : ℕ) (next : Place) → IsOpen next → count < 10000 → Fits count next
 open_fits count outside opened h = absurd opened
@@ -274,20 +310,20 @@ open_fits count (drafted begin trials) opened h = h
 open_fits count (tried begin trials group edits) opened h = h
 
 -- a script has at most 10,000 commands
-few_step : (count : ℕ) (place : Place) (b : Behind) (fs : List Wrong) (cs : List Command) (rest : List Event)
-    → Stepping count place b fs cs rest
+few_step : (n count : ℕ) (place : Place) (b : Behind) (fs : List Wrong) (cs : List Command) (rest : List Event)
+    → Stepping n count place b fs cs rest
     → ((c : ℕ) (p : Place) → Fits c p → faults c p rest ≡ [] → c + length (commands p rest) ≤ 10000)
     → Fits count place → fs ≡ [] → count + length cs ≤ 10000
-few_step count place b fs cs rest (quiet live fault said) others fits none =
+few_step n count place b fs cs rest (quiet live fault said) others fits none =
     let more = others count place fits (sym fault ∙ none) in rw said more
-few_step count place b fs cs rest (goes next limit few opened live fault said) others fits none =
+few_step n count place b fs cs rest (goes next limit few opened stood live fault said) others fits none =
     let both = two_none limit (faults count next rest) (sym fault ∙ none) in
     let more = others count next (open_fits count next opened (few.1 both.0 fits)) both.1 in rw said more
-few_step count place b fs cs rest (ends command limit few live fault said) others fits none =
+few_step n count place b fs cs rest (ends command limit few live fault said) others fits none =
     let both = two_none limit (faults (count + 1) outside rest) (sym fault ∙ none) in
     let below : count < 10000 = few.1 both.0 fits in
     let more = others (count + 1) outside (omega (arith, below)) both.1 in rw said (omega (arith, more))
-few_step count place b fs cs rest (stops next wrong others live fault) later fits none = absurd (cc)
+few_step n count place b fs cs rest (stops next wrong others alone live fault) later fits none = absurd (cc)
 
 few_commands : (count : ℕ) (place : Place) (n at : ℕ) (texts : List (List ℕ)) → Fits count place → faults count place (told_by n at texts) ≡ []
     → count + length (commands place (told_by n at texts)) ≤ 10000
@@ -298,7 +334,7 @@ few_commands count (drafted begin trials) n at [] fits none = absurd (cc)
 few_commands count (tried begin trials group edits) n at [] fits none = absurd (cc)
 few_commands count place n at (text ∷ texts) fits none =
     let behind_text : ℕ = at + length text + 1 in
-    few_step count place _ _ _ (told_by (n + 1) behind_text texts) (line_step count place n text (told_by (n + 1) behind_text texts))
+    few_step n count place _ _ _ (told_by (n + 1) behind_text texts) (line_step n count place text (told_by (n + 1) behind_text texts))
     (λ c p fit h. few_commands c p (n + 1) behind_text texts fit h) fits none
 
 -- items that are commands alone have no wrong line
@@ -319,20 +355,20 @@ seen : (more : LivePlace → List Item) (b c : Behind) (xs : List Item) → b �
 seen more b c xs same given = ap (and_behind more) (sym same) ∙ given
 
 -- what is open ends in a command, where no line is wrong
-some_step : (place : Place) (b : Behind) (fs : List Wrong) (cs : List Command) (rest : List Event) (more : LivePlace → List Item)
-    → Stepping 0 place b fs cs rest
+some_step : (n : ℕ) (place : Place) (b : Behind) (fs : List Wrong) (cs : List Command) (rest : List Event) (more : LivePlace → List Item)
+    → Stepping n 0 place b fs cs rest
     → ((p : Place) (asked : List Command) → IsOpen p → more (stands p) ≡ map Asked asked → 1 ≤ length asked)
     → (asked : List Command) → IsOpen place → and_behind more b ≡ map Asked asked → 1 ≤ length asked
-some_step place b fs cs rest more (quiet live fault said) others asked opened given =
+some_step n place b fs cs rest more (quiet live fault said) others asked opened given =
     others place asked opened (seen more b (goes_on (stands place)) (map Asked asked) live given)
-some_step place b fs cs rest more (goes next limit few still live fault said) others asked opened given =
+some_step n place b fs cs rest more (goes next limit few still stood live fault said) others asked opened given =
     others next asked still (seen more b (goes_on (stands next)) (map Asked asked) live given)
-some_step place b fs cs rest more (ends command limit few live fault said) others [] opened given =
+some_step n place b fs cs rest more (ends command limit few live fault said) others [] opened given =
     let same = seen more b (asks command) [] live given in absurd (cc)
-some_step place b fs cs rest more (ends command limit few live fault said) others (c ∷ asked) opened given = omega arith
-some_step place b fs cs rest more (stops next wrong faults_behind live fault) others [] opened given =
+some_step n place b fs cs rest more (ends command limit few live fault said) others (c ∷ asked) opened given = omega arith
+some_step n place b fs cs rest more (stops next wrong faults_behind alone live fault) others [] opened given =
     let same = seen more b (fails next wrong) [] live given in absurd (cc)
-some_step place b fs cs rest more (stops next wrong faults_behind live fault) others (c ∷ asked) opened given = omega arith
+some_step n place b fs cs rest more (stops next wrong faults_behind alone live fault) others (c ∷ asked) opened given = omega arith
 
 some_command : (place : Place) (n : ℕ) (texts : List (List ℕ)) (asked : List Command) → IsOpen place
     → rest_items (stands place) n texts ≡ map Asked asked → 1 ≤ length asked
@@ -343,30 +379,30 @@ some_command (drafted begin trials) n [] [] opened given = absurd (cc)
 some_command (tried begin trials group edits) n [] [] opened given = absurd (cc)
 some_command place n [] (c ∷ asked) opened given = omega arith
 some_command place n (text ∷ texts) asked opened given =
-    some_step place _ _ _ [] (λ (p : LivePlace). rest_items p (n + 1) texts) (line_step 0 place n text [])
+    some_step n place _ _ _ [] (λ (p : LivePlace). rest_items p (n + 1) texts) (line_step n 0 place text [])
     (λ p cs still h. some_command p (n + 1) texts cs still h) asked opened (sym (rest_more (stands place) n text texts) ∙ given)
 
 -- commands alone are a script
 abbrev IsScript : ℕ → Place → List Event → List Command → Type 0
 IsScript count place rest asked = (faults count place rest ≡ []) × (commands place rest ≡ asked)
 
-back_step : (count : ℕ) (place : Place) (b : Behind) (fs : List Wrong) (cs : List Command) (rest : List Event) (more : LivePlace → List Item)
-    → Stepping count place b fs cs rest
+back_step : (n count : ℕ) (place : Place) (b : Behind) (fs : List Wrong) (cs : List Command) (rest : List Event) (more : LivePlace → List Item)
+    → Stepping n count place b fs cs rest
     → ((p : Place) (asked : List Command) → IsOpen p → more (stands p) ≡ map Asked asked → 1 ≤ length asked)
     → ((c : ℕ) (p : Place) (asked : List Command) → more (stands p) ≡ map Asked asked → c + length asked ≤ 10000 → IsScript c p rest asked)
     → (asked : List Command) → and_behind more b ≡ map Asked asked → count + length asked ≤ 10000 → (fs ≡ []) × (cs ≡ asked)
-back_step count place b fs cs rest more (quiet live fault said) some others asked given few =
+back_step n count place b fs cs rest more (quiet live fault said) some others asked given few =
     let behind_line = others count place asked (seen more b (goes_on (stands place)) (map Asked asked) live given) few in
     (fault ∙ behind_line.0, said ∙ behind_line.1)
-back_step count place b fs cs rest more (goes next limit limits opened live fault said) some others asked given few =
+back_step n count place b fs cs rest more (goes next limit limits opened stood live fault said) some others asked given few =
     let now = seen more b (goes_on (stands next)) (map Asked asked) live given in
     let one : 1 ≤ length asked = some next asked opened now in
     let below : count < 10000 = omega (arith, one, few) in
     let behind_line = others count next asked now few in
     (fault ∙ ap (λ (xs : List Wrong). xs ++ faults count next rest) (limits.0 below) ∙ behind_line.0, said ∙ behind_line.1)
-back_step count place b fs cs rest more (ends command limit limits live fault said) some others [] given few =
+back_step n count place b fs cs rest more (ends command limit limits live fault said) some others [] given few =
     let same = seen more b (asks command) [] live given in absurd (cc)
-back_step count place b fs cs rest more (ends command limit limits live fault said) some others (c ∷ asked) given few =
+back_step n count place b fs cs rest more (ends command limit limits live fault said) some others (c ∷ asked) given few =
     let same = first_of (Asked command) (Asked c) (more (stands outside)) (map Asked asked)
     (seen more b (asks command) (map Asked (c ∷ asked)) live given) in
     let below : count < 10000 = omega (arith, few) in
@@ -374,9 +410,9 @@ back_step count place b fs cs rest more (ends command limit limits live fault sa
       fault ∙ ap (λ (xs : List Wrong). xs ++ faults (count + 1) outside rest) (limits.0 below) ∙ behind_line.0,
       said ∙ ap (λ (xs : List Command). command ∷ xs) behind_line.1 ∙ ap (λ (x : Command). x ∷ asked) (same_asked command c same.0),
     )
-back_step count place b fs cs rest more (stops next wrong faults_behind live fault) some others [] given few =
+back_step n count place b fs cs rest more (stops next wrong faults_behind alone live fault) some others [] given few =
     let same = seen more b (fails next wrong) [] live given in absurd (cc)
-back_step count place b fs cs rest more (stops next wrong faults_behind live fault) some others (c ∷ asked) given few =
+back_step n count place b fs cs rest more (stops next wrong faults_behind alone live fault) some others (c ∷ asked) given few =
     let same = first_of (Faulty wrong) (Asked c) (more next) (map Asked asked)
     (seen more b (fails next wrong) (map Asked (c ∷ asked)) live given) in
     absurd (other_sort c wrong (sym same.0))
@@ -397,73 +433,102 @@ back count (tried begin trials group edits) n at [] (c ∷ asked) given few =
     absurd (other_sort c (bad begin) (sym (first_of (Faulty (bad begin)) (Asked c) [] (map Asked asked) given).0))
 back count place n at (text ∷ texts) asked given few =
     let behind_text : ℕ = at + length text + 1 in
-    back_step count place _ _ _ (told_by (n + 1) behind_text texts) (λ (p : LivePlace). rest_items p (n + 1) texts)
-    (line_step count place n text (told_by (n + 1) behind_text texts))
+    back_step n count place _ _ _ (told_by (n + 1) behind_text texts) (λ (p : LivePlace). rest_items p (n + 1) texts)
+    (line_step n count place text (told_by (n + 1) behind_text texts))
     (λ p cs opened h. some_command p (n + 1) texts cs opened h)
     (λ c p cs h k. back c p (n + 1) behind_text texts cs h k)
     asked (sym (rest_more (stands place) n text texts) ∙ given) few
 
--- the first wrong line is the first fault
+-- the first wrong line is the first fault, and the least where it may not stand in its place
 abbrev BeginsWith : Wrong → List Wrong → Type 0
-BeginsWith wrong fs = (others : List Wrong) × (fs ≡ wrong ∷ others)
+BeginsWith wrong fs =
+    (others : List Wrong) × (fs ≡ wrong ∷ others) × (wrong.code ≡ ScriptBadCommand → least_from (Some wrong) others ≡ Some wrong)
 
-first_step : (count : ℕ) (place : Place) (b : Behind) (fs : List Wrong) (cs : List Command) (rest : List Event) (more : LivePlace → List Item)
-    → Stepping count place b fs cs rest
+stand_on : (n : ℕ) (place : Place) → Stands n place → Stands (n + 1) place
+stand_on n outside stood = tt
+stand_on n (inside begin edits) stood = tt
+stand_on n (drafted begin trials) stood = omega (arith, stood)
+stand_on n (tried begin trials group edits) stood = (stood.0, omega (arith, stood.1))
+
+first_step : (n count : ℕ) (place : Place) (b : Behind) (fs : List Wrong) (cs : List Command) (rest : List Event) (more : LivePlace → List Item)
+    → Stepping n count place b fs cs rest
     → (wrong : Wrong) (later : List Item)
-    → ((c : ℕ) (p : Place) (asked : List Command) → more (stands p) ≡ map Asked asked ++ Faulty wrong ∷ later → c + length asked < 10000
-    → BeginsWith wrong (faults c p rest))
-    → (asked : List Command) → and_behind more b ≡ map Asked asked ++ Faulty wrong ∷ later → count + length asked < 10000 → BeginsWith wrong fs
-first_step count place b fs cs rest more (quiet live fault said) wrong later others asked given few =
-    let first = others count place asked (seen more b (goes_on (stands place)) (map Asked asked ++ Faulty wrong ∷ later) live given) few in
-    (first.0, fault ∙ first.1)
-first_step count place b fs cs rest more (goes next limit limits opened live fault said) wrong later others asked given few =
-    let first = others count next asked (seen more b (goes_on (stands next)) (map Asked asked ++ Faulty wrong ∷ later) live given) few in
+    → ((c : ℕ) (p : Place) (asked : List Command) → Stands (n + 1) p → more (stands p) ≡ map Asked asked ++ Faulty wrong ∷ later
+    → c + length asked < 10000 → BeginsWith wrong (faults c p rest))
+    → (asked : List Command) → Stands n place → and_behind more b ≡ map Asked asked ++ Faulty wrong ∷ later → count + length asked < 10000
+    → BeginsWith wrong fs
+first_step n count place b fs cs rest more (quiet live fault said) wrong later others asked standing given few =
+    let now = seen more b (goes_on (stands place)) (map Asked asked ++ Faulty wrong ∷ later) live given in
+    let first = others count place asked (stand_on n place standing) now few in
+    (first.0, fault ∙ first.1, first.2)
+first_step n count place b fs cs rest more (goes next limit limits opened stood live fault said) wrong later others asked standing given few =
+    let now = seen more b (goes_on (stands next)) (map Asked asked ++ Faulty wrong ∷ later) live given in
+    let first = others count next asked (stand_on n next (stood standing)) now few in
     let below : count < 10000 = omega (arith, few) in
-    (first.0, fault ∙ ap (λ (xs : List Wrong). xs ++ faults count next rest) (limits.0 below) ∙ first.1)
-first_step count place b fs cs rest more (ends command limit limits live fault said) wrong later others [] given few =
+    (first.0, fault ∙ ap (λ (xs : List Wrong). xs ++ faults count next rest) (limits.0 below) ∙ first.1, first.2)
+first_step n count place b fs cs rest more (ends command limit limits live fault said) wrong later others [] standing given few =
     let same = first_of (Asked command) (Faulty wrong) (more (stands outside)) later
     (seen more b (asks command) (Faulty wrong ∷ later) live given) in
     absurd (other_sort command wrong same.0)
-first_step count place b fs cs rest more (ends command limit limits live fault said) wrong later others (c ∷ asked) given few =
+first_step n count place b fs cs rest more (ends command limit limits live fault said) wrong later others (c ∷ asked) standing given few =
     let same = first_of (Asked command) (Asked c) (more (stands outside)) (map Asked asked ++ Faulty wrong ∷ later)
     (seen more b (asks command) (map Asked (c ∷ asked) ++ Faulty wrong ∷ later) live given) in
     let below : count < 10000 = omega (arith, few) in
-    let first = others (count + 1) outside asked same.1 (omega (arith, few)) in
-    (first.0, fault ∙ ap (λ (xs : List Wrong). xs ++ faults (count + 1) outside rest) (limits.0 below) ∙ first.1)
-first_step count place b fs cs rest more (stops next here faults_behind live fault) wrong later others [] given few =
+    let first = others (count + 1) outside asked tt same.1 (omega (arith, few)) in
+    (first.0, fault ∙ ap (λ (xs : List Wrong). xs ++ faults (count + 1) outside rest) (limits.0 below) ∙ first.1, first.2)
+first_step n count place b fs cs rest more (stops next here behind_it alone live fault) wrong later others [] standing given few =
     let same = first_of (Faulty here) (Faulty wrong) (more next) later
     (seen more b (fails next here) (Faulty wrong ∷ later) live given) in
-    (faults_behind, fault ∙ ap (λ (w : Wrong). w ∷ faults_behind) (same_faulty here wrong same.0))
-first_step count place b fs cs rest more (stops next here faults_behind live fault) wrong later others (c ∷ asked) given few =
+    let one : here ≡ wrong = same_faulty here wrong same.0 in (
+      behind_it,
+      fault ∙ ap (λ (w : Wrong). w ∷ behind_it) one,
+      λ code. ap (least_from (Some wrong)) (alone (ap (λ (w : Wrong). w.code) one ∙ code)) ∙ none_more (Some wrong),
+    )
+first_step n count place b fs cs rest more (stops next here behind_it alone live fault) wrong later others (c ∷ asked) standing given few =
     let same = first_of (Faulty here) (Asked c) (more next) (map Asked asked ++ Faulty wrong ∷ later)
     (seen more b (fails next here) (map Asked (c ∷ asked) ++ Faulty wrong ∷ later) live given) in
     absurd (other_sort c here (sym same.0))
 
 -- an end that is wrong is the first
 end_first : (begin : ℕ) (behind_it : List Wrong) (asked : List Command) (wrong : Wrong) (later : List Item)
+    → least_from (Some (bad begin)) behind_it ≡ Some (bad begin)
     → Faulty (bad begin) ∷ [] ≡ map Asked asked ++ Faulty wrong ∷ later → BeginsWith wrong (bad begin ∷ behind_it)
-end_first begin behind_it [] wrong later given =
+end_first begin behind_it [] wrong later least given =
     let same = first_of (Faulty (bad begin)) (Faulty wrong) [] later given in
-    (behind_it, ap (λ (w : Wrong). w ∷ behind_it) (same_faulty (bad begin) wrong same.0))
-end_first begin behind_it (c ∷ asked) wrong later given =
+    let one : bad begin ≡ wrong = same_faulty (bad begin) wrong same.0 in (
+      behind_it,
+      ap (λ (w : Wrong). w ∷ behind_it) one,
+      λ code. sym (ap (λ (w : Wrong). least_from (Some w) behind_it) one) ∙ least ∙ ap Some one,
+    )
+end_first begin behind_it (c ∷ asked) wrong later least given =
     let same = first_of (Faulty (bad begin)) (Asked c) [] (map Asked asked ++ Faulty wrong ∷ later) given in
     absurd (other_sort c (bad begin) (sym same.0))
 
+-- of a draft and a group of it that have no end the draft began first
+draft_first : (begin group : ℕ) → begin ≤ group → least_from (Some (bad begin)) (bad group ∷ []) ≡ Some (bad begin)
+unfolding least_from
+draft_first begin group ordered =
+    let later : nat_lt group begin ≡ false = le-ltb group begin ordered in
+    rw (later, and-false (group == begin)) refl
+
 first_fault : (count : ℕ) (place : Place) (n at : ℕ) (texts : List (List ℕ)) (asked : List Command) (wrong : Wrong) (later : List Item)
-    → rest_items (stands place) n texts ≡ map Asked asked ++ Faulty wrong ∷ later → count + length asked < 10000
+    → Stands n place → rest_items (stands place) n texts ≡ map Asked asked ++ Faulty wrong ∷ later → count + length asked < 10000
     → BeginsWith wrong (faults count place (told_by n at texts))
 unfolding events placed items place_behind live_end faults commands
-first_fault count outside n at [] [] wrong later given few = absurd (cc)
-first_fault count outside n at [] (c ∷ asked) wrong later given few = absurd (cc)
-first_fault count (inside begin edits) n at [] asked wrong later given few = end_first begin [] asked wrong later given
-first_fault count (drafted begin trials) n at [] asked wrong later given few = end_first begin [] asked wrong later given
-first_fault count (tried begin trials group edits) n at [] asked wrong later given few = end_first begin (bad group ∷ []) asked wrong later given
-first_fault count place n at (text ∷ texts) asked wrong later given few =
+first_fault count outside n at [] [] wrong later standing given few = absurd (cc)
+first_fault count outside n at [] (c ∷ asked) wrong later standing given few = absurd (cc)
+first_fault count (inside begin edits) n at [] asked wrong later standing given few =
+    end_first begin [] asked wrong later (none_more (Some (bad begin))) given
+first_fault count (drafted begin trials) n at [] asked wrong later standing given few =
+    end_first begin [] asked wrong later (none_more (Some (bad begin))) given
+first_fault count (tried begin trials group edits) n at [] asked wrong later standing given few =
+    end_first begin (bad group ∷ []) asked wrong later (draft_first begin group standing.0) given
+first_fault count place n at (text ∷ texts) asked wrong later standing given few =
     let behind_text : ℕ = at + length text + 1 in
-    first_step count place _ _ _ (told_by (n + 1) behind_text texts) (λ (p : LivePlace). rest_items p (n + 1) texts)
-    (line_step count place n text (told_by (n + 1) behind_text texts)) wrong later
-    (λ c p cs h k. first_fault c p (n + 1) behind_text texts cs wrong later h k)
-    asked (sym (rest_more (stands place) n text texts) ∙ given) few
+    first_step n count place _ _ _ (told_by (n + 1) behind_text texts) (λ (p : LivePlace). rest_items p (n + 1) texts)
+    (line_step n count place text (told_by (n + 1) behind_text texts)) wrong later
+    (λ c p cs k h f. first_fault c p (n + 1) behind_text texts cs wrong later k h f)
+    asked standing (sym (rest_more (stands place) n text texts) ∙ given) few
 
 -- what is told is a script where there is no fault
 abbrev commands_told : Result Script ReadFault → List Command
@@ -506,4 +571,15 @@ items_script text asked given few =
 pub first_wrong : (text : List ℕ) (asked : List Command) (wrong : Wrong) (later : List Item)
     → all_items (cut_lines text) ≡ map Asked asked ++ Faulty wrong ∷ later → length asked < 10000
     → (others : List Wrong) × (faults 0 outside (events 1 (lines_of text)) ≡ wrong ∷ others)
-first_wrong text asked wrong later given few = first_fault 0 outside 1 0 (cut_lines text) asked wrong later given (omega (arith, few))
+first_wrong text asked wrong later given few =
+    let first = first_fault 0 outside 1 0 (cut_lines text) asked wrong later tt given (omega (arith, few)) in (first.0, first.1)
+
+pub first_told : (text : List ℕ) (asked : List Command) (wrong : Wrong) (later : List Item)
+    → all_items (cut_lines text) ≡ map Asked asked ++ Faulty wrong ∷ later → length asked < 10000
+    → wrong.code ≡ ScriptBadCommand → script_of text ≡ Err (told_fault wrong)
+unfolding least_from
+first_told text asked wrong later given few code =
+    let es : List Event = told_by 1 0 (cut_lines text) in
+    let first = first_fault 0 outside 1 0 (cut_lines text) asked wrong later tt given (omega (arith, few)) in
+    ap (λ (fs : List Wrong). told (least_from None fs) (commands outside es)) first.1
+    ∙ ap (λ (least : Option Wrong). told least (commands outside es)) (first.2 code)

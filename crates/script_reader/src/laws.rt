@@ -1,9 +1,11 @@
 //! Laws of sessions that are read line by line, and of scripts.
 
-ghost use Rattle.std.specs.Prelude.{◌≡◌, ◌≤◌, ◌<◌, ◌+◌, ◌∷◌, ◌++◌, ℕ, List, map, length, Ok};
+ghost use Rattle.std.specs.Prelude.{◌≡◌, ◌≤◌, ◌<◌, ◌+◌, ◌∷◌, ◌++◌, ℕ, List, map, length, Ok, Err};
+ghost use Rattle.timing_defs.specs.declared.codes.Code.TheVariants.{ScriptBadCommand};
 ghost use Rattle.timing_defs.specs.declared.scripts.Command.{Command};
 ghost use Rattle.timing_defs.specs.declared.scripts.Script.{Script};
 ghost use Rattle.sta_text.specs.declared.faults.Wrong.{Wrong};
+ghost use Rattle.sta_text.specs.Faults.{told_fault};
 ghost use Rattle.eco_journal.specs.Lines.{cut_lines, lines_of};
 ghost use Rattle.script_reader.specs.declared.live.Item.{Item};
 ghost use Rattle.script_reader.specs.declared.live.Item.TheVariants.{Asked, Faulty};
@@ -27,10 +29,12 @@ pub fn items_of_script()
 {}
 
 /// The first wrong line is wrong as it is in a script: where fewer than 10,000 commands stand before
-/// it, its code and its line are those of the first fault of the script, in the order of its lines.
-#[tactic(auto, using(crate::proofs::LiveLaws::first_wrong))]
+/// it, its code and its line are those of the first fault of the script, in the order of its lines;
+/// and where the code is `C1`, it is with this code and line that the script is refused.
+#[tactic(auto, using(crate::proofs::LiveLaws::first_wrong, crate::proofs::LiveLaws::first_told))]
 pub fn first_wrong_line()
-    ensures { (text : List ℕ) (commands : List Command) (wrong : Wrong) (more : List Item) → all_items (cut_lines text) ≡ map Asked commands ++ Faulty wrong ∷ more → length commands < 10000 → (others : List Wrong) × (faults 0 outside (events 1 (lines_of text)) ≡ wrong ∷ others) }
+    ensures first { (text : List ℕ) (commands : List Command) (wrong : Wrong) (more : List Item) → all_items (cut_lines text) ≡ map Asked commands ++ Faulty wrong ∷ more → length commands < 10000 → (others : List Wrong) × (faults 0 outside (events 1 (lines_of text)) ≡ wrong ∷ others) }
+    ensures told { (text : List ℕ) (commands : List Command) (wrong : Wrong) (more : List Item) → all_items (cut_lines text) ≡ map Asked commands ++ Faulty wrong ∷ more → length commands < 10000 → wrong.code ≡ ScriptBadCommand → script_of text ≡ Err (told_fault wrong) }
 {}
 
 /// Of a line above 65,536 bytes its first 65,537 say as much as the whole.

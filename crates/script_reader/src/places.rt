@@ -1,6 +1,6 @@
 //! Where a line of a session stands, and what it makes of that.
 
-ghost use Rattle.std.specs.Prelude.{◌≡◌, ◌∷◌, [], ℕ, IfOk, option_map};
+ghost use Rattle.std.specs.Prelude.{◌≡◌, ◌∷◌, [], ℕ, nat_le, length, IfOk, option_map};
 ghost use Rattle.timing_defs.specs.declared.scripts.Command.TheVariants.{Ask};
 ghost use Rattle.script_reader.specs.declared.live.Item.TheVariants.{Faulty};
 ghost use Rattle.script_reader.specs.Scripts.{long, change, single, group_begin, eco, bad, excess, outside};
@@ -142,11 +142,25 @@ fn outside_said(alloc: Global, line: usize, said: Said) -> Result<Step, Memory>
     }
 }
 
+/// Whether a group has as many edits as it may.
+fn is_full(group: &Group) -> bool
+    ensures { result ≡ nat_le 1000 (length group.now.edits) }
+{
+    EDIT_LIMIT <= group.edits.len()
+}
+
+/// Whether a draft has as many trials as it may.
+fn is_full_draft(draft: &Draft) -> bool
+    ensures { result ≡ nat_le 100 (length draft.now.trials) }
+{
+    TRIAL_LIMIT <= draft.trials.len()
+}
+
 /// An edit of a group.
 fn group_edited(group: Group, line: usize, edit: Edit) -> Result<Step, Memory>
     ensures { IfOk result (λ step. behind_step step ≡ group_event group.begin group.edits (change line edit)) }
 {
-    if EDIT_LIMIT <= group.edits.len() {
+    if is_full(&group) {
         group.discard();
         drop(edit);
         return Ok(crowded(Standing::PassingGroup, line));
@@ -194,7 +208,7 @@ fn group_said(group: Group, line: usize, said: Said) -> Result<Step, Memory>
 fn trial_added(draft: Draft, line: usize, trial: Trial) -> Result<Step, Memory>
     ensures { IfOk result (λ step. behind_step step ≡ more_trials line draft.begin draft.trials trial) }
 {
-    if TRIAL_LIMIT <= draft.trials.len() {
+    if is_full_draft(&draft) {
         draft.discard();
         drop(trial);
         return Ok(crowded(Standing::PassingDraft, line));
@@ -248,7 +262,7 @@ fn question_tried(draft: Draft, line: usize, query: Query) -> Result<Step, Memor
 fn draft_group_begun(alloc: Global, draft: Draft, line: usize) -> Step
     ensures { behind_step result ≡ draft_event draft.begin draft.trials (group_begin line) }
 {
-    if TRIAL_LIMIT <= draft.trials.len() {
+    if is_full_draft(&draft) {
         draft.discard();
         crowded(Standing::PassingDraft, line)
     } else {
@@ -291,7 +305,7 @@ fn draft_said(alloc: Global, draft: Draft, line: usize, said: Said) -> Result<St
 fn draft_group_edited(draft: Draft, group: Group, line: usize, edit: Edit) -> Result<Step, Memory>
     ensures { IfOk result (λ step. behind_step step ≡ trial_event draft.begin draft.trials group.begin group.edits (change line edit)) }
 {
-    if EDIT_LIMIT <= group.edits.len() {
+    if is_full(&group) {
         draft.discard();
         group.discard();
         drop(edit);
