@@ -1,0 +1,4 @@
+pub mod Talks
+pub mod Turns
+pub mod Moments
+pub mod Answerable
