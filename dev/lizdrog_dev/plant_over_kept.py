@@ -4,19 +4,18 @@
     dev/plant_over_kept.py --bare [CRATE..]
 
 `rt plant` puts wrong bodies under the clauses of a crate's public functions, and lists those that the clauses let
-through (`rt plant --help`). It wants the crates below built in this checkout, and else proves them all. This lays the
-libraries that `rt ci` kept into their out/ first, so that it begins at once; the crate itself is proved once more, so
-begin with small ones. At most N plants (40) in N minutes (3) behind that proof, by one process, in the functions whose
-file, line and path contain WORD.
+through (`rt plant --help`). It wants the crates below built in this clone, and else proves them all. This lays the
+libraries that `rt ci` kept, where it keeps any, into their out/ first, so that it begins at once; the crate itself is
+proved once more, so begin with small ones. At most N plants (40) in N minutes (3) after that proof, by one process, in
+the functions whose file, line and path contain WORD.
 
---proved leaves that proof out, where `rt ci` has kept it of these very sources; LOG is what that run said. All plants
-then go into one check beside the
-unchanged calls, and the functions of the crate get proofs that are holes, so that a plant which calls them is checked
-over their contracts, which is all that its proof sees of them (functions that call each other in a ring are proved
-where they are called). The methods of traits are left out, and
---max counts what does not compile, too. What the checks said is kept in ~/.cache/lizdrog, and what they checked, so
-that a run whose minutes were too few
-goes on where it ended when it is begun again.
+--proved leaves that proof out, where these very sources are built here or `rt ci` has kept their proof; LOG is what
+that run said (out/build.log of the crate, where dev/build_libs.py made it). All plants then go into one check beside
+the unchanged calls, and the functions of the crate get proofs that are holes, so that a plant which calls them is
+checked over their contracts, which is all that its proof sees of them (functions that call each other in a ring are
+proved where they are called). The methods of traits are left out, and --max counts what does not compile, too. What the
+checks said is kept in ~/.cache/lizdrog, and what they checked, so that a run whose minutes were too few goes on where
+it ended when it is begun again.
 
 Printed are the rows of `rt plant` (the plants that pass, and the functions without a clause), and at the end a table:
 of each crate its functions, the plants that were tried, and what they came to. It is no verdict on a crate. The status
@@ -42,6 +41,7 @@ import types
 
 from lizdrog_dev import check_over_kept as over
 from lizdrog_dev import try_edits
+from lizdrog_dev.crate_list import crates_below, uses_of_crates
 from lizdrog_tools.places import TOP, DEV, WORK
 
 LAST = re.compile(r"^plants crate=.*$", re.M)
@@ -61,7 +61,7 @@ def load(file):
 def lay_below(rt, uses, crate):
     """Lays the kept libraries of all crates below one into this checkout; gives those that are not kept."""
     gone, known = [], {}
-    for name in over.below(uses, crate):
+    for name in crates_below(uses, crate):
         folder = TOP / "crates" / name
         made = rt.Crate(str(folder), str(TOP), known)
         if made.is_built():
@@ -74,7 +74,12 @@ def lay_below(rt, uses, crate):
 
 
 def is_kept(ci, crate):
-    """Whether `rt ci` has kept the proof of a crate as it stands here, over the crates below it as they stand here."""
+    """Whether the proof of a crate as it stands here, over the crates below it as they stand here, is built in this
+    clone or was kept by an `rt ci` that keeps any."""
+    if over.built_here(crate):
+        return True
+    if not hasattr(ci, "own_sum"):
+        return False
     ci.Crate.allowed = ci.handles_of(str(TOP))
     made, sums = ci.Crate(str(TOP / "crates" / crate), str(TOP), {}), {}
     for it in [*made.below(), made]:
@@ -271,7 +276,7 @@ def plant(crate, given):
                                                  WORK / "plants" / f"tokens-{made.st_size}-{int(made.st_mtime)}")
     # Each crate's sum holds those of all below it, which would be made anew on every way down.
     tool.rt.Crate.stamp = functools.lru_cache(None)(tool.rt.Crate.stamp)
-    gone = lay_below(tool.rt, over.crates(), crate)
+    gone = lay_below(tool.rt, uses_of_crates(), crate)
     if gone:
         print(f"{crate}: not planted in, since these are not kept: {' '.join(gone)}")
         return 1
@@ -324,11 +329,11 @@ def main():
     parser.add_argument("--all", action="store_true", help="print the plants that do not pass, too")
     parser.add_argument("--here", action="store_true", help=argparse.SUPPRESS)
     given = parser.parse_args()
-    unknown = [it for it in given.crates if it not in over.crates()]
+    unknown = [it for it in given.crates if it not in uses_of_crates()]
     if unknown:
         parser.error(f"{unknown[0]} is no crate")
     if given.bare:
-        bare(given.crates or list(over.crates()))
+        bare(given.crates or list(uses_of_crates()))
         return
     if not given.crates:
         parser.error("name a crate")

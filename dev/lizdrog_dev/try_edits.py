@@ -6,7 +6,7 @@ try_edits.py CRATE..
 
 Each edit of bench/must-fail/CRATE and crates/CRATE/must-fail makes a body wrong, and the check has to refuse it. `rt
 must-fail` and bench/must_fail.sh prove a crate for that; this checks the changed functions alone, over the libraries
-that `rt ci` kept (as check_over_kept.py does). The functions of the crate that they call are taken by their contracts,
+that are built here or that `rt ci` kept (as check_over_kept.py does). The functions of the crate that they call are taken by their contracts,
 which is all that a proof sees of them, and have no body there (--callees proves them too); with a log of `rt ci`
 (--names) also those that no source writes are taken so. Edits of different functions are tried in one check, at most N
 (40). Each half minute a line says how far a check is, and how much of a processor it had (on a busy machine that is
@@ -36,6 +36,8 @@ import tempfile
 import time
 
 from lizdrog_dev import check_over_kept as over
+from lizdrog_dev.crate_list import uses_of_crates
+from lizdrog_dev.toolchain import kit_folder
 from lizdrog_tools.places import TOP, WORK
 
 PARTS = ("src", "specs", "proofs")
@@ -226,13 +228,8 @@ class Room:
         for part in PARTS:
             if (self.own / part).is_dir():
                 shutil.copytree(self.own / part, folder / part)
-        kit = pathlib.Path(os.path.realpath(shutil.which("rt"))).parent.parent
-        uses, kept = over.crates(), {}
-        for name in over.below(uses, crate):
-            to = WORK / "kept_libraries" / name
-            if over.library(name, to):
-                kept[name] = to
-        words, self.sources = over.words_of(kit, uses, crate, kept)
+        kit, uses = kit_folder(), uses_of_crates()
+        words, self.sources = over.words_of(kit, uses, crate, over.libraries_below(uses, crate))
         memory = WORK / "kept_libraries" / f"memory-{crate}"
         memory.mkdir(parents=True, exist_ok=True)
         self.words = [str(kit / "bin" / "rattle"), *words, "--incremental", str(memory)]
@@ -472,7 +469,7 @@ def main():
     # Checks run in another folder.
     given.log = given.log.resolve()
     given.log.mkdir(parents=True, exist_ok=True)
-    unknown = [it for it in given.crates if it not in over.crates()]
+    unknown = [it for it in given.crates if it not in uses_of_crates()]
     if unknown:
         parser.error(f"{unknown[0]} is no crate")
     status = 0

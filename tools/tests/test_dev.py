@@ -1,7 +1,9 @@
 """The tools of the proofs: what the gate costs, and what functions drop."""
+import os
 import pathlib
 import re
 import shutil
+import signal
 import subprocess
 import sys
 import tempfile
@@ -16,6 +18,7 @@ timing_defs\tproof\t60.0\t70\t800\t10:02:00\t10:03:10
 timing_defs\ttests\t5.0\t6\t300\t10:03:10\t10:03:16
 timing_defs\tedit\t7.0\t9\t300\t10:03:16\t10:03:25
 timing_defs\tedit\t8.0\t9\t300\t10:03:16\t10:03:25
+timing_shell\tcode\t90.0\t95\t700\t10:08:10\t10:09:45
 liberty_cells\tproof\t240.0\t250\t2000\t10:04:00\t10:08:10
 netlist_store\tproof\t160.0\t170\t1500\t10:04:00\t10:06:50
 """
@@ -62,8 +65,9 @@ class Seconds(unittest.TestCase):
         (self.folder / "log").write_text(LOG)
         status, out, err = common.tool("gate_seconds", "--table", "rows", "--log", "log", cwd=self.folder)
         self.assertEqual((status, err), (0, ""))
-        self.assertIn("| `timing_defs` | 60 | 5 | 15 | 80 |\n", out)
-        self.assertIn("| all | 560 | 5 | 15 | 580 |\n", out)
+        self.assertIn("| `timing_defs` | 60 | 5 | 15 | 0 | 80 |\n", out)
+        self.assertIn("| `timing_shell` | 0 | 0 | 0 | 90 | 90 |\n", out)
+        self.assertIn("| all | 560 | 5 | 15 | 90 | 670 |\n", out)
         self.assertIn("Longest chain: 400 s: sta_units, timing_defs, liberty_cells.\n", out)
         warnings = [line for line in out.splitlines() if line.startswith("warning")]
         self.assertEqual(warnings, ["warning: the proof of netlist_store takes 160 s, and its budget is 150 s",
@@ -73,32 +77,77 @@ class Seconds(unittest.TestCase):
         (self.folder / "rows").write_text(ROWS + "one two\n")
         status, _, err = common.tool("gate_seconds", "--table", "rows", cwd=self.folder)
         self.assertEqual(status, 1)
-        self.assertIn("rows:8: this is no line of a check", err)
+        self.assertIn("rows:9: this is no line of a check", err)
 
     def test_a_chain_goes_by_what_crates_use(self):
         uses = {"a": [], "b": ["a"], "c": ["a"], "d": ["b", "c", "smallvec"]}
         self.assertEqual(gate_seconds.longest_chain({"a": 1.0, "b": 5.0, "c": 2.0, "d": 1.0}, uses),
                          (7.0, ["a", "b", "d"]))
 
-    def test_a_prover_is_watched_until_the_watch_is_ended(self):
-        crate = self.folder / "repository" / "crates" / "sta_units"
-        crate.mkdir(parents=True)
-        (self.folder / "rattle").symlink_to(sys.executable)
-        (crate / "check").write_text(PROVER)
-        prover = subprocess.Popen([str(self.folder / "rattle"), "check", "--crate-name", "sta_units"], cwd=crate)
-        self.addCleanup(prover.wait)
-        self.addCleanup(prover.kill)
+    def prover(self, folder, *words):
+        """Begins a process that is taken for a prover, in a folder."""
+        folder.mkdir(parents=True, exist_ok=True)
+        (folder / words[0]).write_text(PROVER)
+        ran = subprocess.Popen([str(self.folder / "rattle"), *words], cwd=folder)
+        self.addCleanup(ran.wait)
+        self.addCleanup(ran.kill)
+
+    def watched(self, *wanted):
+        """Watches until the file has all of these, and ends the watch; the file and what was told."""
         out = self.folder / "out.tsv"
         words = [sys.executable, common.DEV / "gate_seconds.py", "--out", out, "--under", f"{self.folder}/repository/"]
         watch = subprocess.Popen([str(it) for it in words], stdout=subprocess.PIPE, text=True)
-        until, spent = time.monotonic() + 60, r"^sta_units\tproof\t0\.[3-9]\t"
-        while time.monotonic() < until and not (out.exists() and re.match(spent, out.read_text())):
+        until = time.monotonic() + 60
+        while time.monotonic() < until and not (out.exists() and all(re.search(it, out.read_text(), re.M)
+                                                                     for it in wanted)):
             time.sleep(0.2)
         watch.terminate()
         told, _ = watch.communicate()
         self.assertEqual(watch.returncode, 0)
-        self.assertRegex(told, r"\| `sta_units` \| \d+ \| 0 \| 0 \| \d+ \|")
-        self.assertRegex(out.read_text(), spent)
+        return out.read_text(), told
+
+    def test_a_prover_is_watched_until_the_watch_is_ended(self):
+        (self.folder / "rattle").symlink_to(sys.executable)
+        crates = self.folder / "repository" / "crates"
+        self.prover(crates / "sta_units", "check", "--crate-name", "sta_units")
+        self.prover(crates / "shell_tests", "build", "--crate-name", "shell_tests", "--test")
+        self.prover(crates / "timing_shell", "build", "--crate-name", "timing_shell", "--crate-checked", "checked")
+        self.prover(self.folder / "elsewhere", "check", "--crate-name", "cow_table")
+        wanted = [rf"^{it}\t0\.[3-9]\t" for it in (r"sta_units\tproof", r"shell_tests\ttests", r"timing_shell\tcode")]
+        rows, told = self.watched(*wanted)
+        for it in wanted:
+            self.assertRegex(rows, f"(?m){it}")
+        self.assertNotIn("cow_table", rows)
+        self.assertRegex(told, r"\| `sta_units` \| \d+ \| 0 \| 0 \| 0 \| \d+ \|")
+
+    def test_an_edit_is_watched_where_rt_works_in_the_repository(self):
+        """The toolchain tries edits in a folder of its own; that of a crate without others names no place here."""
+        (self.folder / "rattle").symlink_to(sys.executable)
+        edit, top = self.folder / "rt-edit-1", self.folder / "repository"
+        edit.mkdir()
+        top.mkdir()
+        (edit / "check").write_text(PROVER)
+        starting = f"import subprocess\nsubprocess.run([{str(self.folder / 'rattle')!r}, 'check', '--crate-name', " \
+                   f"'sta_units', 'src/lib.rt'], cwd={str(edit)!r})\n"
+        rt = subprocess.Popen([sys.executable, "-c", starting], cwd=top, start_new_session=True)
+        self.addCleanup(rt.wait)
+        self.addCleanup(os.killpg, rt.pid, signal.SIGKILL)
+        self.assertRegex(self.watched(r"^sta_units\tedit\t0\.[3-9]\t")[0], r"^sta_units\tedit\t")
+
+    def test_as_many_checks_as_there_is_room_for(self):
+        gigabyte = 1 << 20
+        self.assertEqual([gate_seconds.checks_at_once(processors, free * gigabyte) for processors, free in
+                          ((4, 20), (4, 11), (4, 9), (4, 1), (1, 30), (16, 24))], [4, 3, 3, 2, 2, 8])
+        (self.folder / "proc").mkdir()
+        (self.folder / "proc" / "meminfo").write_text("MemTotal: 30000000 kB\nMemAvailable:   20000000 kB\n")
+        self.assertEqual(gate_seconds.free_memory(str(self.folder)), 20000000)
+        group = self.folder / "sys" / "fs" / "cgroup"
+        group.mkdir(parents=True)
+        (group / "memory.stat").write_text("anon 2048000\nfile 99\n")
+        for limit, free in (("max", 20000000), ("10240000", 8000), ("99999999999999", 20000000)):
+            (group / "memory.max").write_text(f"{limit}\n")
+            self.assertEqual(gate_seconds.free_memory(str(self.folder)), free)
+        self.assertRegex(common.tool("gate_seconds", "--checks-at-once")[1], r"^[2-9]\d*\n$")
 
 
 class Exits(unittest.TestCase):
