@@ -6,7 +6,8 @@ level of the crates that it uses. Groups are the comments of crates.txt; crates 
 With names it prints for each crate what it uses (what follows from other uses is left out), and which crates a change
 of it proves again, with their share of all lines of sources, definitions and proofs.
 
---write puts the map and these counts into docs/ARCHITECTURE.md, in the place of those that it has.
+--write puts the table of crates and these counts into docs/ARCHITECTURE.md. What the table says of a crate stays; of a
+new one it says the first line of the crate's source.
 
 Status 1 where a crate uses one of a later group or a later line; 2 where there is no such crate.
 """
@@ -21,8 +22,9 @@ import textwrap
 from lizdrog_tools.places import DOCS, TOP
 
 TESTS = "tests"
-# Of the page: the map, and a row of what a change costs.
-MAP = re.compile(r"(?m)^```\n 0  base(?:.*\n)*?```$")
+# Of the page: the table of crates, what it says of one, and a row of what a change costs.
+TABLE = re.compile(r"(?m)^\| Group \| Level \| Crate \|.*\n(?:\|.*\n)+")
+SAID = re.compile(r"(?m)^\|[^|]*\|[^|]*\| `(\w+)` \| (.*) \|$")
 COST = re.compile(r"(?m)^\| `(\w+)` \| \d+ of \d+ \| \d+ % \|$")
 
 
@@ -126,17 +128,43 @@ def change_lines(crates: Crates, counts: dict[str, int], name: str) -> list[str]
     return said + textwrap.wrap(change, 120, initial_indent="  ", subsequent_indent="  ", break_on_hyphens=False)
 
 
-def write_page(crates: Crates, page: pathlib.Path) -> None:
-    """Puts the map and the counts into the page."""
+def first_line(name: str) -> str:
+    """What a crate's source says of it first."""
+    for file in (TOP / "crates" / name / "src" / it for it in ("lib.rt", "main.rt")):
+        if file.is_file():
+            return file.read_text(encoding="utf-8").split("\n", 1)[0].removeprefix("//!").strip().rstrip(".")
+    return ""
+
+
+def table_lines(crates: Crates, said: dict[str, str]) -> list[str]:
+    """The table of crates: each group's name at its first crate, each crate with its level."""
+    lines, last = ["| Group | Level | Crate | What it does |", "|---|---|---|---|"], ""
+    for it in crates.values():
+        if it.group != TESTS:
+            group, last = ("" if it.group == last else f" **{it.group}**"), it.group
+            lines.append(f"|{group} | {level(crates, it.name)} | `{it.name}` | {said.get(it.name) or first_line(it.name)} |")
+    return lines
+
+
+def with_table(crates: Crates, text: str) -> str:
+    """A page with the table of crates in the place of the one that it has."""
+    lines = table_lines(crates, dict(SAID.findall(text)))
+    return TABLE.sub(lambda _: "\n".join(lines) + "\n", text)
+
+
+def with_costs(crates: Crates, text: str) -> str:
+    """A page with what a change of the crates costs that it names."""
     counts = lines_in_all(crates)
 
     def row(found: re.Match) -> str:
         again, share = cost(crates, counts, found[1])
         return f"| `{found[1]}` | {len(again)} of {len(crates)} | {share:.0f} % |"
 
-    drawn = "\n".join(["```", *map_lines(crates), "```"])
-    text = MAP.sub(lambda _: drawn, page.read_text(encoding="utf-8"))
-    page.write_text(COST.sub(row, text), encoding="utf-8")
+    return COST.sub(row, text)
+
+
+def write_page(crates: Crates, page: pathlib.Path) -> None:
+    page.write_text(with_costs(crates, with_table(crates, page.read_text(encoding="utf-8"))), encoding="utf-8")
 
 
 def main() -> int:
