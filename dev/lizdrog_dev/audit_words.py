@@ -10,7 +10,7 @@ has it, so a variable with the name of a word makes the count larger, never smal
 
   --files   a line for each file
   --words   a line for each word: crate, file, line, number of lines, name
-  --write   puts the lines of the crates into docs/GUARANTEE.md, in the place of those that it has
+  --write   puts the sum into docs/GUARANTEE.md, in the place of the one that it has
 """
 import argparse
 import dataclasses
@@ -20,8 +20,8 @@ import signal
 
 from lizdrog_tools.places import DOCS, TOP
 
-# Of the page: the lines of counts.
-BLOCK = re.compile(r"(?m)^```\n(?:\w+ +\d+ words +\d+ lines\n)+\d+ words, \d+ lines in \d+ crates\n```$")
+# The sum, as the page has it.
+SUM = re.compile(r"\d+ words, \d+ lines in \d+ crates")
 TOP_CALL = ("shell_session", "serving.rt", "serve")
 DERIVED = {"declared", "contracts", "formers"}
 HEAD = re.compile(r"^(?:pub )?(?:abbrev|unfoldable|record|data)(?: pub)? ([^\s:(]+)")
@@ -156,10 +156,9 @@ def counts_of(words: list[Word], by_file: bool) -> list[str]:
     return [*(shown(name, of) for name, of in groups.items()), f"{len(words)} words, {lines} lines in {crates} crates"]
 
 
-def write_page(counts: list[str], page: pathlib.Path) -> None:
-    """Puts the counts into the page."""
-    text, block = page.read_text(encoding="utf-8"), "\n".join(["```", *counts, "```"])
-    page.write_text(BLOCK.sub(lambda _: block, text), encoding="utf-8")
+def write_page(total: str, page: pathlib.Path) -> None:
+    """Puts the sum into the page."""
+    page.write_text(SUM.sub(total, page.read_text(encoding="utf-8")), encoding="utf-8")
 
 
 def main() -> int:
@@ -168,7 +167,7 @@ def main() -> int:
     form = asked.add_mutually_exclusive_group()
     form.add_argument("--files", action="store_true", help="a line for each file")
     form.add_argument("--words", action="store_true", help="a line for each word")
-    form.add_argument("--write", action="store_true", help="put the counts into the page")
+    form.add_argument("--write", action="store_true", help="put the sum into the page")
     asked = asked.parse_args()
     words = words_under(*TOP_CALL)
     if asked.words:
@@ -177,7 +176,7 @@ def main() -> int:
         return 0
     counts = counts_of(words, asked.files)
     if asked.write:
-        write_page(counts, DOCS / "GUARANTEE.md")
+        write_page(counts[-1], DOCS / "GUARANTEE.md")
     else:
         print("\n".join(counts))
     return 0

@@ -69,8 +69,10 @@ class Audit(unittest.TestCase):
         others = {(crate, name) for crate, name in words if of[crate] not in READ_GROUPS and crate not in READ_CRATES}
         self.assertLessEqual(others, KNOWN_WORDS)
 
-    def test_page_has_the_counts(self):
-        self.assertIn(script("audit_words")[1], (DOCS / "GUARANTEE.md").read_text())
+    def test_page_has_the_sum(self):
+        total = script("audit_words")[1].splitlines()[-1]
+        self.assertRegex(total, r"^\d{4} words, \d{4} lines in \d\d crates$")
+        self.assertIn(f"**{total}**", (DOCS / "GUARANTEE.md").read_text())
 
     def test_clauses_are_listed(self):
         out = script("clause_names", "shell_session")[1]
