@@ -5,7 +5,7 @@ try_edits.py CRATE..
     CRATE..
 
 Each edit of bench/must-fail/CRATE and crates/CRATE/must-fail makes a body wrong, and the check has to refuse it. `rt
-must-fail` and bench/must_fail.sh prove a crate for that; this checks the changed functions alone, over the libraries
+must-fail` and bench/must_fail.py prove a crate for that; this checks the changed functions alone, over the libraries
 that are built here or that `rt ci` kept (as check_over_kept.py does). The functions of the crate that they call are taken by their contracts,
 which is all that a proof sees of them, and have no body there (--callees proves them too); with a log of `rt ci`
 (--names) also those that no source writes are taken so. Edits of different functions are tried in one check, at most N
@@ -17,7 +17,7 @@ First the unchanged functions are checked in the same way: where one does not pa
 --proved leaves that out, for a crate that `rt ci` has proved of these very sources. Then a line for each edit says
   refused            a goal of the function is open with this body, or its proof does not fit it
   refused by names   the proof only names what the edit took away: that says little of the contract
-  PASSES             the function meets its contract with this body: check the whole crate (bench/must_fail.sh), as a
+  PASSES             the function meets its contract with this body: check the whole crate (bench/must_fail.py), as a
                      law of a type may refuse it elsewhere
   does not compile   it never came to the prover
   not tried          with the reason: it does not apply, changes no function, or the prover gave up or was ended

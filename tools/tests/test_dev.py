@@ -1,4 +1,6 @@
 """The tools of the proofs: what the gate costs, and what functions drop."""
+import contextlib
+import io
 import os
 import pathlib
 import re
@@ -11,7 +13,7 @@ import time
 import unittest
 
 import common
-from lizdrog_dev import exits, gate_seconds
+from lizdrog_dev import build_libs, crate_list, exits, gate_seconds, must_fail, small_repository, time_crates
 
 ROWS = """sta_units\tproof\t100.0\t120\t900\t10:00:00\t10:02:00
 timing_defs\tproof\t60.0\t70\t800\t10:02:00\t10:03:10
@@ -170,6 +172,107 @@ class Exits(unittest.TestCase):
         status, _, err = common.tool("exits", "--changed", "nosuch", "timing_shell")
         self.assertEqual(status, 2)
         self.assertIn("nosuch is no commit", err)
+
+
+class Programs(unittest.TestCase):
+    """The programs of bench/, which stand outside of crates/."""
+
+    def setUp(self):
+        self.folder = pathlib.Path(tempfile.mkdtemp())
+        self.addCleanup(shutil.rmtree, self.folder)
+
+    def test_what_they_name_is_there(self):
+        uses = crate_list.uses_of_crates()
+        for name, it in time_crates.KNOWN.items():
+            self.assertTrue((time_crates.PROGRAMS / it.crate / "src" / "main.rt.txt").is_file(), name)
+            self.assertLessEqual(set(it.uses), set(uses), name)
+        self.assertEqual({it.crate for it in time_crates.KNOWN.values()},
+                         {it.name for it in time_crates.PROGRAMS.iterdir()})
+        files = [*common.BENCH.glob("programs/**/*.txt"), *common.BENCH.glob("plain/**/*.txt"),
+                 common.BENCH / "board_stress.rt.txt"]
+        for file in files:
+            for crate, specs in re.findall(r"Rattle\.(\w+)\.specs\.([A-Z]\w*)\b", file.read_text()):
+                if crate in uses:
+                    self.assertTrue((common.TOP / "crates" / crate / "specs" / f"{specs}.antt").is_file(),
+                                    f"{file.name} names {crate}.specs.{specs}")
+
+    def test_a_repository_of_some_crates(self):
+        small_repository.lay(self.folder, ["levelizer"])
+        program = time_crates.KNOWN["levels"]
+        crate = small_repository.add_crate(self.folder, program.crate, time_crates.PROGRAMS / program.crate, program.uses)
+        self.assertEqual((self.folder / "crates.txt").read_text().splitlines(),
+                         ["sta_units:", "timing_defs: sta_units smallvec thiserror", "levelizer: sta_units timing_defs",
+                          "levels_bench: levelizer sta_units timing_defs"])
+        self.assertTrue((crate / "proofs" / "arcs" / "Invariants.antt").is_file())
+        self.assertEqual([*self.folder.rglob("*.txt")], [self.folder / "crates.txt"])
+        source = "crates/levelizer/src/lib.rt"
+        self.assertEqual((self.folder / source).read_text(), (common.TOP / source).read_text())
+
+    def test_edits_that_were_refused(self):
+        said = ("rt: must-fail levelizer/one.edit: refused, as it must be: here\n"
+                "rt: must-fail levelizer/two.edit: NOT REFUSED: the crate is still proved with this edit\n"
+                "rt: must-fail levelizer/three.edit: BAD EDIT: there is no file src/a.rt\n")
+        self.assertEqual(must_fail.counted(said, 3), (1, "two.edit: NOT REFUSED  three.edit: BAD EDIT"))
+        self.assertEqual(must_fail.counted("rattle: killed\n", 2), (0, "see the log"))
+        self.assertEqual(must_fail.counted(said.splitlines()[0], 1), (1, ""))
+        status, _, err = common.run(sys.executable, common.BENCH / "must_fail.py", "nosuch")
+        self.assertEqual(status, 1)
+        self.assertIn("there are no edits", err)
+
+    def test_the_design_of_workers(self):
+        netlist = time_crates.ranks_of_registers(2)
+        self.assertEqual((netlist.count("DFF "), netlist.count("NAND2 "), netlist.count("wire ")), (2000, 2000, 3000))
+        self.assertIn("NAND2 u2_1 (.A(w1_1), .B(w1_10), .Z(w2_1));\n", netlist)
+        self.assertIn('cell_rise (d) { values ("4, 9, 14, 19, 24, 29, 34", "7, ', time_crates.registers_and_gates())
+
+    @common.needs_program
+    def test_a_chain_is_timed(self):
+        words = [sys.executable, common.BENCH / "chain.py", "--count", "3", "--program", common.PROGRAM]
+        status, out, err = common.run(*words)
+        self.assertEqual((status, err), (0, ""))
+        self.assertRegex(out, r"^\d\.\d{3} seconds for 3 inverters\nanswer: 1 0 slew 4\.000\n$")
+
+    def test_a_toolchain_without_names(self):
+        (self.folder / "rt").write_text("#!/bin/sh\necho 'usage: rt new FOLDER' >&2\nexit 2\n")
+        (self.folder / "rt").chmod(0o755)
+        env = {**os.environ, "PATH": f"{self.folder}:{os.environ['PATH']}"}
+        status, out, err = common.tool("prove_by_crate", "sta_units", "cow_table", env=env)
+        self.assertEqual((status, out), (2, ""))
+        self.assertEqual(err, "prove_by_crate: `rt ci` of this toolchain takes no crate's name: prove them by "
+                              "dev/build_libs.py sta_units cow_table\n")
+
+
+class Libraries(unittest.TestCase):
+    def test_each_library_is_told_with_its_last_line(self):
+        """Libraries wait for those below them; those over one that failed are not built."""
+        folder = pathlib.Path(tempfile.mkdtemp())
+        self.addCleanup(shutil.rmtree, folder)
+
+        class Crate:
+            def __init__(self, name, deps, status=0):
+                self.name, self.deps, self.status, self.folder = name, deps, status, f"{folder}/{name}"
+                os.mkdir(self.folder)
+
+            def below(self):
+                return [below for it in self.deps for below in [*it.below(), it]]
+
+            def build_rlib(self, flags, anew):
+                self.out.write(f"checked\nlogic={'not-' * bool(self.status)}proved functions=3\n")
+                return self.status
+
+        low = Crate("low", [])
+        bad = Crate("bad", [low], 1)
+        crates = [low, bad, Crate("high", [bad]), Crate("other", [low])]
+        tell = build_libs.teller(str(folder / "log"))
+        with contextlib.redirect_stdout(io.StringIO()) as said:
+            failed = build_libs.build_all(crates, {it.name: 1 for it in crates}, 1, tell)
+        self.assertIn("low: built (0 s)\n", said.getvalue())
+        self.assertEqual(failed, {"bad", "high"})
+        lines = (folder / "log").read_text().splitlines()
+        self.assertRegex(lines[0], r"^low: built \(0 s\): logic=proved functions=3$")
+        self.assertIn("bad: FAILED, see out/build.log (0 s): logic=not-proved functions=3", lines)
+        self.assertIn("high: not built, since a library below failed", lines)
+        self.assertEqual(len(lines), 4)
 
 
 class Copies(unittest.TestCase):
