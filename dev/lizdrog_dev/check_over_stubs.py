@@ -6,12 +6,12 @@ functions have no body.
 The crates below come as libraries that are built in this clone or that `rt ci` kept, where these have the contracts and
 proofs of this tree, and so have all below them; else as sources whose functions have a hole for their proof (functions
 that call each other in a ring, those of the language's own types, and such as give a closure or a constant keep
-theirs). --sources names those that are taken so in any case. FLAGs go to `rattle check`: `--only FUNCTION` (again for more), `--only ''` for the front
-end alone, `--fix-imports`. --changed names each function whose text is not that of the commit (others whose proofs see
-them are still to be named). With --alone the functions of the crate that no `--only` names have no body either, so that
-those that are named are done in a part of the time. A line of a function that `depends on a hole` in functions of the
-crates below alone is good; one with `did not prove` is not.
-Nothing that this says counts as proved: that is for `rt ci`."""
+theirs). --sources names those that are taken so in any case. FLAGs go to `rattle check`: `--only FUNCTION` (again for
+more), `--only ''` for the front end alone, `--fix-imports`. --changed names each function whose text is not that of the
+commit (others whose proofs see them are still to be named). With --alone the functions of the crate that no `--only`
+names have no body either, so that those that are named are done in a part of the time. A line of a function that
+`depends on a hole` in functions of the crates below alone is good; one with `did not prove` is not. Nothing that this
+says counts as proved: that is for `rt ci`."""
 import re
 import shutil
 import subprocess

@@ -1,7 +1,8 @@
 """Lists functions that stand to the letter in two or more crates: count_copies.py
 
-Contracts, comments and attributes are not compared, nor the layout; crates of tests and functions of one line are left out. A line for each says how many lines
-one copy would save, the function and the crates; the last line sums up. The status is always 0: docs/PROVING.md says why they stay."""
+Contracts, comments and attributes are not compared, nor the layout; crates of tests and functions of one line are left
+out. A line for each says how many lines one copy would save, the function and the crates; the last line sums up. The
+status is always 0: docs/PROVING.md says why they stay."""
 import argparse
 import collections
 import re
@@ -34,4 +35,7 @@ def main():
     saved = {key: len(key[1]) * (len(at) - 1) for key, at in copied.items()}
     for key in sorted(copied, key=lambda it: (-saved[it], it)):
         print(f"{saved[key]:4} {key[0]}: {', '.join(copied[key])}")
-    print(f"{len(copied)} functions, {sum(len(at) - 1 for at in copied.values())} copies too many, {sum(saved.values())} lines")
+    print(
+        f"{len(copied)} functions, {sum(len(at) - 1 for at in copied.values())} copies too many,"
+        f" {sum(saved.values())} lines"
+    )

@@ -142,7 +142,9 @@ def table_lines(crates: Crates, said: dict[str, str]) -> list[str]:
     for it in crates.values():
         if it.group != TESTS:
             group, last = ("" if it.group == last else f" **{it.group}**"), it.group
-            lines.append(f"|{group} | {level(crates, it.name)} | `{it.name}` | {said.get(it.name) or first_line(it.name)} |")
+            lines.append(
+                f"|{group} | {level(crates, it.name)} | `{it.name}` | {said.get(it.name) or first_line(it.name)} |"
+            )
     return lines
 
 

@@ -21,5 +21,7 @@ def main() -> int:
         small_repository.lay(top, [*BASE, "nldm_lookup"])
         plain = BENCH / "plain"
         small_repository.add_crate(top, "plain_timer", plain / "plain_timer", [*BASE, "nldm_lookup"])
-        crate = small_repository.add_crate(top, "plain_timer_tests", plain / "plain_timer_tests", [*BASE, "plain_timer"])
+        crate = small_repository.add_crate(
+            top, "plain_timer_tests", plain / "plain_timer_tests", [*BASE, "plain_timer"]
+        )
         return subprocess.run(["rt", "test"], cwd=crate, stdin=subprocess.DEVNULL, check=False).returncode

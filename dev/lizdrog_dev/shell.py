@@ -1,10 +1,10 @@
 """Times the whole program on a generated design: bench/shell.py [--cells N] [--program FILE]
 
 N is 50,000 where none is given, and at most some 65,000. FILE is a built program; without it the proved one, or else
-the one without proof. For 1, 2 and 4 workers it prints the seconds, the seconds of all processors together, and the peak
-memory of a run that only loads the design, of one that also asks for the worst slack, of one with more reports, and of
-one with an ECO and with ten after them; then the seconds that an ECO takes, a ninth of what ten take beyond one. It
-checks that all rows are answers, and the same for each number of workers.
+the one without proof. For 1, 2 and 4 workers it prints the seconds, the seconds of all processors together, and the
+peak memory of a run that only loads the design, of one that also asks for the worst slack, of one with more reports,
+and of one with an ECO and with ten after them; then the seconds that an ECO takes, a ninth of what ten take beyond one.
+It checks that all rows are answers, and the same for each number of workers.
 """
 import argparse
 import pathlib

@@ -1,10 +1,10 @@
 """Times calls of single crates by programs of their own: bench/time_crates.py [options] NAME ..
 
   cow_table        tables of 200,000 items: 10,000 copies, the same each followed by 10 sets, and the sets alone
-  journals         a journal of 200,000 entries, the same as a saved journal, and a script of 10,000 groups
-  levels           the levels of 400,000 nodes with two arcs in each, and the cycle that one arc more closes
-  liberty          the reader of libraries on 10,000 cells with twelve tables of 7 by 7 each (some 60 MB)
-  netlist_store    a design of nearly 200,000 pins from its texts to a store, then 10,000 resizes and 1,000 buffers, each
+  journals         a journal of 200,000 entries, the same as a saved journal, and a script of 10,000 groups levels
+  the levels of 400,000 nodes with two arcs in each, and the cycle that one arc more closes liberty          the reader
+  of libraries on 10,000 cells with twelve tables of 7 by 7 each (some 60 MB) netlist_store    a design of nearly
+  200,000 pins from its texts to a store, then 10,000 resizes and 1,000 buffers, each
                    an ECO on the store before it, with the checks of the nets that it touched
   rc_tree          the tree of a chain of 65,534 resistors, ten times
   spef             the reader of parasitics on 220,000 nets (some 60 MB)
@@ -76,7 +76,9 @@ set_input_delay 5 -clock clk [get_ports in]
 
 def table(name: str, least: int) -> str:
     """A table of 7 by 7 values from a least one on."""
-    rows = ", ".join('"' + ", ".join(str(least + 3 * row + 5 * column) for column in range(7)) + '"' for row in range(7))
+    rows = ", ".join(
+        '"' + ", ".join(str(least + 3 * row + 5 * column) for column in range(7)) + '"' for row in range(7)
+    )
     return f"{name} (d) {{ values ({rows}); }}"
 
 
@@ -86,18 +88,34 @@ def registers_and_gates() -> str:
                       enumerate(("cell_rise", "rise_transition", "cell_fall", "fall_transition")))
     arcs = " ".join(f'timing () {{ related_pin : "{pin}"; timing_sense : negative_unate; {tables} }}' for pin in "AB")
     limits = " ".join(
-        f'timing () {{ related_pin : "CK"; timing_type : {kind}_rising; rise_constraint (scalar) {{ values ("{rise}"); }} '
-        f'fall_constraint (scalar) {{ values ("{fall}"); }} }}' for kind, rise, fall in (("setup", 8, 9), ("hold", 2, 3)))
-    return "\n".join([
-        'library (bench) { time_unit : "1ps"; capacitive_load_unit (1, ff);',
-        "lu_table_template (d) { variable_1 : input_net_transition; variable_2 : total_output_net_capacitance; "
-        f'index_1 ("{AXIS}"); index_2 ("{AXIS}"); }}',
-        "cell (NAND2) { pin (A) { direction : input; capacitance : 2; } pin (B) { direction : input; capacitance : 2; }",
-        f"pin (Z) {{ direction : output; {arcs} }} }}",
-        "cell (DFF) { pin (CK) { direction : input; capacitance : 1; } pin (D) { direction : input; capacitance : 2; "
-        + limits + " }",
-        'pin (Q) { direction : output; timing () { related_pin : "CK"; timing_type : rising_edge; ' + tables + " } } } }",
-    ]) + "\n"
+        f'timing () {{ related_pin : "CK"; timing_type : {kind}_rising; rise_constraint (scalar) {{ values ("{rise}");'
+        f' }} fall_constraint (scalar) {{ values ("{fall}"); }} }}'
+        for kind, rise, fall in (("setup", 8, 9), ("hold", 2, 3))
+    )
+    return (
+        "\n".join(
+            [
+                'library (bench) { time_unit : "1ps"; capacitive_load_unit (1, ff);',
+                (
+                    "lu_table_template (d) { variable_1 : input_net_transition; variable_2 :"
+                    f" total_output_net_capacitance; index_1 (\"{AXIS}\"); index_2 (\"{AXIS}\"); }}"
+                ),
+                (
+                    "cell (NAND2) { pin (A) { direction : input; capacitance : 2; } pin (B) { direction : input;"
+                    " capacitance : 2; }"
+                ),
+                f"pin (Z) {{ direction : output; {arcs} }} }}",
+                "cell (DFF) { pin (CK) { direction : input; capacitance : 1; } pin (D) { direction : input; capacitance"
+                " : 2; "
+                + limits
+                + " }",
+                'pin (Q) { direction : output; timing () { related_pin : "CK"; timing_type : rising_edge; '
+                + tables
+                + " } } } }",
+            ]
+        )
+        + "\n"
+    )
 
 
 def ranks_of_registers(levels: int) -> str:

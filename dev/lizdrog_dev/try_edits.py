@@ -6,12 +6,12 @@ try_edits.py CRATE..
 
 Each edit of bench/must-fail/CRATE and crates/CRATE/must-fail makes a body wrong, and the check has to refuse it. `rt
 must-fail` and bench/must_fail.py prove a crate for that; this checks the changed functions alone, over the libraries
-that are built here or that `rt ci` kept (as check_over_kept.py does). The functions of the crate that they call are taken by their contracts,
-which is all that a proof sees of them, and have no body there (--callees proves them too); with a log of `rt ci`
-(--names) also those that no source writes are taken so. Edits of different functions are tried in one check, at most N
-(40). Each half minute a line says how far a check is, and how much of a processor it had (on a busy machine that is
-what it waits for). --seconds ends a check that had so many seconds of a processor; its edits are then tried in two
-halves, down to one.
+that are built here or that `rt ci` kept (as check_over_kept.py does). The functions of the crate that they call are
+taken by their contracts, which is all that a proof sees of them, and have no body there (--callees proves them too);
+with a log of `rt ci` (--names) also those that no source writes are taken so. Edits of different functions are tried in
+one check, at most N (40). Each half minute a line says how far a check is, and how much of a processor it had (on a
+busy machine that is what it waits for). --seconds ends a check that had so many seconds of a processor; its edits are
+then tried in two halves, down to one.
 
 First the unchanged functions are checked in the same way: where one does not pass, nothing is said of its edits.
 --proved leaves that out, for a crate that `rt ci` has proved of these very sources. Then a line for each edit says

@@ -199,7 +199,9 @@ class Programs(unittest.TestCase):
     def test_a_repository_of_some_crates(self):
         small_repository.lay(self.folder, ["levelizer"])
         program = time_crates.KNOWN["levels"]
-        crate = small_repository.add_crate(self.folder, program.crate, time_crates.PROGRAMS / program.crate, program.uses)
+        crate = small_repository.add_crate(
+            self.folder, program.crate, time_crates.PROGRAMS / program.crate, program.uses
+        )
         self.assertEqual((self.folder / "crates.txt").read_text().splitlines(),
                          ["sta_units:", "timing_defs: sta_units smallvec thiserror", "levelizer: sta_units timing_defs",
                           "levels_bench: levelizer sta_units timing_defs"])

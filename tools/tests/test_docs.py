@@ -8,7 +8,16 @@ import unittest
 import common
 
 CRATES, DOCS, EDITS = common.TOP / "crates", common.TOP / "docs", common.TOP / "bench" / "must-fail"
-PAGES = [it for it in [common.TOP / "README.md", common.TOP / "CHANGELOG.md", *DOCS.glob("*.md"), *common.TOP.glob("examples/**/README.md")] if it.exists()]
+PAGES = [
+    it
+    for it in [
+        common.TOP / "README.md",
+        common.TOP / "CHANGELOG.md",
+        *DOCS.glob("*.md"),
+        *common.TOP.glob("examples/**/README.md"),
+    ]
+    if it.exists()
+]
 TRIED = "## Where each crate is tried"
 
 
@@ -33,11 +42,14 @@ def has_row(program, case):
 
 
 def why_not_applied(edit):
-    """Why an edit cannot be applied to the sources of its crate: each of its old texts stands once in its file. None where it can be."""
+    """Why an edit cannot be applied to the sources of its crate: each of its old texts stands once in its file. None
+    where it can be."""
     crate = edit.parent.name if EDITS in edit.parents else edit.parent.parent.name
     texts, name, old = {}, None, None
     for line in edit.read_text().splitlines():
-        key, _, text = line.partition(": ") if not line.startswith("new:") else ("new", "", line[len("new:"):].removeprefix(" "))
+        key, _, text = (
+            line.partition(": ") if not line.startswith("new:") else ("new", "", line[len("new:") :].removeprefix(" "))
+        )
         if key == "file":
             name = text
         elif key == "old":
@@ -105,11 +117,21 @@ class Documents(unittest.TestCase):
 
     def test_tests_of_the_index_are_there(self):
         text = "\n".join(it.read_text() for it in CRATES.glob("*/src/**/*.rt"))
-        gone = [f"{row[0]}: {name}" for row in index_rows() for name in re.findall(r"`(\w+)`", row[3]) if f"fn {name}(" not in text]
+        gone = [
+            f"{row[0]}: {name}"
+            for row in index_rows()
+            for name in re.findall(r"`(\w+)`", row[3])
+            if f"fn {name}(" not in text
+        ]
         files = [(row[0], name) for row in index_rows() for name in re.findall(r"`([\w/]+\.rt)`", row[3])]
         gone += [f"{rule}: {name}" for rule, name in files
                  if not (CRATES / name if "/" in name else CRATES / "shell_tests" / "src" / "examples" / name).exists()]
-        gone += [f"{row[0]}: {program} {case}" for row in index_rows() for program, case in rows_named(row[3]) if not has_row(program, case)]
+        gone += [
+            f"{row[0]}: {program} {case}"
+            for row in index_rows()
+            for program, case in rows_named(row[3])
+            if not has_row(program, case)
+        ]
         if gone:
             # A test may move at any time, and what the page says of it is no reason to refuse the change.
             self.skipTest(f"the index of docs/RULES.md names tests that are gone: {'; '.join(gone)}")
@@ -125,7 +147,11 @@ class Documents(unittest.TestCase):
             crate, edit, gate = re.fullmatch(r"`(\w+)/(\w+)`( \(gate\))?", row[4]).groups()
             file = (CRATES / crate / "must-fail" if gate else EDITS / crate) / f"{edit}.edit"
             changed = re.findall(r"^file: (.*)$", file.read_text(), re.M) if file.is_file() else []
-            gone += [] if code & {CRATES / crate / name for name in changed} else [f"{row[0]}: {crate}/{edit} changes none of its code"]
+            gone += (
+                []
+                if code & {CRATES / crate / name for name in changed}
+                else [f"{row[0]}: {crate}/{edit} changes none of its code"]
+            )
         if gone:
             # As above: code may be cut anew at any time.
             self.skipTest(f"the index of docs/RULES.md names code or edits that are gone: {'; '.join(gone)}")
@@ -135,12 +161,20 @@ class Documents(unittest.TestCase):
         rows = [row.split(" | ") for row in re.findall(r"^\| (`.*) \|$", text[text.index(TRIED):], re.M)]
         text = (common.TOP / "crates.txt").read_text()
         crates = re.findall(r"(?m)^(\w+):", text[:text.index("\n# tests\n")])
-        gone = [] if [row[0].strip("`") for row in rows] == crates else ["its crates are not those of crates.txt, in their order"]
+        gone = (
+            []
+            if [row[0].strip("`") for row in rows] == crates
+            else ["its crates are not those of crates.txt, in their order"]
+        )
         for crate, *tests, edit in rows:
             for file, name in re.findall(r"`([\w/]+\.rt)` `(\w+)`", " ".join(tests)):
                 file = CRATES / file if "/" in file else CRATES / "shell_tests" / "src" / "examples" / file
                 gone += [] if file.is_file() and f"fn {name}(" in file.read_text() else [f"{crate}: {name}"]
-            gone += [f"{crate}: {program} {case}" for program, case in rows_named(" ".join(tests)) if not has_row(program, case)]
+            gone += [
+                f"{crate}: {program} {case}"
+                for program, case in rows_named(" ".join(tests))
+                if not has_row(program, case)
+            ]
             for name, gate in re.findall(r"`(\w+)`( \(gate\))?", edit):
                 place = CRATES / crate.strip("`") / "must-fail" if gate else EDITS / crate.strip("`")
                 gone += [] if (place / f"{name}.edit").is_file() else [f"{crate}: {name}"]

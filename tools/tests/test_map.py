@@ -1,5 +1,4 @@
 """The map of the crates, and what an auditor has to read: the pages have what the scripts of dev/ find."""
-import re
 import sys
 import unittest
 

@@ -91,7 +91,10 @@ class Answers(unittest.TestCase):
                                            "g1:Z\nreport_paths r1:D hold 2\nreport_wns setup\n")
         first, second = (
             "path setup r2:D slack -2.350 credit 0.000 from clk rise to clk rise nodes 1\nr2:D rise 97.350\n",
-            "path setup r2:D slack 1.000 credit 0.500 from clk rise to clk rise nodes 2\ng1:Z rise 90.000\nr2:D fall 94.000\n",
+            (
+                "path setup r2:D slack 1.000 credit 0.500 from clk rise to clk rise nodes 2\ng1:Z rise 90.000\nr2:D"
+                " fall 94.000\n"
+            ),
         )
         rows = f"1 0 paths 2\n{first}{second}2 0 {second}3 0 paths 0\n4 0 wns -2.350\n"
         (self.folder / "out").write_text(f"journal 1 0\nsession 1 rows 4\n{rows}final 0 setup -2.350 -2.350 hold none "
@@ -119,7 +122,10 @@ class Answers(unittest.TestCase):
                                            "2\ndrop_last\n\nrepower_gate g1 NO\nreport_endpoint zz "
                                            "hold\ndrop_last\ndrop_last\nend_what_if\nadvise setup g1 BUF g2 "
                                            "BUF\nadvise hold g1 NO\nreport_wns setup\n")
-        path = "path setup r2:D slack {} credit 0.000 from clk rise to clk rise nodes 2\n{} rise 90.000\nr2:D fall 94.000\n"
+        path = (
+            "path setup r2:D slack {} credit 0.000 from clk rise to clk rise nodes 2\n{} rise 90.000\nr2:D fall"
+            " 94.000\n"
+        )
         rows = ["1 0 taken\n2 0 what_if 10\ntried\n", path.format("-2.350", "g1:Z"), "tried\n",
                 path.format("-3.000", "b1:Z"), "worst 2\nr2:D -3.000\nq 4.000\ndropped\n",
                 "refused E3 NO\nno Q1 zz\ndropped\nno_draft\n",
