@@ -423,57 +423,43 @@ def misfit(joined, parasitics):
     return f"{net.name}: {parasitics.misshape()}" if parasitics.misshape() else None
 
 
+def check_types(findings, library, role, used):
+    """Timing types that are passed over, those apart that Liberty does not have."""
+    types = {}
+    for cell in used:
+        for kind in library.cells[cell].passed_over if cell in library.cells else ():
+            types.setdefault(kind, []).append(cell)
+    told = [(kind in KNOWN_TYPES, f"{kind} in {len(cells)} cells, first {cells[0]}")
+            for kind, cells in sorted(types.items())]
+    what = f"timing types of used cells of the {role} library that"
+    findings.add(f"{what} Liberty does not have, passed over", [line for is_known, line in told if not is_known])
+    findings.add(f"{what} are passed over", [line for is_known, line in told if is_known], True)
+
+
+def check_cells(findings, early, late, used, factors):
+    """Cells that differ between two libraries, or whose early delays exceed their late ones."""
+    both = [it for it in used if it in early.cells and it in late.cells]
+    found = {it: differences(early.cells[it], late.cells[it]) for it in both}
+    differing = [f"{cell}: {'; '.join(found[cell])}" for cell in both if found[cell]]
+    findings.add("cells that differ between the libraries (E3)", differing)
+    lacking = [it for it in used if it not in early.cells and it in late.cells]
+    findings.add("cells that the early library lacks (E3)", lacking)
+    crossed = [f"{cell} {' '.join(arc[:4])}" for cell in both for arc in sorted(late.cells[cell].arcs)
+               if is_crossed(early.cells[cell], late.cells[cell], arc, factors)]
+    findings.add("arcs whose early delay exceeds the late one at some entry", crossed)
+
+
 def check_libraries(findings, early, late, netlist, derates, same):
     used = sorted({it.cell for it in netlist.instances.values()})
-    for library, role in ((early, "early"), (late, "late")):
-        types = {}
-        for cell in used:
-            for kind, count in (library.cells[cell].passed_over if cell in library.cells else {}).items():
-                types.setdefault(kind, []).append(cell)
-        strange = [
-            f"{kind} in {len(cells)} cells, first {cells[0]}"
-            for kind, cells in sorted(types.items())
-            if kind not in KNOWN_TYPES
-        ]
-        findings.add(
-            f"timing types of used cells of the {role} library that Liberty does not have, passed over", strange
-        )
-        findings.add(
-            f"timing types of used cells of the {role} library that are passed over",
-            [
-                f"{kind} in {len(cells)} cells, first {cells[0]}"
-                for kind, cells in sorted(types.items())
-                if kind in KNOWN_TYPES
-            ],
-            True,
-        )
-    factors = {
-        (split, kind): derates.get((split, kind), 1.0) for split in ("early", "late") for kind in ("cell", "net")
-    }
-    findings.add(
-        "derates that are crossed: early above late",
-        [
-            f"{kind} delays: early {factors['early', kind]:g}, late {factors['late', kind]:g}"
-            for kind in ("cell", "net")
-            if factors["early", kind] > factors["late", kind]
-        ],
-    )
-    if same:
-        return
-    differing = [f"{cell}: {'; '.join(differences(early.cells[cell], late.cells[cell]))}" for cell in used
-                 if cell in early.cells and cell in late.cells and differences(early.cells[cell], late.cells[cell])]
-    findings.add("cells that differ between the libraries (E3)", differing)
-    findings.add(
-        "cells that the early library lacks (E3)", [it for it in used if it not in early.cells and it in late.cells]
-    )
-    crossed = [
-        f"{cell} {' '.join(arc[:4])}"
-        for cell in used
-        if cell in early.cells and cell in late.cells
-        for arc in sorted(late.cells[cell].arcs)
-        if is_crossed(early.cells[cell], late.cells[cell], arc, factors)
-    ]
-    findings.add("arcs whose early delay exceeds the late one at some entry", crossed)
+    check_types(findings, early, "early", used)
+    check_types(findings, late, "late", used)
+    kinds = ("cell", "net")
+    factors = {(split, kind): derates.get((split, kind), 1.0) for split in ("early", "late") for kind in kinds}
+    findings.add("derates that are crossed: early above late", [
+        f"{kind} delays: early {factors['early', kind]:g}, late {factors['late', kind]:g}" for kind in kinds
+        if factors["early", kind] > factors["late", kind]])
+    if not same:
+        check_cells(findings, early, late, used, factors)
 
 
 def check_proportions(findings, early, late, joined, commands, given):

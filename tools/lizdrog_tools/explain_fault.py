@@ -258,6 +258,8 @@ EDITS = {
 DRAFTS = ("begin_what_if", "end_what_if", "drop_last")
 NOT_IN_DRAFTS = ("take", "await", "report_through", "report_paths", "advise")
 OTHERS = {"take": 0, "await": 2, "begin_eco": 0, "commit_eco": 0, **{it: 0 for it in DRAFTS}}
+# How many words each command takes that takes a fixed number.
+COUNTS = {**{it: 3 for it in PINS}, **KIND_WORDS, **EDITS, **OTHERS}
 LONGEST_LINE = 65536
 
 
@@ -291,6 +293,57 @@ def draft_hints(name, is_draft, is_group):
     return [f"{name} may only be in a draft: begin_what_if, trials, end_what_if"] if name in DRAFTS else []
 
 
+def mark_hints(name, words, line):
+    """Marks that no line of a script may have."""
+    if "\r" in line:
+        return ["the line ends with CR LF; lines of a script end with a line feed alone: tr -d '\\r' <SCRIPT"]
+    if any(it > "~" for it in line):
+        return ["the line has a byte above 127: a script is ASCII, comments too"]
+    if any(it.startswith("#") and not (name == "set_parasitics" and it[1:].isdigit()) for it in words[1:]):
+        return ["write a comment in a line of its own: after a command # begins none"]
+    return ["a line has one command: ; ends none"] if any(it.endswith(";") for it in words) else []
+
+
+def word_hints(name, words):
+    """Words of a command that are too many or too few, or that it does not take in their place."""
+    if name in COUNTS and len(words) - 1 != COUNTS[name]:
+        here = "is 1" if len(words) == 2 else f"are {len(words) - 1}"
+        several = "" if COUNTS[name] == 1 else "s"
+        return [f"{name} takes {COUNTS[name]} word{several}, and here {here}: see docs/SCRIPTS.md"]
+    if name in PINS and (words[2] not in ("early", "late") or words[3] not in ("rise", "fall")):
+        return [f"{name} takes a pin, then early or late, then rise or fall"]
+    if name == "report_through" and not 1 <= len(words) - 3 <= MOST_PINS:
+        return [f"report_through takes a pin, then setup or hold, then 1 to {MOST_PINS} pins that the path passes"]
+    has_kind = name in KIND_WORDS or name == "report_through"
+    if has_kind and words[2 if name in BEHIND_PIN else 1] not in ("setup", "hold"):
+        return [f"{name} takes setup or hold, in small letters, in this place"]
+    is_even, is_short = len(words) % 2 == 0, 4 <= len(words) <= 2 + 2 * MOST_PAIRS
+    if name == "advise" and not (is_even and is_short and words[1] in ("setup", "hold")):
+        return [f"advise takes setup or hold, then 1 to {MOST_PAIRS} pairs of an instance and a cell"]
+    if name in COUNTED and not (words[-1].isdigit() and 1 <= int(words[-1]) <= 100):
+        return [f"{name} takes a number from 1 to 100"]
+    if name == "await" and not (words[2].isdigit() and 1 <= int(words[2]) <= 1000):
+        return ["await takes a number of a design, then a number of looks from 1 to 1000"]
+    return []
+
+
+def command_hints(name):
+    """What a command is, where nothing else is known to be wrong."""
+    if name in ("begin_eco", "commit_eco"):
+        return ["a group has edits alone, at least one, and its end: begin_eco, edits, commit_eco"]
+    if name in ("journal", "entry", "session", "final"):
+        return ["this is the output of a run, not a script: tools/convert_journal.py makes a script of its journal"]
+    if name == "set_parasitics":
+        return ["set_parasitics takes a net, and then none, or items `c NODE AF` and `r NODE NODE MO`: AF and MO are "
+                "whole numbers up to 10^12"]
+    if name == "insert_buffer":
+        return ["insert_buffer takes a net, a new instance, a new net, a cell, and the sinks that move, at least one"]
+    if name in COUNTS or name == "report_through":
+        return [f"the words of {name} do not fit, or it is in a group of edits that allows no report: see "
+                "docs/SCRIPTS.md"]
+    return [f"there is no command {name[:60]}: docs/SCRIPTS.md has all"] if name else []
+
+
 def script_hints(code, line, before):
     """Why a line of a script is no command, where that can be seen in the line and those before it."""
     words = line.split()
@@ -299,60 +352,10 @@ def script_hints(code, line, before):
     if code == "C2":
         if len(line) > LONGEST_LINE:
             return [f"this line has {len(line)} bytes"]
-        return (
-            [f"{MOST_TRIALS} trials of the draft are before it, and a draft has at most {MOST_TRIALS}"]
-            if is_draft and trials >= MOST_TRIALS
-            else []
-        )
-    if "\r" in line:
-        return ["the line ends with CR LF; lines of a script end with a line feed alone: tr -d '\\r' <SCRIPT"]
-    if any(it > "~" for it in line):
-        return ["the line has a byte above 127: a script is ASCII, comments too"]
-    if any(it.startswith("#") and not (name == "set_parasitics" and it[1:].isdigit()) for it in words[1:]):
-        return ["write a comment in a line of its own: after a command # begins none"]
-    if any(it.endswith(";") for it in words):
-        return ["a line has one command: ; ends none"]
-    counts = {**{it: 3 for it in PINS}, **KIND_WORDS, **EDITS, **OTHERS}
-    if name in counts and len(words) - 1 != counts[name]:
-        here = "is 1" if len(words) == 2 else f"are {len(words) - 1}"
-        return [
-            f"{name} takes {counts[name]} word{'' if counts[name] == 1 else 's'}, and here {here}: see docs/SCRIPTS.md"
-        ]
-    if name in PINS and (words[2] not in ("early", "late") or words[3] not in ("rise", "fall")):
-        return [f"{name} takes a pin, then early or late, then rise or fall"]
-    if name == "report_through" and not 1 <= len(words) - 3 <= MOST_PINS:
-        return [f"report_through takes a pin, then setup or hold, then 1 to {MOST_PINS} pins that the path passes"]
-    if (name in KIND_WORDS or name == "report_through") and words[2 if name in BEHIND_PIN else 1] not in (
-        "setup",
-        "hold",
-    ):
-        return [f"{name} takes setup or hold, in small letters, in this place"]
-    if name == "advise" and not (
-        len(words) % 2 == 0 and 4 <= len(words) <= 2 + 2 * MOST_PAIRS and words[1] in ("setup", "hold")
-    ):
-        return [f"advise takes setup or hold, then 1 to {MOST_PAIRS} pairs of an instance and a cell"]
-    if name in COUNTED and not (words[-1].isdigit() and 1 <= int(words[-1]) <= 100):
-        return [f"{name} takes a number from 1 to 100"]
-    if name == "await" and not (words[2].isdigit() and 1 <= int(words[2]) <= 1000):
-        return ["await takes a number of a design, then a number of looks from 1 to 1000"]
-    if draft_hints(name, is_draft, is_group):
-        return draft_hints(name, is_draft, is_group)
-    if name in ("begin_eco", "commit_eco"):
-        return ["a group has edits alone, at least one, and its end: begin_eco, edits, commit_eco"]
-    if name in ("journal", "entry", "session", "final"):
-        return ["this is the output of a run, not a script: tools/convert_journal.py makes a script of its journal"]
-    if name == "set_parasitics":
-        return [
-            "set_parasitics takes a net, and then none, or items `c NODE AF` and `r NODE NODE MO`: AF and MO are whole"
-            " numbers up to 10^12"
-        ]
-    if name == "insert_buffer":
-        return ["insert_buffer takes a net, a new instance, a new net, a cell, and the sinks that move, at least one"]
-    if name in counts or name == "report_through":
-        return [
-            f"the words of {name} do not fit, or it is in a group of edits that allows no report: see docs/SCRIPTS.md"
-        ]
-    return [f"there is no command {name[:60]}: docs/SCRIPTS.md has all"] if name else []
+        most = f"{MOST_TRIALS} trials of the draft are before it, and a draft has at most {MOST_TRIALS}"
+        return [most] if is_draft and trials >= MOST_TRIALS else []
+    return (mark_hints(name, words, line) or word_hints(name, words) or draft_hints(name, is_draft, is_group)
+            or command_hints(name))
 
 
 INSTEAD = {

@@ -115,7 +115,8 @@ class Answers(unittest.TestCase):
                           ["path 2", "r2:D", "fall", "94.000"], ["path", "g1:Z", "rise", "90.000"],
                           ["path", "r2:D", "fall", "94.000"], ["paths", "none", "", ""], ["wns", "", "", "-2.350"]])
 
-    def test_drafts_and_advice(self):
+    def write_drafts(self):
+        """A script with a draft and advice, and its answers."""
         (self.folder / "s.eco").write_text("take\nbegin_what_if\n# slower\nrepower_gate g1 BUF\n  report_path r2:D "
                                            "setup\nbegin_eco\ninsert_net n9\ninsert_buffer n2 b1 n3 BUF "
                                            "r2:D\ncommit_eco\nreport_path r2:D setup\nreport_worst setup "
@@ -132,6 +133,9 @@ class Answers(unittest.TestCase):
                 "3 0 advice g1 BUF -1.000\n4 0 advice none\n5 0 wns -2.350\n"]
         (self.folder / "out").write_text(f"journal 1 0\nsession 1 rows 5\n{''.join(rows)}final 0 setup -2.350 -2.350 "
                                          "hold none 0.000\n")
+
+    def test_drafts_and_advice(self):
+        self.write_drafts()
         lines = self.read().split("\n")
         self.assertEqual([it for it in lines if "->" in it], ["take -> taken (design 0)",
                                                               "begin_what_if (10 trials) -> 10 answers (design 0)",
@@ -153,6 +157,9 @@ class Answers(unittest.TestCase):
                                                               "advise hold g1 NO -> no resize (design 0)",
                                                               "report_wns setup -> -2.350 ps (design 0)"])
         self.assertIn("    -3.000 ps  r2:D", lines)
+
+    def test_drafts_and_advice_for_programs(self):
+        self.write_drafts()
         told = json.loads(self.read("--json", "--netlist", "top.v", "--library", "late.lib"))["rows"]
         answers = told[1]["answers"]
         self.assertEqual([(it["line"], it["answer"]) for it in answers][:4], [(4, "tried"), (5, "path"), (6, "tried"),
