@@ -13,7 +13,8 @@ import time
 import unittest
 
 import common
-from lizdrog_dev import build_libs, crate_list, exits, gate_seconds, must_fail, small_repository, time_crates
+from lizdrog_dev import build_libs, count_copies, crate_list, exits, gate_seconds, must_fail
+from lizdrog_dev import small_repository, time_crates
 
 ROWS = """sta_units\tproof\t100.0\t120\t900\t10:00:00\t10:02:00
 timing_defs\tproof\t60.0\t70\t800\t10:02:00\t10:03:10
@@ -278,6 +279,15 @@ class Libraries(unittest.TestCase):
 
 
 class Copies(unittest.TestCase):
+    def test_crates_of_tests_and_rows_are_left_out(self):
+        crates = count_copies.compared()
+        self.assertLessEqual({"sta_units", "node_rows", "node_tests", "timing_shell"}, set(crates))
+        self.assertFalse({"base_tests", "kernel_rows", "reader_rows", "shell_rows"} & set(crates))
+
+    def test_what_is_compared(self):
+        text = "/// One.\npub fn two(a: u64) -> u64\n    ensures { result ≡ a }\n{\n    a\n}\n\nfn short() {}\n"
+        self.assertEqual(list(count_copies.functions(text)), [("two", ("fn two(a: u64) -> u64", "{", "a", "}"))])
+
     def test_help_does_not_count(self):
         status, out, _ = common.tool("count_copies", "--help")
         self.assertEqual(status, 0)
