@@ -19,6 +19,10 @@ PAGES = [
     if it.exists()
 ]
 TRIED = "## Where each crate is tried"
+# The crate of a file that pages name without one.
+RULES = "timing_rules"
+# Definitions or laws alone.
+NO_EDITS = (RULES, "bounded_changes")
 
 
 def index_rows():
@@ -39,6 +43,10 @@ def rows_named(cell):
 def has_row(program, case):
     file = CRATES / program / "stdin"
     return file.is_file() and re.search(rf"(?m)^{re.escape(case)}\b", file.read_text()) is not None
+
+
+def text_of(file):
+    return file.read_text() if file.is_file() else ""
 
 
 def why_not_applied(edit):
@@ -106,8 +114,10 @@ class Documents(unittest.TestCase):
     def test_definitions_of_the_index_are_there(self):
         for row in index_rows():
             self.assertEqual(len(row), 5, row)
-            for crate, file, names in re.findall(r"`(\w+)/specs(?:/(\w+))?`(?:: ((?:`\w+`(?:, )?)+))?", row[1]):
-                folder = CRATES / crate / "specs"
+            found = re.findall(r"`(?:(\w+)/specs/?)?(\b[A-Z]\w*)?`(?:: ((?:`\w+`(?:, )?)+))?", row[1])
+            self.assertTrue(found, row)
+            for crate, file, names in found:
+                folder = CRATES / (crate or RULES) / "specs"
                 self.assertTrue(folder.is_dir(), row)
                 if file:
                     text = (folder / f"{file}.antt").read_text()
@@ -160,27 +170,24 @@ class Documents(unittest.TestCase):
         text = (DOCS / "TESTS.md").read_text()
         rows = [row.split(" | ") for row in re.findall(r"^\| (`.*) \|$", text[text.index(TRIED):], re.M)]
         text = (common.TOP / "crates.txt").read_text()
-        crates = re.findall(r"(?m)^(\w+):", text[:text.index("\n# tests\n")])
-        gone = (
-            []
-            if [row[0].strip("`") for row in rows] == crates
-            else ["its crates are not those of crates.txt, in their order"]
-        )
-        for crate, *tests, edit in rows:
-            for file, name in re.findall(r"`([\w/]+\.rt)` `(\w+)`", " ".join(tests)):
-                file = CRATES / file if "/" in file else CRATES / "shell_tests" / "src" / "examples" / file
-                gone += [] if file.is_file() and f"fn {name}(" in file.read_text() else [f"{crate}: {name}"]
-            gone += [
-                f"{crate}: {program} {case}"
-                for program, case in rows_named(" ".join(tests))
-                if not has_row(program, case)
-            ]
-            for name, gate in re.findall(r"`(\w+)`( \(gate\))?", edit):
-                place = CRATES / crate.strip("`") / "must-fail" if gate else EDITS / crate.strip("`")
-                gone += [] if (place / f"{name}.edit").is_file() else [f"{crate}: {name}"]
+        crates = re.findall(r"(?m)^(\w+):", text[: text.index("\n# tests\n")])
+        is_whole = [row[0].strip("`") for row in rows] == crates
+        gone = [] if is_whole else ["its crates are not those of crates.txt, in their order"]
+        for crate, test in rows:
+            for file, name in re.findall(r"`([\w/]+\.rt)` `(\w+)`", test):
+                gone += [] if f"fn {name}(" in text_of(CRATES / file) else [f"{crate}: {name}"]
+            gone += [f"{crate}: {program} {case}" for program, case in rows_named(test) if not has_row(program, case)]
         if gone:
             # As above.
             self.skipTest(f"docs/TESTS.md does not say where each crate is tried: {'; '.join(gone)}")
+
+    def test_each_crate_with_code_has_an_edit(self):
+        for file in CRATES.glob("*/src/lib.rt"):
+            name = file.parent.parent.name
+            if name in NO_EDITS or name.endswith(("_laws", "base_tests", "reader_tests", "shell_tests")):
+                continue
+            edits = [*(EDITS / name).glob("*.edit"), *(CRATES / name / "must-fail").glob("*.edit")]
+            self.assertTrue(edits, name)
 
     def test_edits_that_must_be_refused_apply(self):
         edits = [*CRATES.glob("*/must-fail/*"), *EDITS.glob("*/*")]
