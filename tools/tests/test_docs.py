@@ -154,7 +154,8 @@ class Documents(unittest.TestCase):
                 folder = (CRATES / name).parent if "/" in name else folder
                 code.add(folder / pathlib.Path(name).name)
             gone += [f"{row[0]}: {file.name}" for file in code if not file.is_file()]
-            crate, edit, gate = re.fullmatch(r"`(\w+)/(\w+)`( \(gate\))?", row[4]).groups()
+            crate, edit, gate = re.fullmatch(r"`(?:(\w+)/)?(\w+)`( \(gate\))?", row[4]).groups()
+            crate = crate or re.match(r"`(\w+)/", row[2])[1]
             file = (CRATES / crate / "must-fail" if gate else EDITS / crate) / f"{edit}.edit"
             changed = re.findall(r"^file: (.*)$", file.read_text(), re.M) if file.is_file() else []
             gone += (
