@@ -175,6 +175,39 @@ class Exits(unittest.TestCase):
         self.assertIn("nosuch is no commit", err)
 
 
+class Gate(unittest.TestCase):
+    """.ci/run in a repository of its own, with stand-ins for `rt` and for `./lizdrog`."""
+
+    def setUp(self):
+        self.top = pathlib.Path(tempfile.mkdtemp())
+        self.addCleanup(shutil.rmtree, self.top)
+        for folder in (".ci", "dev", "tools/lizdrog_tools"):
+            shutil.copytree(common.TOP / folder, self.top / folder, ignore=shutil.ignore_patterns("__pycache__"))
+        (self.top / "crates.txt").write_text("sta_units:\n")
+
+    def run_gate(self, of_rt, of_test, **more):
+        """The status of the gate where `rt ci` and the test end with these, and what it prints."""
+        for file, text in (("bin/rt", f'echo "rt $* with $RT_JOBS"\nexit {of_rt}'),
+                           ("lizdrog", f'echo "lizdrog $* $LIZDROG_SLURM"\nexit {of_test}')):
+            (self.top / file).parent.mkdir(exist_ok=True)
+            (self.top / file).write_text(f"#!/bin/sh\n{text}\n")
+            (self.top / file).chmod(0o755)
+        env = {**{name: text for name, text in os.environ.items() if name != "RT_JOBS"}, **more}
+        env["PATH"] = f"{self.top}/bin:{env['PATH']}"
+        return common.run(self.top / ".ci" / "run", env=env)
+
+    def test_statuses(self):
+        status, out, err = self.run_gate(0, 0)
+        self.assertEqual((status, err), (0, ""))
+        self.assertRegex(out, r"(?m)^rt ci with [2-9]\d*$")
+        self.assertIn("lizdrog test --proved no\n", out)
+        self.assertEqual(self.run_gate(3, 0)[0], 3)
+        self.assertEqual(self.run_gate(0, 1)[0], 1)
+
+    def test_a_number_of_checks_that_is_given_stays(self):
+        self.assertIn("rt ci with 7\n", self.run_gate(0, 0, RT_JOBS="7")[1])
+
+
 class Programs(unittest.TestCase):
     """The programs of bench/, which stand outside of crates/."""
 
