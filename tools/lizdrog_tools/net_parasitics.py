@@ -1,7 +1,8 @@
-"""Writes the parasitics of a net of a SPEF as a line of a script: net_parasitics.py SPEF NET [--as NET] [--rename PIN=PIN ..] [--inner PIN ..]
+"""Writes the parasitics of a net of a SPEF as a line of a script: net_parasitics.py SPEF NET [--as NET] [--rename
+PIN=PIN ..] [--inner PIN ..]
 
-It prints `set_parasitics NET c .. r ..`. An edit that changes a net's connections drops the net's parasitics; put this line after it, into
-the same group, and the wires stay.
+It prints `set_parasitics NET c .. r ..`. An edit that changes a net's connections drops the net's parasitics; put this
+line after it, into the same group, and the wires stay.
 
   --as NET          the line is for this net, such as the new net of a buffer
   --rename OLD=NEW  the wires that led to the pin OLD lead to the pin NEW
@@ -64,5 +65,12 @@ def main():
         raise InputFault(given.spef, line, f"the parasitics of {given.net} name {named} and not {', '.join(unknown)}")
     edit = line_of_net(net, given.name or given.net, renamed(net, {one: other for one, _, other in pairs}, given.inner))
     if len(edit) > LONGEST:
-        raise InputFault(given.spef, line, f"the line has {len(edit)} bytes, and a script's line at most {LONGEST}: this net cannot be given in a script")
+        raise InputFault(
+            given.spef,
+            line,
+            (
+                f"the line has {len(edit)} bytes, and a script's line at most {LONGEST}: this net cannot be given in a"
+                " script"
+            ),
+        )
     print(edit)

@@ -1,9 +1,10 @@
 """The command `lizdrog`: chooses the program, runs it, and explains what it refused.
 
-What each call needs is imported here, and all else where it is needed: a call of a short run is over in some hundredths of a second.
+What each call needs is imported here, and all else where it is needed: a call of a short run is over in some hundredths
+of a second. Of `signal` that is its part in C; the rest of it would take a third of the start.
 """
+import _signal as signal
 import os
-import signal
 import sys
 
 from lizdrog_tools import command_line, programs

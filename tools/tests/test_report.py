@@ -106,7 +106,8 @@ class Clocks(unittest.TestCase):
         # From rise to rise of one clock a period; from its rise to its fall half of it.
         self.assertEqual([clocks.separation((a, "rise"), (a, it), "setup") for it in ("rise", "fall")], [4000, 2000])
         self.assertEqual([clocks.separation((a, "rise"), (a, it), "hold") for it in ("rise", "fall")], [0, -2000])
-        # a rises at 0, 4, 8 and b at 1, 7, 13: the least positive time is from 0 to 1; hold is 2 less, the common period.
+        # a rises at 0, 4, 8 and b at 1, 7, 13: the least positive time is from 0 to 1; hold is 2 less, the common
+        # period.
         self.assertEqual([clocks.separation((a, "rise"), (b, "rise"), it) for it in ("setup", "hold")], [1000, -1000])
         self.assertEqual(clocks.separation((b, "rise"), (a, "rise"), "setup"), 1000)
 

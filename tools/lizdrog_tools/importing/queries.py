@@ -169,7 +169,8 @@ class Queries:
         return self.session.tokens(list(dict.fromkeys(found)) if said.has("-unique") else found)
 
     def remove(self, words: list[str]) -> str:
-        """The objects of the first collection that the others do not have; a name stands for the objects of that name."""
+        """The objects of the first collection that the others do not have; a name stands for the objects of that
+        name."""
         said = self.session.parse(words, {"-intersect": 0})
         gone = {it for word in said.plain[1:] for it in self.session.items(word)}
         names = {it for it in gone if isinstance(it, str)}
