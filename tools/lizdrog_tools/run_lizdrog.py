@@ -95,6 +95,14 @@ def explain(status: int, first: bytes, words: list[str]) -> None:
         print(line, file=sys.stderr)
 
 
+def doubt(words: list[str]) -> None:
+    """Says what the documents of a run hardly mean, though the program reads them."""
+    from lizdrog_tools import sanity_words
+    documents = [it for it in command_line.without_journal(words)[0] if it != "--"][1:6]
+    for line in sanity_words.doubts(documents) if len(documents) == 5 else ():
+        say(f"note: {line} (tools/check_setup.py looks closer)")
+
+
 def serve(given: dict, words: list[str]) -> int:
     """Chooses the program, runs it, and explains what it refused."""
     program = given["program"]
@@ -104,6 +112,8 @@ def serve(given: dict, words: list[str]) -> int:
     if not words:
         return 0
     status, first = run(program, words)
+    if words[0] == "run" and status in (0, 1):
+        doubt(words)
     if status:
         explain(status, first, words)
     return status

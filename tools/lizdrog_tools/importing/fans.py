@@ -25,7 +25,7 @@ OPTIONS = {
     "-trace_arcs": 1,
 }
 NOT_READ = ("-levels", "-pin_levels")
-TRACES = ("timing", "enabled", "all")
+TRACES = ("timing", "all")
 KINDS = ("pin", "port", "net")
 
 
@@ -98,6 +98,8 @@ class Fans:
         key = (instance.cell, tuple(changes))
         if key not in self.known:
             cell = self.design.cell_of(instance)
+            if any(it.name.startswith("latch") for it in cell.states):
+                raise CommandFault(f"the latch {instance.name} is met: fans through latches are not read")
             self.known[key] = arcs_of(varied(cell, changes) if changes else cell)
         return self.known[key]
 
@@ -203,7 +205,8 @@ class FanQueries:
         found: dict[str, None] = {}
         for made in (it for text in said.values[option] for it in self.session.objects(text, KINDS)):
             if made.kind == "net":
-                found.update(dict.fromkeys(it.word() for it in self.design.ends[made.name].drivers))
+                ends = self.design.ends[made.name]
+                found.update(dict.fromkeys(it.word() for it in (ends.drivers if goes_back else ends.sinks)))
             else:
                 found[made.name] = None
         return list(found)
