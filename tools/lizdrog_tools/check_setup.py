@@ -288,21 +288,21 @@ def clock_network(joined, ports):
 
 
 def registers(joined):
-    """Each instance with clock pins, with its cell."""
+    """Each instance with clock pins, with these."""
+    clock_pins = {name: cell.clock_pins() for name, cell in joined.library.cells.items()}
     for instance in joined.netlist.instances.values():
-        cell = joined.library.cells.get(instance.cell)
-        if cell and cell.clock_pins():
-            yield instance, cell
+        if clock_pins.get(instance.cell):
+            yield instance, clock_pins[instance.cell]
 
 
 def check_clocks(findings, joined, constraints, network):
     findings.add("design without a clock: nothing is tested", [] if constraints.clocks else ["no create_clock is read"])
-    reached = {f"{instance.name}:{pin}" for instance, cell in registers(joined) for pin in cell.clock_pins()}
+    reached = {f"{instance.name}:{pin}" for instance, pins in registers(joined) for pin in pins}
     idle = [f"{name} on {port}" for name, port in constraints.clocks.items()
             if port is not None and not reached & clock_network(joined, [port])]
     findings.add("clocks that reach no register", idle)
-    unclocked = [f"{instance.name} ({instance.cell})" for instance, cell in registers(joined)
-                 if not any(f"{instance.name}:{pin}" in network for pin in cell.clock_pins())]
+    unclocked = [f"{instance.name} ({instance.cell})" for instance, pins in registers(joined)
+                 if not any(f"{instance.name}:{pin}" in network for pin in pins)]
     findings.add("registers without a clock: their data pins are not tested", unclocked)
 
 
@@ -337,20 +337,23 @@ def check_parasitics(findings, joined, name):
     bare = sorted(net.name for net in joined.nets.values() if net.drivers and net.sinks and net.name not in spef.nets)
     findings.add("nets without parasitics", bare)
     findings.add("nets of the SPEF that the netlist lacks (E2)", sorted(it for it in spef.nets if it not in joined.nets))
-    findings.add("nets whose parasitics do not fit (E14, E15)", sorted(filter(None, (misfit(joined, it) for it in spef.nets.values()))))
+    findings.add("nets whose parasitics do not fit (E14, E15)", sorted(filter(None, (misfit(joined, spef, it) for it in spef.nets))))
     odd = [f"{name}:{line_and_column(spef.text, offset)[0]}: {word} after {section}" for word, offset, section in spef.odd_words]
     findings.add("words of the SPEF that begin with * and fit no section (P1)", odd)
     findings.add("sections of the SPEF that are passed over", [f"{section}, {count} words" for section, count in spef.passed_over.items()], True)
 
 
-def misfit(joined, parasitics):
+def misfit(joined, spef, name):
     """Why the parasitics of a net do not fit, or none."""
-    net = joined.nets.get(parasitics.name)
+    net = joined.nets.get(name)
     if net is None:
         return None
     if not net.drivers:
         return f"{net.name}: no driver"
     pins = {*net.drivers, *net.sinks}
+    if spef.surely_fits(name, pins):
+        return None
+    parasitics = spef.nets[name]
     strange = parasitics.named_pins() - pins
     if strange:
         return f"{net.name}: {', '.join(sorted(strange)[:3])} not on the net"

@@ -1,15 +1,15 @@
 """Reads parasitics (SPEF) in a plain, forgiving way; the nets are found at once, and read when they are asked for."""
 import decimal
 import functools
+import itertools
 import os
 import re
-from collections.abc import Iterator, Mapping
+from collections.abc import Iterable, Iterator, Mapping
 
 from lizdrog_tools.files import TextFault, parsed
 
 # What is no word where one may begin: comments and quoted texts, also several that touch.
 NO_WORDS = re.compile(r'(?://[^\n]*|/\*.*?\*/|"[^"]*")+', re.S)
-MARK = re.compile(r'"|//|/\*')
 WORD = re.compile(r"\S+")
 NET = re.compile(r"\*D_NET(?!\S)")
 SECTIONS = {"*NAME_MAP", "*PORTS", "*PHYSICAL_PORTS", "*POWER_NETS", "*GROUND_NETS", "*D_NET", "*R_NET", "*D_PNET",
@@ -22,7 +22,6 @@ SPEF_VALUE = re.compile(r"[-+]?[\d.][\d.eE:+-]*")
 CAP_UNITS, RES_UNITS = {"PF": 1000000, "FF": 1000}, {"OHM": 1000, "KOHM": 1000000}
 # Words beside which a net is read row by row.
 UNUSUAL = SECTIONS | {"*INDUC"}
-DIGITS = re.compile("[0-9]+")
 HALF = decimal.Decimal("0.5")
 
 
@@ -112,7 +111,7 @@ class Spef:
         plain = self.plain
         places = [it.start() for it in NET.finditer(plain) if not it.start() or plain[it.start() - 1].isspace()]
         self.outside(0, places[0] if places else len(plain))
-        for start, end in zip(places, [*places[1:], len(plain)], strict=True):
+        for start, end in zip(places, [*places[1:], len(plain)]):
             named = WORD.search(plain, start + len("*D_NET"), end)
             self.nets.places[self.name(named.group() if named else "")] = (start, end)
             last = plain.find("*END", start, end)
@@ -129,36 +128,45 @@ class Spef:
 
     def outside(self, start: int, end: int) -> None:
         """Reads a stretch without nets: the header, the name map, and sections that are passed over."""
-        found = [(it.group(), it.start()) for it in WORD.finditer(self.plain, start, end)]
-        words, section = Words([it for it, _ in found]), None
-        while words.at < len(found):
-            word, offset = found[words.at]
-            words.at += 1
-            if word in SECTIONS:
-                section = word
-            elif section == "*NAME_MAP" and word.startswith("*"):
-                self.map[word] = self.spelled(words.word())
-                words.at += 1
-            elif section in PASSED_OVER:
-                self.pass_over(word, offset, section)
-            elif section is None:
-                self.header(word, words)
+        words = Words(self.plain[start:end].split())
+        places = [at for at, word in enumerate(words.words) if word in SECTIONS]
+        for words.at in range(places[0] if places else len(words.words)):
+            self.header(words.words[words.at], words)
+        for at, behind in zip(places, [*places[1:], len(words.words)]):
+            if words.words[at] == "*NAME_MAP":
+                self.read_map(words.words[at + 1 : behind])
+            elif words.words[at] in PASSED_OVER:
+                self.pass_over(words.words, at, behind, start)
 
-    def pass_over(self, word: str, offset: int, section: str) -> None:
-        self.passed_over[section] = self.passed_over.get(section, 0) + 1
-        if word not in ATTRIBUTES and word.startswith("*") and not all(map(REFERENCE.fullmatch,
-                                                                           word.rsplit(self.delimiter, 1))):
-            self.odd_words.append((word, offset, section))
+    def read_map(self, words: list[str]) -> None:
+        """Reads pairs of an index and a name; other words are passed over."""
+        words = iter(words)
+        is_plain = self.bus in ("", "[]")
+        for word in words:
+            if word.startswith("*"):
+                name = next(words, "")
+                self.map[word] = name if is_plain and "\\" not in name else self.spelled(name)
+
+    def pass_over(self, words: list[str], first: int, behind: int, start: int) -> None:
+        """Counts the words of a section, and keeps those that begin as an index and are none."""
+        section = words[first]
+        for at in range(first + 1, behind):
+            word = words[at]
+            self.passed_over[section] = self.passed_over.get(section, 0) + 1
+            if word not in ATTRIBUTES and word.startswith("*") and not all(map(REFERENCE.fullmatch,
+                                                                               word.rsplit(self.delimiter, 1))):
+                found = next(itertools.islice(WORD.finditer(self.plain, start), at, None))
+                self.odd_words.append((word, found.start(), section))
 
     def header(self, word: str, words: Words) -> None:
         if word == "*DELIMITER":
-            self.delimiter = words.word()
+            self.delimiter = words.word(1)
         elif word == "*BUS_DELIMITER":
-            self.bus = words.word() + (words.word(1) if not words.word(1).startswith("*") else "")
+            self.bus = words.word(1) + (words.word(2) if not words.word(2).startswith("*") else "")
         elif word in ("*C_UNIT", "*R_UNIT"):
             units = CAP_UNITS if word == "*C_UNIT" else RES_UNITS
             try:
-                value = decimal.Decimal(words.word()) * units.get(words.word(1), 1000)
+                value = decimal.Decimal(words.word(1)) * units.get(words.word(2), 1000)
             except ArithmeticError:
                 return
             if word == "*C_UNIT":
@@ -215,12 +223,13 @@ class Spef:
         """The index of each name of the name map."""
         return {name: index for index, name in self.map.items()}
 
-    def word_of(self, pin: str) -> str:
-        """How this text may write a pin word or a port."""
-        head, mark, tail = pin.rpartition(":")
-        return f"{self.indexes.get(head, head)}{self.delimiter}{tail}" if mark else self.indexes.get(tail, tail)
+    def words_for(self, pins: Iterable[str]) -> set[str]:
+        """How this text may write pin words and ports."""
+        known, mark = self.indexes.get, self.delimiter
+        parts = (it.rpartition(":") for it in pins)
+        return {f"{known(head, head)}{mark}{tail}" if colon else known(tail, tail) for head, colon, tail in parts}
 
-    def surely_fits(self, name: str, pins: set[str]) -> bool:
+    def surely_fits(self, name: str, pins: Iterable[str]) -> bool:
         """Whether the parasitics of a net are a tree over just these pins, as its words alone tell; where they do not
         tell it, as of other ways to write the pins, it is not sure."""
         words = self.words_of(name)
@@ -230,14 +239,13 @@ class Spef:
             return False
         if not 2 < caps < ress < end or not UNUSUAL.isdisjoint(words) or (end - ress) % 4 != 1:
             return False
-        ends, asked = {*words[ress + 2 : end : 4], *words[ress + 3 : end : 4]}, set(map(self.word_of, pins))
+        ends, asked = {*words[ress + 2 : end : 4], *words[ress + 3 : end : 4]}, self.words_for(pins)
         if len(ends) != (end - ress) // 4 + 1 or not asked <= ends:
             return False
         start = words[0] + self.delimiter
-        if not all(it.startswith(start) and DIGITS.fullmatch(it, len(start)) for it in ends - asked):
+        if not all(it.startswith(start) and it[len(start) :].isdecimal() for it in ends - asked):
             return False
-        own = {*ends, *words[2:caps]}
-        return all(it in ends for it in cap_nodes(words[caps + 1 : ress], own, start))
+        return ends.issuperset(cap_nodes(words[caps + 1 : ress], {*ends, *words[2:caps]}, start))
 
     def words_of(self, name: str) -> list[str]:
         """The words of a net from its name on, with its *END, and with what may come behind that."""
@@ -283,31 +291,39 @@ class Spef:
             words.at += 1
 
 
-def cap_nodes(rows: list[str], own: set[str], start: str) -> Iterator[str]:
+def cap_nodes(rows: list[str], own: set[str], start: str) -> list[str]:
     """The node of each capacitance: of two the first that is this net's, by its words or by how inner nodes begin."""
-    at = 0
-    while at + 2 < len(rows):
+    at, last, nodes = 0, len(rows) - 2, []
+    while at < last:
         node, other = rows[at + 1], rows[at + 2]
-        if SPEF_VALUE.fullmatch(other):
-            yield node
+        if other[0] != "*" and SPEF_VALUE.fullmatch(other):
+            nodes.append(node)
             at += 3
         else:
-            yield node if node in own or node.startswith(start) or other not in own else other
+            nodes.append(node if node in own or node.startswith(start) or other not in own else other)
             at += 4
-    if at != len(rows):
-        yield ""
+    return nodes if at == len(rows) else [""]
 
 
 def blanked(text: str) -> str:
     """The text with spaces in the place of comments and of quoted texts, each line at its place."""
-    parts, done, at = [], 0, 0
-    while mark := MARK.search(text, at):
-        at = mark.end()
-        found = NO_WORDS.match(text, mark.start()) if text[mark.start() - 1 : mark.start()].strip() == "" else None
-        if found:
-            parts += [text[done : found.start()], re.sub(r"[^\n]", " ", found.group())]
-            done = at = found.end()
+    parts, done = [], 0
+    for at in marks(text):
+        if at >= done and not text[max(at - 1, 0) : at].strip():
+            found = NO_WORDS.match(text, at)
+            if found:
+                parts += [text[done:at], re.sub(r"[^\n]", " ", found.group())]
+                done = found.end()
     return "".join([*parts, text[done:]]) if parts else text
+
+
+def marks(text: str) -> Iterator[int]:
+    """Where comments and quoted texts may begin, in order."""
+    found = {it: text.find(it) for it in ('"', "//", "/*")}
+    while found := {it: at for it, at in found.items() if at >= 0}:
+        mark = min(found, key=found.get)
+        yield found[mark]
+        found[mark] = text.find(mark, found[mark] + 1)
 
 
 def parse_spef(text: str) -> Spef:

@@ -21,7 +21,7 @@ DECLARATION = re.compile(
     r"((?!wire\b)[A-Za-z_][\w$]*(?:\s*,\s*(?!wire\b)[A-Za-z_][\w$]*)*)\s*;"
 )
 WORDS = {"input", "output", "wire", "module", "endmodule"}
-MODULE = re.compile(r"\b(?:end)?module\b")
+MODULE, MODULES = re.compile(r"\b(?:end)?module\b"), ["module", "endmodule"]
 BIT = re.compile(r"[0-9]{1,9}")
 FLATTEN = "flatten the design into one module first (yosys: synth -flatten)"
 
@@ -96,9 +96,7 @@ class Netlist:
         tokens.take()
         self.name = tokens.take()[1]
         self.header()
-        while tokens.look() not in ("endmodule", ""):
-            if self.plain_instance() or self.plain_declaration():
-                continue
+        while self.plain_statements() not in ("endmodule", ""):
             if tokens.look() in ("input", "output", "wire") and tokens.sort() == IDENTIFIER:
                 self.declaration(tokens.take()[1], ";")
             elif tokens.look(2) == "(":
@@ -114,6 +112,17 @@ class Netlist:
                 self.declaration(tokens.take()[1], ")")
             else:
                 tokens.take()
+
+    def plain_statements(self) -> str:
+        """Reads statements as most tools write them; gives the token behind them."""
+        at = -1
+        while at != self.tokens.place():
+            at = self.tokens.place()
+            while self.plain_declaration():
+                pass
+            while self.plain_instance():
+                pass
+        return self.tokens.look()
 
     def plain_instance(self) -> bool:
         """Reads an instance as most tools write it: each pin by its name, with one net, one bit, a constant or nothing."""
@@ -142,10 +151,13 @@ class Netlist:
         found = DECLARATION.match(self.text, self.tokens.place())
         if found is None:
             return False
-        way, first, last, _ = found.groups()
+        way, first, last, names = found.groups()
         span = bits_of(int(first), int(last)) if first else [""]
-        for it in SIMPLE_NAME.finditer(self.text, *found.span(4)):
-            self.declare(way, it.group(), span, it.start())
+        if "," in names:
+            for it in SIMPLE_NAME.finditer(self.text, *found.span(4)):
+                self.declare(way, it.group(), span, it.start())
+        else:
+            self.declare(way, names, span, found.start(4))
         self.tokens.go_on(found.end())
         return True
 
@@ -207,7 +219,9 @@ class Netlist:
 class Net:
     """A net with the pins that drive it and those that it leads to."""
 
-    def __init__(self, name):
+    __slots__ = ("drivers", "name", "sinks")
+
+    def __init__(self, name: str):
         self.name, self.drivers, self.sinks = name, [], []
 
 
@@ -215,20 +229,19 @@ class Joined:
     """A netlist with its cells: each net with its drivers and sinks, as pin words."""
 
     def __init__(self, netlist, library):
-        self.netlist, self.library, self.nets, self.net_of = netlist, library, {}, {}
+        self.netlist, self.library, self.net_of = netlist, library, {}
         self.ends = None
-        for name in netlist.declared:
-            self.nets[name] = Net(name)
+        self.nets = {name: Net(name) for name in netlist.declared}
         for port, way in netlist.ports.items():
             self.join(port, port, way == "input")
         for instance in netlist.instances.values():
             cell = library.cells.get(instance.cell)
-            for pin, net in instance.nets.items():
-                if net is not None and cell and pin in cell.pins:
-                    self.join(f"{instance.name}:{pin}", net, cell.pins[pin][0] == "output")
+            for pin, name in instance.nets.items() if cell else ():
+                if name is not None and pin in cell.pins:
+                    self.join(f"{instance.name}:{pin}", name, cell.pins[pin][0] == "output")
 
     def join(self, pin, name, drives):
-        net = self.nets.setdefault(name, Net(name))
+        net = self.nets.get(name) or self.nets.setdefault(name, Net(name))
         (net.drivers if drives else net.sinks).append(pin)
         self.net_of[pin] = name
 
@@ -255,7 +268,7 @@ class Joined:
 def parse_netlist(text: str) -> Netlist:
     """The netlist of a text that has one module, and that to its end."""
     netlist = Netlist(text)
-    if not (netlist.is_whole and [it.group() for it in MODULE.finditer(text)] == ["module", "endmodule"]):
+    if not netlist.is_whole or text.count("module") > len(MODULES) and MODULE.findall(text) != MODULES:
         check_modules(text, netlist.name)
     return netlist
 
