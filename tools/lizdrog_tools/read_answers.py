@@ -16,7 +16,6 @@ Endpoints are those of the script's report_endpoint and report_worst; tools/endp
 of a report_paths are one below the other, worst first; below a draft is each of its trials with its answer.
 """
 import argparse
-import copy
 import csv
 import json
 import os
@@ -181,28 +180,51 @@ def read_script_file(name: str | os.PathLike) -> list[Command]:
 # ------------------------------------------------------------------------------------------------ the design of a row
 
 class Edited:
-    """A netlist with its library, taken through the ECOs of a journal one after the other."""
+    """A netlist with its library, taken through the ECOs of a journal one after the other, and through those of a draft
+    and back."""
 
     def __init__(self, netlist, library, ecos):
         self.netlist, self.library, self.ecos, self.number, self.joined = netlist, library, ecos, 0, None
+        self.tried: list[str] = []
+        self.before: list[tuple[str, Instance | None]] = []
 
-    def at(self, number):
-        """The design of this number; numbers may not fall."""
+    def at(self, number: int, tried: list[str] | None = None) -> Joined:
+        """The design of this number, with the edits of a draft; numbers may not fall. It stands until the next one is
+        asked for."""
+        if self.tried != (tried or []) or self.number < number:
+            self.go_back()
         while self.number < min(number, len(self.ecos)):
             for edit in self.ecos[self.number]:
                 self.edit_of(edit)
-            self.number, self.joined = self.number + 1, None
+            self.number, self.before = self.number + 1, []
         if self.joined is None:
             self.joined = Joined(self.netlist, self.library)
+        if tried and not self.tried:
+            self.tried, self.before = tried, []
+            for edit in tried:
+                self.edit_of(edit)
         return self.joined
 
-    def drafted(self, number, edits):
-        """The design of this number after edits that are tried, as one of its own."""
-        self.at(number)
-        other = Edited(copy.deepcopy(self.netlist), self.library, [])
-        for edit in edits:
-            other.edit_of(edit)
-        return other
+    def go_back(self) -> None:
+        """Undoes the edits of a draft."""
+        for name, made in reversed(self.before if self.tried else []):
+            self.put(name, made)
+        self.tried, self.before = [], []
+
+    def drafted(self, edits: list[str]) -> "Drafted":
+        """The designs after edits that are tried."""
+        return Drafted(self, edits)
+
+    def put(self, name: str, made: Instance | None) -> None:
+        """Puts an instance in the place of the one of its name, or takes that away."""
+        old = self.netlist.instances.get(name)
+        self.before.append((name, old))
+        if made is None:
+            self.netlist.instances.pop(name, None)
+        else:
+            self.netlist.instances[name] = made
+        if self.joined is not None:
+            self.joined.exchange(old, made)
 
     def pin(self, word):
         instance, _, pin = word.rpartition(":")
@@ -215,25 +237,44 @@ class Edited:
         except (KeyError, IndexError) as why:
             raise TextFault(None, f"the edit `{edit[:80]}` of the journal names what neither the netlist nor the library has") from why
 
+    def connect(self, word: str, net: str | None) -> None:
+        """Connects a pin with a net, or opens it."""
+        instance, pin = self.pin(word)
+        made = instance.copied()
+        made.nets[pin] = net
+        self.put(made.name, made)
+
     def edit(self, words):
-        name, made = words[0], self.netlist.instances
+        name, instances = words[0], self.netlist.instances
         if name == "repower_gate":
-            made[words[1]].cell = words[2]
+            made = instances[words[1]].copied()
+            made.cell = words[2]
+            self.put(made.name, made)
         elif name == "insert_gate":
-            made[words[1]] = Instance(words[1], words[2], 0)
+            self.put(words[1], Instance(words[1], words[2], 0))
         elif name == "remove_gate":
-            del made[words[1]]
+            self.put(instances[words[1]].name, None)
         elif name in ("connect_pin", "disconnect_pin"):
-            instance, pin = self.pin(words[1])
-            instance.nets[pin] = words[2] if name == "connect_pin" else None
+            self.connect(words[1], words[2] if name == "connect_pin" else None)
         elif name == "insert_buffer":
             net, inst, fresh, cell = words[1:5]
-            buffer = made[inst] = Instance(inst, cell, 0)
+            buffer = Instance(inst, cell, 0)
             for pin, (way, _) in self.library.cells[cell].pins.items():
                 buffer.nets[pin] = net if way == "input" else fresh
+            self.put(inst, buffer)
             for sink in words[5:]:
-                instance, pin = self.pin(sink)
-                instance.nets[pin] = fresh
+                self.connect(sink, fresh)
+
+
+class Drafted:
+    """The designs of a journal with the edits of a draft."""
+
+    def __init__(self, edited: Edited, edits: list[str]):
+        self.edited, self.edits = edited, edits
+
+    def at(self, number: int) -> Joined:
+        """The design of this number with these edits; it stands until the next one is asked for."""
+        return self.edited.at(number, self.edits)
 
 
 def beside(design, pin, direction):
@@ -254,7 +295,7 @@ def draft_rows(command, row, edited):
         elif answer.sort == "dropped":
             tried.pop()
         if edited and answer.sort in ("tried", "dropped"):
-            shown = edited.drafted(row.design, [edit for edits in tried for edit in edits]) if tried else edited
+            shown = edited.drafted([edit for edits in tried for edit in edits]) if tried else edited
 
 
 def path_lines(row, edited):

@@ -20,8 +20,8 @@ ATTRIBUTES = {"*C", "*L", "*S", "*D"}
 REFERENCE = re.compile(r"\*\d+|[^*].*", re.S)
 SPEF_VALUE = re.compile(r"[-+]?[\d.][\d.eE:+-]*")
 CAP_UNITS, RES_UNITS = {"PF": 1000000, "FF": 1000}, {"OHM": 1000, "KOHM": 1000000}
-# Words beside which a net is read row by row.
-UNUSUAL = SECTIONS | {"*INDUC"}
+# Words that are in no row.
+UNUSUAL = SECTIONS | PARTS
 HALF = decimal.Decimal("0.5")
 
 
@@ -237,7 +237,10 @@ class Spef:
             caps, ress, end = words.index("*CAP"), words.index("*RES"), words.index("*END")
         except ValueError:
             return False
-        if not 2 < caps < ress < end or not UNUSUAL.isdisjoint(words) or (end - ress) % 4 != 1:
+        rows = words[3:caps], words[caps + 1 : ress], words[ress + 1 : end]
+        if not 2 < caps < ress < end or (end - ress) % 4 != 1 or words[2] != "*CONN":
+            return False
+        if not all(map(UNUSUAL.isdisjoint, rows)):
             return False
         ends, asked = {*words[ress + 2 : end : 4], *words[ress + 3 : end : 4]}, self.words_for(pins)
         if len(ends) != (end - ress) // 4 + 1 or not asked <= ends:
@@ -245,7 +248,7 @@ class Spef:
         start = words[0] + self.delimiter
         if not all(it.startswith(start) and it[len(start) :].isdecimal() for it in ends - asked):
             return False
-        return ends.issuperset(cap_nodes(words[caps + 1 : ress], {*ends, *words[2:caps]}, start))
+        return ends.issuperset(cap_nodes(rows[1], {*ends, *rows[0]}, start))
 
     def words_of(self, name: str) -> list[str]:
         """The words of a net from its name on, with its *END, and with what may come behind that."""

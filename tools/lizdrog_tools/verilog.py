@@ -15,10 +15,11 @@ ESCAPED, IDENTIFIER, VALUE, MARK = 1, 2, 3, 5
 NAME = r"(?:\\\S+(?=\s)|[A-Za-z_][\w$]*)"
 INSTANCE = re.compile(rf"\s*({NAME})\s+({NAME})\s*\(")
 CONNECTION = re.compile(rf"\s*\.\s*({NAME})\s*\(\s*(?:({NAME})\s*(?:\[\s*([0-9]{{1,9}})\s*\]\s*)?|(\d+'\w+)\s*)?\)\s*(,|\)\s*;)")
-SIMPLE_NAME = re.compile(r"[A-Za-z_][\w$]*")
+DECLARED = rf"(?!\\?wire\b){NAME}"
+ONE_DECLARED = re.compile(DECLARED)
 DECLARATION = re.compile(
     r"\s*(input|output|wire)\s+(?:\[\s*([0-9]{1,9})\s*:\s*([0-9]{1,9})\s*\]\s*)?"
-    r"((?!wire\b)[A-Za-z_][\w$]*(?:\s*,\s*(?!wire\b)[A-Za-z_][\w$]*)*)\s*;"
+    rf"({DECLARED}(?:\s*,\s*{DECLARED})*)\s*;"
 )
 WORDS = {"input", "output", "wire", "module", "endmodule"}
 MODULE, MODULES = re.compile(r"\b(?:end)?module\b"), ["module", "endmodule"]
@@ -33,6 +34,12 @@ class Instance:
 
     def __init__(self, name, cell, offset):
         self.name, self.cell, self.offset, self.nets, self.tied = name, cell, offset, {}, set()
+
+    def copied(self) -> "Instance":
+        """A copy with connections of its own."""
+        made = Instance(self.name, self.cell, self.offset)
+        made.nets, made.tied = dict(self.nets), self.tied
+        return made
 
 
 def bits_of(first: int, last: int) -> list[str]:
@@ -153,11 +160,10 @@ class Netlist:
             return False
         way, first, last, names = found.groups()
         span = bits_of(int(first), int(last)) if first else [""]
-        if "," in names:
-            for it in SIMPLE_NAME.finditer(self.text, *found.span(4)):
-                self.declare(way, it.group(), span, it.start())
-        else:
-            self.declare(way, names, span, found.start(4))
+        for it in ONE_DECLARED.finditer(f"{names} ") if "," in names else ():
+            self.declare(way, it.group().removeprefix("\\"), span, found.start(4) + it.start())
+        if "," not in names:
+            self.declare(way, names.removeprefix("\\"), span, found.start(4))
         self.tokens.go_on(found.end())
         return True
 
@@ -235,15 +241,31 @@ class Joined:
         for port, way in netlist.ports.items():
             self.join(port, port, way == "input")
         for instance in netlist.instances.values():
-            cell = library.cells.get(instance.cell)
-            for pin, name in instance.nets.items() if cell else ():
-                if name is not None and pin in cell.pins:
-                    self.join(f"{instance.name}:{pin}", name, cell.pins[pin][0] == "output")
+            self.join_all(instance)
 
     def join(self, pin, name, drives):
         net = self.nets.get(name) or self.nets.setdefault(name, Net(name))
         (net.drivers if drives else net.sinks).append(pin)
         self.net_of[pin] = name
+
+    def join_all(self, instance: Instance) -> None:
+        """Joins the pins of an instance that its cell has."""
+        cell = self.library.cells.get(instance.cell)
+        for pin, name in instance.nets.items() if cell else ():
+            if name is not None and pin in cell.pins:
+                self.join(f"{instance.name}:{pin}", name, cell.pins[pin][0] == "output")
+
+    def exchange(self, old: Instance | None, made: Instance | None) -> None:
+        """Joins an instance in the place of another."""
+        self.ends = None
+        for pin in old.nets if old else ():
+            word = f"{old.name}:{pin}"
+            net = self.nets.get(self.net_of.pop(word, None))
+            for pins in (net.drivers, net.sinks) if net else ():
+                if word in pins:
+                    pins.remove(word)
+        if made:
+            self.join_all(made)
 
     def cell_of(self, pin: str) -> str | None:
         """The cell's name of an instance pin, or none for a port."""
