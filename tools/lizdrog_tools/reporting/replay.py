@@ -64,8 +64,9 @@ class Replay:
         for corner, states in self.states.items():
             before, after = states[number - 1].totals, states[number].totals
             for kind in KINDS:
-                if any(before.get((kind, it)) != after.get((kind, it)) for it in TOTALS):
-                    said = (f"{WORDS[it]} {before.get((kind, it))} → {after.get((kind, it))}" for it in TOTALS)
+                pairs = [(WORDS[it], before.get((kind, it)), after.get((kind, it))) for it in TOTALS]
+                if any(one != other for _, one, other in pairs):
+                    said = (f"{word} {one}" + (f" → {other}" if other != one else "") for word, one, other in pairs)
                     yield f"{corner} {kind}: {', '.join(said)}"
 
     def followed(self, number: int) -> set[tuple[str, str]]:
