@@ -77,6 +77,7 @@ CASES = {
     "an input port": "set_disable_timing [get_ports c]\n",
     "a driving cell": "set_driving_cell -lib_cell BUF [get_ports {a c}]\nset_driving_cell -lib_cell INV "
     "-input_transition_rise 33 -input_transition_fall 44 [get_ports d]\n",
+    "a driving cell behind a transition": "set_driving_cell -lib_cell BUF [get_ports c]\n",
     "a driving cell by its pins": "set_driving_cell -lib_cell NAND2 -from_pin A -pin Y [get_ports {a d}]\n",
     "a driving cell with derates": "set_driving_cell -lib_cell BUF [get_ports {a c}]\nset_timing_derate -early "
     "0.9\nset_timing_derate -late 1.2\n",

@@ -373,6 +373,10 @@ class Timing(Constraints):
             lines, ["set_input_transition 7 [get_ports {e}]", "set_input_delay -clock clk 22 [get_ports {e}]"]
         )
 
+    def test_a_driving_cell_behind_a_transition_counts(self):
+        lines = self.sdc_lines("set_input_transition 50 e\nset_driving_cell -lib_cell BUF e\n")
+        self.assertEqual(lines, ["set_input_transition 7 [get_ports {e}]"])
+
     def test_what_changes_slacks_is_refused(self):
         for text, kind in (
             ("create_generated_clock -name g -source clk -divide_by 2 [get_pins r1/Q]", "create_generated_clock"),
@@ -400,6 +404,7 @@ class Timing(Constraints):
             ("set_data_check -from r1/D -to r1/D 1", "set_data_check"),
             ("set_false_path -from [get_ports clk]", "from-clock-port"),
             ("set_driving_cell -lib_cell DFF e", "driving-cell"),
+            ("set_driving_cell -lib_cell BUF e; set_input_transition 3 e", "transition-beside-drive"),
             ("create_clock -name c2 -period 90 -waveform {0 10 20 30}", "waveform"),
             ("set_clock_latency -source 3 clk; create_clock -period 100 -name c2 e", "latency"),
         ):
