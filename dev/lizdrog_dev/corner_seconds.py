@@ -5,10 +5,11 @@ A design of N cells (default: 5000) is made by bench/design.py with parasitics b
 have constraints of their own. `lizdrog corners --endpoints` runs them anew, J at a time (default: the processors here)
 and one at a time, P times (default: 5), the one or the other first. It prints for both the median of the seconds and of
 the seconds of processors, of all processes of a call; and the median and the range of the pool's as a part of the
-other's in the same pair. Its status is 1 where that median is above 1.15. Seconds of processors are the measure where
+other's in the same pair. All calls have to give the same slacks. Its status is 1 where that median is above 1.15. Seconds of processors are the measure where
 other programs run; they grow a little where these use the same caches.
 """
 import argparse
+import json
 import os
 import pathlib
 import statistics
@@ -33,8 +34,8 @@ def write_project(folder: pathlib.Path, corners: int) -> None:
     (folder / "bench.toml").write_text("\n".join(lines) + "\n")
 
 
-def spent(program: pathlib.Path, folder: pathlib.Path, jobs: int) -> tuple[float, float, bytes]:
-    """Seconds and seconds of processors of a call, and its answers."""
+def spent(program: pathlib.Path, folder: pathlib.Path, jobs: int) -> tuple[float, float, dict]:
+    """Seconds and seconds of processors of a call, and the slacks that it gives."""
     words = [sys.executable, TOP / "tools" / "corners.py", "bench.toml", "--endpoints", "--again", "--quiet", "--json"]
     out = folder / "answers.json"
     with open(out, "wb") as sink:
@@ -44,14 +45,14 @@ def spent(program: pathlib.Path, folder: pathlib.Path, jobs: int) -> tuple[float
         seconds = time.monotonic() - began
     if status:
         sys.exit(f"corners.py: lizdrog corners ended with the wait status {status}")
-    return seconds, used.ru_utime + used.ru_stime, out.read_bytes()
+    return seconds, used.ru_utime + used.ru_stime, json.loads(out.read_text())["endpoints"]
 
 
-def line(runs: list[tuple[float, float, bytes]]) -> str:
+def line(runs: list[tuple[float, float, dict]]) -> str:
     return f"{statistics.median(it[0] for it in runs):.2f} s, {statistics.median(it[1] for it in runs):.2f} s of processors"
 
 
-def timed(given: argparse.Namespace, folder: pathlib.Path) -> dict[int, list[tuple[float, float, bytes]]]:
+def timed(given: argparse.Namespace, folder: pathlib.Path) -> dict[int, list[tuple[float, float, dict]]]:
     """The calls with J runs at a time and with one, in turn."""
     runs = {given.jobs: [], 1: []}
     for at in range(given.pairs):
@@ -74,6 +75,8 @@ def main() -> int:
         made(folder, given.cells)
         write_project(folder, given.corners)
         runs = timed(given, folder)
+    if any(it[2] != runs[1][0][2] for those in runs.values() for it in those):
+        sys.exit("corners.py: two calls gave other slacks")
     ratios = [pool[1] / single[1] for pool, single in zip(runs[given.jobs], runs[1], strict=True)]
     ratio = statistics.median(ratios)
     print(f"{given.corners} corners of {given.cells} cells, {given.jobs} at a time: {line(runs[given.jobs])}")

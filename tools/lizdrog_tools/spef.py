@@ -19,6 +19,7 @@ PARTS = {"*CONN", "*CAP", "*RES", "*END", "*INDUC"}
 ATTRIBUTES = {"*C", "*L", "*S", "*D"}
 REFERENCE = re.compile(r"\*\d+|[^*].*", re.S)
 SPEF_VALUE = re.compile(r"[-+]?[\d.][\d.eE:+-]*")
+ESCAPE = re.compile(r"\\([\W_])")
 CAP_UNITS, RES_UNITS = {"PF": 1000000, "FF": 1000}, {"OHM": 1000, "KOHM": 1000000}
 # Words that are in no row.
 UNUSUAL = SECTIONS | PARTS
@@ -178,8 +179,8 @@ class Spef:
 
     def spelled(self, word: str) -> str:
         """A name without its escapes, the bus delimiters as brackets."""
-        if "\\" not in word and self.bus in ("", "[]"):
-            return word
+        if self.bus in ("", "[]"):
+            return ESCAPE.sub(r"\1", word) if "\\" in word else word
         said, at = [], 0
         while at < len(word):
             if word[at] == "\\" and at + 1 < len(word) and not word[at + 1].isalnum():
