@@ -5,8 +5,8 @@ A design of N cells (default: 5000) is made by bench/design.py with parasitics b
 have constraints of their own. `lizdrog corners --endpoints` runs them anew, J at a time (default: the processors here)
 and one at a time, P times (default: 5), the one or the other first. It prints for both the median of the seconds and of
 the seconds of processors, of all processes of a call; and the median and the range of the pool's as a part of the
-other's in the same pair. All calls have to give the same slacks. Its status is 1 where that median is above 1.15. Seconds of processors are the measure where
-other programs run; they grow a little where these use the same caches.
+other's in the same pair. All calls have to give the same slacks. Its status is 1 where that median is above 1.15.
+Seconds of processors are the measure where other programs run; they grow a little where these use the same caches.
 """
 import argparse
 import json
@@ -49,7 +49,8 @@ def spent(program: pathlib.Path, folder: pathlib.Path, jobs: int) -> tuple[float
 
 
 def line(runs: list[tuple[float, float, dict]]) -> str:
-    return f"{statistics.median(it[0] for it in runs):.2f} s, {statistics.median(it[1] for it in runs):.2f} s of processors"
+    seconds, processors = (statistics.median(it[at] for it in runs) for at in (0, 1))
+    return f"{seconds:.2f} s, {processors:.2f} s of processors"
 
 
 def timed(given: argparse.Namespace, folder: pathlib.Path) -> dict[int, list[tuple[float, float, dict]]]:

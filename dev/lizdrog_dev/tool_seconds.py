@@ -53,7 +53,8 @@ def main() -> int:
         made(folder, given.cells)
         net = write_questions(folder)
         with open(folder / "ask.out", "wb") as out:
-            subprocess.run([given.program.resolve(), "run", *DOCUMENTS, "1", "ask.eco"], cwd=folder, stdout=out, check=True)
+            words = [given.program.resolve(), "run", *DOCUMENTS, "1", "ask.eco"]
+            subprocess.run(words, cwd=folder, stdout=out, check=True)
         beside = ["--netlist", "bench.v", "--library", "bench.lib"]
         calls = [["net_parasitics.py", "bench.spef", net], ["check_setup.py", *DOCUMENTS],
                  ["read_answers.py", "ask.eco", "ask.out", *beside], ["endpoint_questions.py", "bench.lib", "bench.v"]]

@@ -337,7 +337,8 @@ def check_parasitics(findings, joined, name):
     bare = sorted(net.name for net in joined.nets.values() if net.drivers and net.sinks and net.name not in spef.nets)
     findings.add("nets without parasitics", bare)
     findings.add("nets of the SPEF that the netlist lacks (E2)", sorted(it for it in spef.nets if it not in joined.nets))
-    findings.add("nets whose parasitics do not fit (E14, E15)", sorted(filter(None, (misfit(joined, spef, it) for it in spef.nets))))
+    misfits = (misfit(joined, spef, it) for it in spef.nets)
+    findings.add("nets whose parasitics do not fit (E14, E15)", sorted(filter(None, misfits)))
     odd = [f"{name}:{line_and_column(spef.text, offset)[0]}: {word} after {section}" for word, offset, section in spef.odd_words]
     findings.add("words of the SPEF that begin with * and fit no section (P1)", odd)
     findings.add("sections of the SPEF that are passed over", [f"{section}, {count} words" for section, count in spef.passed_over.items()], True)

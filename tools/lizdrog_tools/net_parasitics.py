@@ -1,7 +1,8 @@
-"""Writes the parasitics of nets of a SPEF as lines of a script: net_parasitics.py SPEF NET .. [--as NET] [--rename PIN=PIN ..] [--inner PIN ..]
+"""Writes the parasitics of nets of a SPEF as lines of a script: net_parasitics.py SPEF NET .. [--as NET]
+[--rename PIN=PIN ..] [--inner PIN ..]
 
-It prints `set_parasitics NET c .. r ..` for each net; the options are for a single one. An edit that changes a net's connections drops the net's parasitics; put this line after it, into
-the same group, and the wires stay.
+It prints `set_parasitics NET c .. r ..` for each net; the options are for a single one. An edit that changes a net's
+connections drops the net's parasitics; put this line after it, into the same group, and the wires stay.
 
   --as NET          the line is for this net, such as the new net of a buffer
   --rename OLD=NEW  the wires that led to the pin OLD lead to the pin NEW
@@ -56,7 +57,8 @@ def edit_of(given, spef, name):
         raise InputFault(given.spef, line, f"the parasitics of {name} name {named} and not {', '.join(unknown)}")
     edit = line_of_net(net, given.name or name, renamed(net, {one: other for one, _, other in pairs}, given.inner))
     if len(edit) > LONGEST:
-        raise InputFault(given.spef, line, f"the line has {len(edit)} bytes, and a script's line at most {LONGEST}: this net cannot be given in a script")
+        said = f"the line has {len(edit)} bytes, and a script's line at most {LONGEST}"
+        raise InputFault(given.spef, line, f"{said}: this net cannot be given in a script")
     return edit
 
 

@@ -131,8 +131,9 @@ class Spef:
         """Reads a stretch without nets: the header, the name map, and sections that are passed over."""
         words = Words(self.plain[start:end].split())
         places = [at for at, word in enumerate(words.words) if word in SECTIONS]
-        for words.at in range(places[0] if places else len(words.words)):
-            self.header(words.words[words.at], words)
+        for at in range(places[0] if places else len(words.words)):
+            words.at = at
+            self.header(words.word(), words)
         for at, behind in zip(places, [*places[1:], len(words.words)]):
             if words.words[at] == "*NAME_MAP":
                 self.read_map(words.words[at + 1 : behind])

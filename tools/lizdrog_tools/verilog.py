@@ -14,7 +14,10 @@ VERILOG_TOKEN = re.compile(
 ESCAPED, IDENTIFIER, VALUE, MARK = 1, 2, 3, 5
 NAME = r"(?:\\\S+(?=\s)|[A-Za-z_][\w$]*)"
 INSTANCE = re.compile(rf"\s*({NAME})\s+({NAME})\s*\(")
-CONNECTION = re.compile(rf"\s*\.\s*({NAME})\s*\(\s*(?:({NAME})\s*(?:\[\s*([0-9]{{1,9}})\s*\]\s*)?|(\d+'\w+)\s*)?\)\s*(,|\)\s*;)")
+CONNECTION = re.compile(
+    rf"\s*\.\s*({NAME})\s*\(\s*"
+    rf"(?:({NAME})\s*(?:\[\s*([0-9]{{1,9}})\s*\]\s*)?|(\d+'\w+)\s*)?\)\s*(,|\)\s*;)"
+)
 DECLARED = rf"(?!\\?wire\b){NAME}"
 ONE_DECLARED = re.compile(DECLARED)
 DECLARATION = re.compile(
@@ -132,7 +135,7 @@ class Netlist:
         return self.tokens.look()
 
     def plain_instance(self) -> bool:
-        """Reads an instance as most tools write it: each pin by its name, with one net, one bit, a constant or nothing."""
+        """Reads an instance as most tools write it: each pin by its name, with a net, a bit, a constant or nothing."""
         head = INSTANCE.match(self.text, self.tokens.place())
         if head is None or head.group(1) in WORDS:
             return False

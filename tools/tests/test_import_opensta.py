@@ -150,7 +150,8 @@ class FansAgainstOpenSta(unittest.TestCase):
         told = case.folder / "names"
         asked = "".join(f"tell [get_{it}]\n" for it in FANS[design].splitlines())
         sdc = case.folder / case.sdc
-        sdc.write_text((BASE if design == "modes" else sdc.read_text()) + more + TELL.replace("names a", f"{told} a") + asked)
+        base, tell = BASE if design == "modes" else sdc.read_text(), TELL.replace("names a", f"{told} a")
+        sdc.write_text(base + more + tell + asked)
         import_check.opensta(case, "")
         theirs = told.read_text().splitlines()
         told.unlink()

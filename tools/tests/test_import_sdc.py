@@ -124,13 +124,21 @@ class Objects(Constraints):
 
     def test_ports_of_a_clock(self):
         """Those that have a delay against the clock at that line."""
-        text = VIRTUAL + "set_input_delay 9 -clock clk {e d[1]}\nset_input_delay 4 -clock io d[0]\nset_output_delay 3 -clock io q\n"
-        for getter, port in (("all_inputs -clock clk", "e d[1]"), ("all_inputs -clock [get_clocks io]", "d[0]"), ("all_inputs -clock *", "e d[1] d[0]")):
+        text = (
+            VIRTUAL + "set_input_delay 9 -clock clk {e d[1]}\nset_input_delay 4 -clock io d[0]\n"
+            "set_output_delay 3 -clock io q\n"
+        )
+        for getter, port in (
+            ("all_inputs -clock clk", "e d[1]"),
+            ("all_inputs -clock [get_clocks io]", "d[0]"),
+            ("all_inputs -clock *", "e d[1] d[0]"),
+        ):
             lines = self.sdc_lines(f"{text}set_input_transition 7 [{getter}]\n")
             found = next(it for it in lines if it.startswith("set_input_transition"))
             self.assertEqual(sorted(found.partition("{")[2].removesuffix("}]").split()), sorted(port.split()))
         self.assertIn("set_load 2 [get_ports {q}]", self.sdc_lines(f"{text}set_load 2 [all_outputs -clock io]\n"))
-        self.assertEqual([it for it in self.sdc_lines(f"set_load 2 [all_outputs -clock clk]\n{text}") if "set_load" in it], [])
+        lines = self.sdc_lines(f"set_load 2 [all_outputs -clock clk]\n{text}")
+        self.assertEqual([it for it in lines if "set_load" in it], [])
 
     def test_an_end_of_several_kinds(self):
         lines = self.false_path(

@@ -319,7 +319,7 @@ STEPS = """
 
 class Replays(unittest.TestCase):
     ECOS = [["repower_gate g1 A"], ["repower_gate g1 B"]]
-    ASKED = "report_wns setup\nreport_tns setup\nreport_endpoint a setup\nreport_endpoint b setup\nreport_endpoint c setup\n"
+    ASKED = "report_wns setup\nreport_tns setup\n" + "".join(f"report_endpoint {it} setup\n" for it in "abc")
 
     def corner(self, name, *designs, first=0, ecos=None):
         """A corner that answers each design by wns, tns and the slacks of a, b and c."""
@@ -336,8 +336,9 @@ class Replays(unittest.TestCase):
         return CornerAnswers(job, mock.Mock(), answers_of(script, rows, 1), output)
 
     def test_what_each_eco_changed(self):
-        slow = self.corner("slow", "-5.000 -7.000 -5.000 -2.000 none", "-3.000 -5.000 1.500 -3.000 none", "-3.000 -5.000 1.500 -3.000 9.000")
-        fast = self.corner("fast", "1.000 0.000 1.000 7.000 none", "1.000 0.000 1.000 8.000 none", "1.000 0.000 1.000 8.000 none")
+        after = "-3.000 -5.000 1.500 -3.000"
+        slow = self.corner("slow", "-5.000 -7.000 -5.000 -2.000 none", f"{after} none", f"{after} 9.000")
+        fast = self.corner("fast", *(f"1.000 0.000 1.000 {it}.000 none" for it in (7, 8, 8)))
         made = replay.Replay([slow, fast], {"slow": self.ECOS, "fast": self.ECOS})
         self.assertEqual([made.has(it) for it in range(4)], [False, True, True, False])
         self.assertEqual(list(made.totals(1)), ["slow setup: worst -5.000 → -3.000, total -7.000 → -5.000"])
@@ -361,7 +362,8 @@ class PageOfEcos(unittest.TestCase):
         with tempfile.TemporaryDirectory() as name:
             folder = pathlib.Path(name) / "four-corners"
             for it in ("four-corners", "closing-setup"):
-                shutil.copytree(common.TOP / "examples" / it, folder.parent / it, ignore=shutil.ignore_patterns("*.results"))
+                left_out = shutil.ignore_patterns("*.results")
+                shutil.copytree(common.TOP / "examples" / it, folder.parent / it, ignore=left_out)
             edits = ["repower_gate carry_2 NAND2_X2", "repower_gate carry_3 NAND2_X2"]
             (folder / "ecos.list").write_text("\n".join(edits) + "\n")
             words = ["design.toml", "--program", common.PROGRAM, "--ecos", "--quiet"]
@@ -370,8 +372,8 @@ class PageOfEcos(unittest.TestCase):
             page = (folder / "page.html").read_text(encoding="utf-8")
             asked = "report_wns setup\nreport_endpoint sum_5:D setup\n"
             (folder / "s.eco").write_text(asked + "".join(f"{it}\n{asked}" for it in edits))
-            beside = "../closing-setup/"
-            documents = [f"{beside}sizes.lib", f"{beside}sizes.lib", f"{beside}accumulator.v", "functional.sdc", "cmax.spef"]
+            library, netlist = "../closing-setup/sizes.lib", "../closing-setup/accumulator.v"
+            documents = [library, library, netlist, "functional.sdc", "cmax.spef"]
             out = common.run(common.PROGRAM, "run", *documents, "1", "s.eco", cwd=folder)[1]
             slacks = [it.split()[3] for it in out.splitlines() if it.split()[2:3] in (["wns"], ["endpoint"])]
         self.assertEqual(len(slacks), 6)

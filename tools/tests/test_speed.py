@@ -55,24 +55,29 @@ class Verilog(unittest.TestCase):
                 self.assertEqual(parts(parse_netlist(NETLIST)), whole)
 
     def test_modules_are_counted(self):
-        for text, said in (("wire a;\n", "no module is found"), (NETLIST + "module b (x); endmodule\n", "a second module, b"),
+        for text, said in (("wire a;\n", "no module is found"),
+                           (NETLIST + "module b (x); endmodule\n", "a second module, b"),
                            (NETLIST.replace("endmodule", ""), "the module top has no endmodule"),
                            (NETLIST.replace("endmodule", "// endmodule"), "the module top has no endmodule")):
             with self.assertRaisesRegex(ValueError, said):
                 parse_netlist(text)
-        self.assertEqual(parse_netlist(NETLIST.replace("n1", "module_1").replace("a comment", "module top")).name, "top")
+        text = NETLIST.replace("n1", "module_1").replace("a comment", "module top")
+        self.assertEqual(parse_netlist(text).name, "top")
 
 
 class Parasitics(unittest.TestCase):
     def test_words(self):
         """Comments and quoted texts have no words, wherever they touch; a section may stand behind nets."""
-        text = ('*SPEF "IEEE *D_NET" // *D_NET x\n*DELIMITER : /*no*/\n*C_UNIT 1 FF *R_UNIT 1 OHM\n/* *PORTS p */"a"//b\n'
-                '*NAME_MAP\n*1 n\\[1\\] *2 g/1 // *3 x\n*D_NET *1 2.5 /* c */ *CAP 1 *1:1 2.5 *END\n*PORTS p1 I *q *4 O\n'
+        text = ('*SPEF "IEEE *D_NET" // *D_NET x\n*DELIMITER : /*no*/\n*C_UNIT 1 FF *R_UNIT 1 OHM\n'
+                '/* *PORTS p */"a"//b\n*NAME_MAP\n*1 n\\[1\\] *2 g/1 // *3 x\n'
+                '*D_NET *1 2.5 /* c */ *CAP 1 *1:1 2.5 *END\n*PORTS p1 I *q *4 O\n'
                 '*D_NET a//b 1 *END')
         spef = Spef(text)
-        self.assertEqual((spef.map, list(spef.nets), spef.passed_over), ({"*1": "n[1]", "*2": "g/1"}, ["n[1]", "a//b"], {"*PORTS": 5}))
+        self.assertEqual((spef.map, list(spef.nets)), ({"*1": "n[1]", "*2": "g/1"}, ["n[1]", "a//b"]))
+        self.assertEqual(spef.passed_over, {"*PORTS": 5})
         self.assertEqual(spef.odd_words, [("*q", text.index("*q"), "*PORTS")])
-        self.assertEqual((spef.nets["n[1]"].caps, spef.nets["n[1]"].total, spef.nets["n[1]"].offset), ([("#1", 2500)], 2500, text.index("*D_NET *1")))
+        net = spef.nets["n[1]"]
+        self.assertEqual((net.caps, net.total, net.offset), ([("#1", 2500)], 2500, text.index("*D_NET *1")))
 
     def test_damaged_nets(self):
         """The quick look says of no net that it fits where the slow one finds something."""
@@ -112,13 +117,16 @@ class Parasitics(unittest.TestCase):
 
 
 class Designs(unittest.TestCase):
-    ECOS = [["repower_gate g1 BUF"], ["insert_buffer n2 b1 n3 BUF r2:D"], ["disconnect_pin r2:D", "connect_pin r2:D n1"],
-            ["insert_gate g9 BUF", "connect_pin g9:A n1"], ["remove_gate g9"]]
+    ECOS = [["repower_gate g1 BUF"], ["insert_buffer n2 b1 n3 BUF r2:D"],
+            ["disconnect_pin r2:D", "connect_pin r2:D n1"], ["insert_gate g9 BUF", "connect_pin g9:A n1"],
+            ["remove_gate g9"]]
+    DRAFTS = ["insert_buffer n1 x1 y1 BUF r1:D"], ["disconnect_pin r1:D"], ["remove_gate g1", "repower_gate r1 DFF"]
 
     @staticmethod
     def shape(joined):
         """What a design has, in no order."""
-        nets = {name: (sorted(it.drivers), sorted(it.sinks)) for name, it in joined.nets.items() if it.drivers or it.sinks}
+        used = {name: it for name, it in joined.nets.items() if it.drivers or it.sinks}
+        nets = {name: (sorted(it.drivers), sorted(it.sinks)) for name, it in used.items()}
         return nets, joined.net_of, {name: it.cell for name, it in joined.netlist.instances.items()}, joined.endpoints()
 
     def fresh(self, edits):
@@ -131,7 +139,7 @@ class Designs(unittest.TestCase):
         for number in range(len(self.ECOS) + 1):
             edits = [edit for eco in self.ECOS[:number] for edit in eco]
             self.assertEqual(self.shape(edited.at(number)), self.fresh(edits))
-            for tried in (["insert_buffer n1 x1 y1 BUF r1:D"], ["disconnect_pin r1:D"], ["remove_gate g1", "repower_gate r1 DFF"]):
+            for tried in self.DRAFTS:
                 self.assertEqual(self.shape(edited.drafted(tried).at(number)), self.fresh([*edits, *tried]))
             self.assertEqual(self.shape(edited.at(number)), self.fresh(edits))
 

@@ -66,7 +66,11 @@ def path_scripts(
 def replay_script(ecos: list[list[str]], merged: Merged) -> str:
     """Asks totals and slacks of endpoints before and after each ECO: of the endpoints of least slack, as many as a
     script bears."""
-    ends = [(thousandths(it.worst()[0]), f"report_endpoint {it.pin} {kind}") for kind in KINDS for it in merged.endpoints[kind]]
+    ends = [
+        (thousandths(it.worst()[0]), f"report_endpoint {it.pin} {kind}")
+        for kind in KINDS
+        for it in merged.endpoints[kind]
+    ]
     totals = [f"report_{it} {kind}" for kind in KINDS for it in ("wns", "tns")]
     room = (MOST_COMMANDS - len(ecos)) // (len(ecos) + 1) - len(totals)
     asked = [*totals, *(line for _, line in sorted(ends)[:room])]

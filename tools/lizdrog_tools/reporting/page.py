@@ -62,7 +62,7 @@ class EndpointRow:
 
 @dataclasses.dataclass(frozen=True)
 class EcoRow:
-    """An ECO: its number, its edits, what it changed of worst and total slacks, and the endpoints that it moved most."""
+    """An ECO: its number, its edits, what it changed of worst and total slacks, and what endpoints it moved most."""
 
     number: int
     changes: list[str]

@@ -60,7 +60,7 @@ class Replay:
         return bool(self.states) and all({number - 1, number} <= it.keys() for it in self.states.values())
 
     def totals(self, number: int) -> Iterator[str]:
-        """For each corner and kind worst and total negative slack before and after an ECO, where one of them changed."""
+        """For each corner and kind worst and total negative slack before and after an ECO, where one changed."""
         for corner, states in self.states.items():
             before, after = states[number - 1].totals, states[number].totals
             for kind in KINDS:
