@@ -331,7 +331,7 @@ class Replays(unittest.TestCase):
                 lines.append([str(number), "accepted"])
             lines += [[str(number), *it] for it in zip(["wns", "tns", *["endpoint"] * 3], slacks.split(), strict=True)]
         rows = [Row([str(at), *it], []) for at, it in enumerate(lines, 1)]
-        output = mock.Mock(first=first, ecos=ecos)
+        output = mock.Mock(first=first, ecos=ecos, final=[name])
         job = mock.Mock(corner=name)
         return CornerAnswers(job, mock.Mock(), answers_of(script, rows, 1), output)
 
@@ -339,7 +339,8 @@ class Replays(unittest.TestCase):
         after = "-3.000 -5.000 1.500 -3.000"
         slow = self.corner("slow", "-5.000 -7.000 -5.000 -2.000 none", f"{after} none", f"{after} 9.000")
         fast = self.corner("fast", *(f"1.000 0.000 1.000 {it}.000 none" for it in (7, 8, 8)))
-        made = replay.Replay([slow, fast], {"slow": self.ECOS, "fast": self.ECOS})
+        both = {"slow": self.ECOS, "fast": self.ECOS}
+        made = replay.Replay([slow, fast], both, {"slow": ["slow"], "fast": ["fast"]})
         self.assertEqual([made.has(it) for it in range(4)], [False, True, True, False])
         self.assertEqual(list(made.totals(1)), ["slow setup: worst -5.000 → -3.000, total -7.000 → -5.000"])
         # Over both corners a goes from -5 to 1, where the fast one is worst, and b from -2 to -3.
@@ -348,9 +349,11 @@ class Replays(unittest.TestCase):
 
     def test_ecos_of_another_list(self):
         slow = self.corner("slow", "0 0 1 2 3", "0 0 1 2 3", first=1, ecos=self.ECOS[1:])
-        self.assertTrue(replay.Replay([slow], {"slow": self.ECOS}).has(2))
+        self.assertTrue(replay.Replay([slow], {"slow": self.ECOS}, {"slow": ["slow"]}).has(2))
         for saved in (self.ECOS[:1], self.ECOS[::-1], [*self.ECOS, ["remove_gate g1"]]):
-            self.assertFalse(replay.Replay([slow], {"slow": saved}).has(2))
+            self.assertFalse(replay.Replay([slow], {"slow": saved}, {"slow": ["slow"]}).has(2))
+        # The answers of the page end with other slacks: of other documents, say.
+        self.assertFalse(replay.Replay([slow], {"slow": self.ECOS}, {"slow": ["other"]}).has(2))
 
 
 @needs_jinja2

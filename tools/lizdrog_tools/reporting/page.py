@@ -81,7 +81,8 @@ class Page:
         self.names = [it.name for it in self.merged.there]
         self.clocks = self.clocks_of_endpoints()
         self.paths = list(self.shown_paths())
-        self.replay = Replay(source.replayed, source.saved)
+        finals = {it.name: it.output.final for it in self.merged.there}
+        self.replay = Replay(source.replayed, source.saved, finals)
 
     # -------------------------------------------------------------------------------------------- documents
 

@@ -49,9 +49,11 @@ def states_of(corner: CornerAnswers) -> dict[int, State]:
 class Replay:
     """The designs that corners went through one after the other."""
 
-    def __init__(self, corners: list[CornerAnswers], saved: dict[str, list[list[str]]]):
-        """Of corners that replayed the ECOs as they are; others are left out."""
-        those = [it for it in corners if saved[it.name][it.output.first :] == it.output.ecos and it.output.ecos]
+    def __init__(self, corners: list[CornerAnswers], saved: dict[str, list[list[str]]], finals: dict[str, list[str]]):
+        """Of corners that replayed the ECOs as they are, and ended as the answers of the page do; others are left
+        out."""
+        ended = [it for it in corners if it.output.ecos and it.output.final == finals.get(it.name)]
+        those = [it for it in ended if saved[it.name][it.output.first :] == it.output.ecos]
         self.states = {it.name: states_of(it) for it in those}
         self.first = max((it.output.first for it in those), default=0)
 
