@@ -25,7 +25,7 @@ def write_questions(folder: pathlib.Path) -> str:
     joined = Joined(read_netlist(folder / "bench.v"), read_library(folder / "bench.lib"))
     ends = [it for it in joined.endpoints() if ":" in it][:: max(1, len(joined.endpoints()) // ASKED)]
     gates = [it.name for it in joined.netlist.instances.values() if it.cell == "NAND2_X1"][:ASKED]
-    lines = [f"report_path {end} setup\nrepower_gate {gate} NAND2_X2\n" for end, gate in zip(ends, gates)]
+    lines = [f"report_path {end} setup\nrepower_gate {gate} NAND2_X2\n" for end, gate in zip(ends, gates, strict=False)]
     draft = f"begin_what_if\nrepower_gate {gates[0]} NAND2_X1\nreport_path {ends[0]} setup\nend_what_if\n"
     (folder / "ask.eco").write_text("".join(lines) + draft)
     return joined.net_of[f"{ends[0].rpartition(':')[0]}:Q"]

@@ -112,7 +112,7 @@ class Spef:
         plain = self.plain
         places = [it.start() for it in NET.finditer(plain) if not it.start() or plain[it.start() - 1].isspace()]
         self.outside(0, places[0] if places else len(plain))
-        for start, end in zip(places, [*places[1:], len(plain)]):
+        for start, end in zip(places, [*places[1:], len(plain)], strict=False):
             named = WORD.search(plain, start + len("*D_NET"), end)
             self.nets.places[self.name(named.group() if named else "")] = (start, end)
             last = plain.find("*END", start, end)
@@ -134,7 +134,7 @@ class Spef:
         for at in range(places[0] if places else len(words.words)):
             words.at = at
             self.header(words.word(), words)
-        for at, behind in zip(places, [*places[1:], len(words.words)]):
+        for at, behind in zip(places, [*places[1:], len(words.words)], strict=False):
             if words.words[at] == "*NAME_MAP":
                 self.read_map(words.words[at + 1 : behind])
             elif words.words[at] in PASSED_OVER:

@@ -134,6 +134,7 @@ LIVE = (
     "",
     "set_case_analysis 0 [get_ports sel]\nset_disable_timing -from A -to Y [get_cells g1]\n",
     "set_disable_timing [get_pins g4/A]\nset_disable_timing [get_ports c]\nset_case_analysis 1 [get_pins g1/B]\n",
+    "set_disable_timing -from B -to Y [get_lib_cells */XOR2]\nset_disable_timing [get_cells g4]\n",
 )
 
 

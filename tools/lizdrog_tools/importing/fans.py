@@ -79,19 +79,25 @@ class Fans:
             self.changes[name] = [Constants(tuple(sorted(pins.items())))]
 
     def set_cuts(self, constraints: Constraints) -> None:
+        """Disabled pins stop signals, and disabled arcs go."""
         for item in constraints.disabled:
             kind, name = item.made.kind, item.made.name
+            cell, _, pin = name.partition("/")
             if kind in ("port", "pin"):
                 self.stops.add(name)
-                continue
-            cell, _, pin = name.partition("/")
-            change = Cut(item.from_pin, item.to_pin) if kind in ("cell", "lib_cell") else None
-            for instance in self.design.netlist.instances.values():
-                if instance.name == name if kind == "cell" else instance.cell == cell:
-                    if change is None:
-                        self.stops.add(f"{instance.name}/{pin}")
-                    else:
-                        self.changes.setdefault(instance.name, []).append(change)
+            elif kind == "cell":
+                self.cut(name, Cut(item.from_pin, item.to_pin))
+            elif kind == "lib_pin":
+                self.stops |= {f"{it}/{pin}" for it in self.instances_of(cell)}
+            elif kind == "lib_cell":
+                for it in self.instances_of(name):
+                    self.cut(it, Cut(item.from_pin, item.to_pin))
+
+    def cut(self, name: str, change: Cut) -> None:
+        self.changes.setdefault(name, []).append(change)
+
+    def instances_of(self, cell: str) -> list[str]:
+        return [it.name for it in self.design.netlist.instances.values() if it.cell == cell]
 
     def arcs(self, instance: Instance) -> Arcs:
         changes = self.changes.get(instance.name, ())
