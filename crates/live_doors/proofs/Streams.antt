@@ -4,6 +4,7 @@ use Rattle.std.proofs.Math.Seq.{take-add}
 use Rattle.std.proofs.lemmas.List.{take_rest, take_all}
 use Rattle.std.specs.declared.option.Option.{Option}
 use Rattle.std.specs.Io.KnownBytes.{Appends}
+use Rattle.sta_outside.specs.Sink.{AppendsPrefix}
 
 -- the first bytes of a piece were written, and then more of what is left of it
 pub written_more : (a b c : Option (List ℕ)) (piece : List ℕ) (at count : ℕ) → Appends a b (take at piece) → Appends b c (take count (take (length piece - at) (drop at piece))) → Appends a c (take (at + count) piece)
@@ -22,3 +23,6 @@ all_taken piece = take_all (length piece) piece (le_refl (length piece))
 
 pub all_written : (a b : Option (List ℕ)) (piece : List ℕ) → Appends a b piece → Appends a b (take (length piece) piece)
 all_written a b piece whole = subst (Appends a b) (sym (all_taken piece)) whole
+
+pub part_told : (before after : List ℕ) (count : ℕ) (piece : List ℕ) → after ≡ before ++ take count piece → AppendsPrefix (Some before) (Some after) piece
+part_told before after count piece is = (count, is)

@@ -1,8 +1,7 @@
 -- Doors in memory: the lines that are left, the deeds as they are recorded, and faults that are planned by the numbers of
 -- calls, counted from 1.
-use Rattle.std.specs.Prelude.{◌≡◌, ℕ, ◌==◌, ◌/◌, List, Bool, true, false, cond, drop, length, map, take}
+use Rattle.std.specs.Prelude.{◌≡◌, ℕ, ◌==◌, ◌/◌, List, Bool, true, false, cond, length, map, take}
 use Rattle.std.specs.List.{list_any}
-use Rattle.std.specs.Vec.{vec_items}
 use Rattle.std.specs.Global.{Vec}
 use Rattle.std.specs.declared.option.Option.{Option}
 use Rattle.std.specs.declared.result.Result.{Result}

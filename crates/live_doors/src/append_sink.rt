@@ -103,6 +103,7 @@ fn tell(told: &mut Log<u8, u8>, bytes: &[u8])
     }
 }
 
+#[tactic(auto, using(crate::proofs::Streams::part_told))]
 impl<F: Write + OpenFile> Sink for AppendSink<F> {
     ghost written = { λ sink. Some (put_bytes sink.told.items) };
 
@@ -119,9 +120,12 @@ impl<F: Write + OpenFile> Sink for AppendSink<F> {
     {
         let (count, result) = append(&mut self.file, bytes);
         tell(&mut self.told, &bytes[..count]);
-        if result.is_err() {
-            self.faults = self.faults.saturating_add(1);
+        match result {
+            Ok(()) => Ok(()),
+            Err(PutFault::Failed) => {
+                self.faults = self.faults.saturating_add(1);
+                Err(PutFault::Failed)
+            }
         }
-        result
     }
 }

@@ -1,5 +1,5 @@
 -- A plain live run with a journal: its words are taken, and are the values of the command's words in order.
-use Rattle.std.proofs.Common.{◌≡◌, ◌≤◌, true, false, List, [], ◌∷◌, ◌++◌, length, refl, ap, ◌∙◌}
+use Rattle.std.proofs.Common.{◌≡◌, ◌≤◌, true, false, List, [], ◌∷◌, ◌++◌, length, refl, ap, ◌∙◌, arith}
 use Rattle.std.specs.Prelude.{Some, None, is_some, option_map, codes}
 use Rattle.std.specs.List.{fold}
 use Rattle.clap.specs.Walk.{Rule, Text, Walk, idle, positional, option, Held, Row, walked, walk_from, nothing_held, finished, rows_after}
