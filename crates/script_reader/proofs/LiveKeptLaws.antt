@@ -14,7 +14,7 @@ use Rattle.sta_text.specs.declared.faults.Wrong.{Wrong}
 use Rattle.script_reader.specs.declared.live.Item.{Item}
 use Rattle.script_reader.specs.Scripts.{Event, long, single, change, group_begin, group_end, draft_begin, draft_end, dropped, unknown, line_said, Place, outside, inside, drafted, tried, eco, trial, bad, excess}
 use Rattle.script_reader.specs.Live.{LivePlace, stands, passing_eco, passing_draft, goes_on, fails, given_up, unfit, crowded, if_room, group_closed, draft_closed, trial_closed, live_event, live_said, live_events, live_line}
-use Rattle.script_reader.specs.LiveKept.{can_be_answered, IsKeptItem, IsKeptPlace, IsKeptLive, IsKeptBehind}
+use Rattle.script_reader.specs.LiveKept.{can_be_answered, CanBeAnswered, IsKeptPlace, IsKeptLive, IsKeptBehind}
 use Rattle.script_reader.proofs.KeptLaws.{is_said, is_fine, AreFine, done, pick, line_fine, eco_made, draft_made, answerable_said, trial_said, all_longer, one_longer}
 
 answered_said : (c : Command) → is_said c ≡ true → can_be_answered c ≡ true
@@ -145,5 +145,5 @@ pub place_kept : (place next : LivePlace) (item : Option Item) (n : ℕ) (line :
 place_kept place next item n line is still = (subst IsKeptBehind (sym is) (line_kept place n line still)).0
 
 pub item_kept : (place next : LivePlace) (item : Option Item) (n : ℕ) (line : List ℕ) → record { place = next; item = item } ≡ live_line place n line
-    → IsKeptLive place → IfSome item IsKeptItem
+    → IsKeptLive place → IfSome item CanBeAnswered
 item_kept place next item n line is still = (subst IsKeptBehind (sym is) (line_kept place n line still)).1

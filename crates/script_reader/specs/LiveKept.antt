@@ -17,9 +17,9 @@ can_be_answered (Await number looks) = nat_le 1 looks
 can_be_answered (Ask q) = is_asked q
 can_be_answered (Change eco) = is_eco eco
 
-abbrev pub IsKeptItem : Item → Type 0
-IsKeptItem (Asked command) = can_be_answered command ≡ true
-IsKeptItem (Faulty wrong) = ⊤
+abbrev pub CanBeAnswered : Item → Type 0
+CanBeAnswered (Asked command) = can_be_answered command ≡ true
+CanBeAnswered (Faulty wrong) = ⊤
 
 -- the edits of an open group and the trials of an open draft are of their form, and no more than there may be
 abbrev pub IsKeptPlace : Place → Type 0
@@ -36,4 +36,4 @@ IsKeptLive passing_draft = ⊤
 
 -- the same of what a line leaves
 abbrev pub IsKeptBehind : Behind → Type 0
-IsKeptBehind b = IsKeptLive b.place × IfSome b.item IsKeptItem
+IsKeptBehind b = IsKeptLive b.place × IfSome b.item CanBeAnswered

@@ -1,8 +1,8 @@
 //! A session that is read line by line.
 
-ghost use Rattle.std.specs.Prelude.{◌≡◌, ◌+◌, ◌<◌, ◌↔◌, IfOk, IfSome, OnOk, IfErr};
-ghost use Rattle.script_reader.specs.Live.{beginning, live_line, live_end};
-ghost use Rattle.script_reader.specs.LiveKept.{IsKeptItem};
+ghost use Rattle.std.specs.Prelude.{◌≡◌, ◌<◌, ◌↔◌, IfOk, IfSome, OnOk, IfErr};
+ghost use Rattle.script_reader.specs.Live.{beginning, next_item, behind_next, live_end};
+ghost use Rattle.script_reader.specs.LiveKept.{CanBeAnswered};
 
 use crate::places::{Standing, Step, heard};
 use sta_text::Wrong;
@@ -80,9 +80,9 @@ impl LiveReader {
     /// `Uncounted` where 2^64 - 1 lines were read before, and only there; or want of memory. The reader
     /// is gone then: what the line said is not known, so nothing behind it may be read.
     pub fn line(self, alloc: Global, line: &[u8]) -> Result<Heard, Unread>
-        ensures item { IfOk result (λ heard. heard.item ≡ (live_line self.place (self.lines + 1) line.now).item) }
-        ensures reader { IfOk result (λ heard. heard.reader ≡ record { place = (live_line self.place (self.lines + 1) line.now).place; lines = self.lines + 1 }) }
-        ensures kept { IfOk result (λ heard. IfSome heard.item IsKeptItem) }
+        ensures item { IfOk result (λ heard. heard.item ≡ next_item self line.now) }
+        ensures reader { IfOk result (λ heard. heard.reader ≡ behind_next self line.now) }
+        ensures kept { IfOk result (λ heard. IfSome heard.item CanBeAnswered) }
         ensures counted { OnOk result (self.lines < usize.MAX) }
         ensures cause { IfErr result (λ why. (why ≡ Unread.Uncounted) ↔ (self.lines ≡ usize.MAX)) }
     {
