@@ -11,6 +11,10 @@ PROVED = f"{TOP}/crates/timing_shell/out/timing_shell"
 FOLDER = f"{TOP}/out/quick_build"
 QUICK = f"{FOLDER}/timing_shell"
 INSTALLED = f"{TOP}/program/timing_shell"
+# The live server is a program of its own; one build makes both.
+LIVE_PROVED = f"{TOP}/crates/timing_live/out/timing_live"
+LIVE_QUICK = f"{FOLDER}/timing_live"
+LIVE_INSTALLED = f"{TOP}/program/timing_live"
 ABOUT_INSTALLED = f"{TOP}/program/about"
 # What a program is made of; and what it was proved to do, which is all that a proof is about. (Another proof of the
 # same is no change.)
@@ -182,6 +186,22 @@ def choose(wants_proved: bool, may_build: bool, say) -> str:
                        "anew (hours at worst), `lizdrog --build` builds it without proof (minutes); nothing was run")
         build(say)
     return QUICK
+
+
+def choose_live(wants_proved: bool) -> str:
+    """The live server to run, which is never built here."""
+    if is_program(INSTALLED) and is_program(LIVE_INSTALLED):
+        if wants_proved and not about_installed().startswith("proved"):
+            raise Stop("the programs that are installed here were built without proof")
+        return LIVE_INSTALLED
+    if is_program(LIVE_PROVED) and not any(time > os.stat(LIVE_PROVED).st_mtime_ns for _, _, time in sources(PROVED_OF)):
+        return LIVE_PROVED
+    if not wants_proved and is_program(LIVE_QUICK) and quick_is_current():
+        return LIVE_QUICK
+    found = [it for it in (LIVE_PROVED, *([] if wants_proved else [LIVE_QUICK])) if is_program(it)]
+    why = f"the sources are newer than {found[0]}" if found else f"there is no {'proved ' if wants_proved else ''}live server here"
+    raise Stop(f"{why}: `rt ci` in {TOP} proves and builds {LIVE_PROVED}" +
+               ("" if wants_proved else f", and `lizdrog --build` builds {LIVE_QUICK} without proof"))
 
 
 def about_installed() -> str:

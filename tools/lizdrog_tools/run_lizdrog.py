@@ -11,7 +11,8 @@ from lizdrog_tools.programs import Stop
 
 NO_PROGRAM = 70
 # Commands that are tools by themselves, each with a --help of its own.
-BESIDE = {"corners": "corners.py", "import": "import_design.py", "report": "report.py", "summary": "summary.py"}
+BESIDE = {"connect": "connect_live.py", "corners": "corners.py", "import": "import_design.py", "report": "report.py",
+          "serve": "serve_live.py", "summary": "summary.py"}
 FIRST_BYTES = 65536
 # What the C library does with memory, where nobody has said it. Large pages: the kernel gives them to those that ask (docs/SPEED.md).
 # One arena: where each thread has its own, the others do not use what is freed in it. Of 16 sessions with 40 ECOs each on 7,000 cells,
@@ -95,6 +96,23 @@ def explain(status: int, first: bytes, words: list[str]) -> None:
         print(line, file=sys.stderr)
 
 
+def warn_of_journal(words: list[str]) -> None:
+    """Warns of a saved journal that may be cut short in its last line: a part of `BUF_X16` is read as `BUF_X1`."""
+    _, journal = command_line.without_journal(words) if words[:1] == ["run"] else (words, None)
+    if journal is None or not os.path.isfile(journal):
+        return
+    try:
+        with open(journal, "rb") as file:
+            size = file.seek(0, os.SEEK_END)
+            file.seek(max(0, size - 1))
+            last = file.read(1)
+    except OSError:
+        return
+    if last not in (b"", b"\n"):
+        say(f"warning: {journal} does not end with a line feed: its last line may be cut short, and is read as it stands; "
+            f"`tools/mend_journal.py {journal}` tells more")
+
+
 def serve(given: dict, words: list[str]) -> int:
     """Chooses the program, runs it, and explains what it refused."""
     program = given["program"]
@@ -103,6 +121,7 @@ def serve(given: dict, words: list[str]) -> int:
     program = program or programs.choose(given["proved"], given["build"], say)
     if not words:
         return 0
+    warn_of_journal(words)
     status, first = run(program, words)
     if status:
         explain(status, first, words)
