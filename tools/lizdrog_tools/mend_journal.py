@@ -19,7 +19,7 @@ DERATES = re.compile(f"derates( {NUMBER}){{4}}")
 ENTRY = re.compile(f"entry ({NUMBER}) session {NUMBER} edits ({NUMBER})")
 EDIT = re.compile(r"[a-z]+(_[a-z]+)+ [!-~ ]+")
 # What a part of a line may be, where the text ends in it.
-PARTS = {"head": re.compile(r"journal( [12]( [0-9]*){0,2})?"), "derates": re.compile(r"derates( [0-9]*){0,4}"),
+PARTS = {"head": re.compile(r"journal( ([12]( [0-9]*){0,2})?)?"), "derates": re.compile(r"derates( [0-9]*){0,4}"),
          "entry": re.compile(r"entry( [0-9]*( session( [0-9]*( edits( [0-9]*)?)?)?)?)?"), "edit": re.compile(r"[!-~ ]*")}
 WORDS = ("journal", "derates", "entry", "session", "edits")
 SEEN = 60
