@@ -10,6 +10,7 @@ import fcntl
 import os
 import pathlib
 import re
+import shutil
 import subprocess
 import sys
 import tempfile
@@ -35,6 +36,7 @@ class Batch:
 
     def __init__(self, journal, documents):
         self.program, self.journal, self.documents = os.environ.get("LIZDROG_STAND_IN_PROGRAM"), journal, documents
+        self.folder = tempfile.TemporaryDirectory()
         self.saved = tempfile.NamedTemporaryFile()
         if journal:
             self.saved.write(pathlib.Path(journal).read_bytes())
@@ -56,6 +58,9 @@ class Batch:
         gone = next((it for it in self.documents[:5] if it != "none" and not os.path.isfile(it)), None)
         if gone:
             return 4, f"fault shelf {gone} failed\n"
+        for at, name in enumerate(self.documents[:5]):
+            if name != "none":
+                self.documents[at] = shutil.copy(name, f"{self.folder.name}/{at}")
         status, output = self.run([], []) if self.program else (0, "")
         self.derates = next((it for it in output.split("\n") if it.startswith("derates ")), "derates 1000000 1000000 1000000 1000000")
         return (status, output) if status > 1 else None

@@ -54,7 +54,7 @@ class Mended(unittest.TestCase):
     def test_a_fault_elsewhere_is_never_cut(self):
         for text, line in ((BATCH[:-5] + LIVE, 8), (BATCH + "journal 2 2 1\n" + LIVE, 9), (BATCH + BATCH, 8), (LIVE, 1), (BATCH + "session 1 rows 0\n", 8),
                            (BATCH + LIVE.replace("entry 3", "entry 4"), 10), (BATCH + "final 2", 8), (BATCH.replace("derates 1", "derats 1"), 2), (BATCH + "\n" + LIVE, 8),
-                           (BATCH + LIVE.replace("journal 2 2", "journal 1"), 9)):
+                           (BATCH + LIVE.replace("journal 2 2", "journal 1"), 8)):
             status, out, err = self.mend(text, "--cut")
             self.assertEqual((status, out), (2, ""), text)
             self.assertIn(f"mend_journal: saved.journal:{line}: ", err)

@@ -348,8 +348,9 @@ class Talk:
         """The prompt: who, the design that the session holds, and the newest one where that is another."""
         if self.lines.open:
             return ".. "
-        held = "" if self.design is None else f" {self.design}"
-        return f"{self.seat.name}{held}{f' of {self.newest}' if self.newest != self.design else ''}> "
+        if self.design is None:
+            return f"{self.seat.name}> "
+        return f"{self.seat.name} {self.design}{f' of {self.newest}' if self.newest != self.design else ''}> "
 
     def run(self) -> int:
         """Reads and answers until there are no more lines."""

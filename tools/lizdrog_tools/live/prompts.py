@@ -19,6 +19,11 @@ def history_file() -> pathlib.Path:
     return file
 
 
+def ended(word: str) -> str:
+    """A word with the blank behind it; an instance's pins follow its colon."""
+    return word if word.endswith(":") else f"{word} "
+
+
 class Plain:
     """Lines of standard input, without a prompt."""
 
@@ -45,7 +50,7 @@ class ByReadline:
         def complete(_: str, number: int) -> str | None:
             if number == 0:
                 self.found = completing(readline.get_line_buffer()[:readline.get_endidx()])[1]
-            return self.found[number] + ("" if self.found[number].endswith(":") else " ") if number < len(self.found) else None
+            return ended(self.found[number]) if number < len(self.found) else None
 
         readline.set_completer_delims(" \t")
         readline.set_completer(complete)
@@ -74,7 +79,7 @@ class ByToolkit:
             def get_completions(self, document, _):
                 prefix, found = completing(document.text_before_cursor)
                 for it in found:
-                    yield Completion(it, start_position=-len(prefix))
+                    yield Completion(ended(it), start_position=-len(prefix), display=it)
 
         self.session = PromptSession(history=FileHistory(str(history_file())), completer=ByLine(), complete_while_typing=False,
                                      enable_history_search=True)

@@ -16,14 +16,16 @@ SIGTERM and SIGINT end it: the sessions are closed, and the server writes its la
 """
 import argparse
 import contextlib
+import ctypes
 import os
 import shutil
+import signal
 import socket
 import stat
 import subprocess
 import sys
 import tempfile
-from collections.abc import Iterator
+from collections.abc import Callable, Iterator
 
 from lizdrog_tools import command_line, convert_journal, explain_fault, programs, run_lizdrog
 from lizdrog_tools.files import InputFault, parsed
@@ -35,6 +37,8 @@ from lizdrog_tools.run_project import read_documents
 
 WRONG_WORDS, CANNOT_LISTEN = 2, 5
 MOST_SESSIONS = 16
+# PR_SET_PDEATHSIG of prctl(2).
+END_WITH_PARENT = 1
 DOCUMENT_WORDS = 5
 
 
@@ -135,13 +139,19 @@ def saved_count(journal: str | None) -> int:
         return 0
 
 
+def with_parent() -> Callable[[], None]:
+    """What a child does first, so that it ends where this process is killed: it may wait for the other end of a FIFO."""
+    system = ctypes.CDLL(None, use_errno=True)
+    return lambda: system.prctl(END_WITH_PARENT, signal.SIGTERM)
+
+
 def start(program: str, journal: str | None, documents: list[str], count: int, folder: str) -> subprocess.Popen:
     """Starts the live server, out of the reach of the terminal's signals."""
     option = ["--journal", journal] if journal is not None else []
     pairs = [f"{folder}/{way}{number}" for number in range(1, count + 1) for way in ("in", "out")]
     try:
         return subprocess.Popen([program, "live", *option, *documents, *pairs], stdin=subprocess.DEVNULL, stdout=subprocess.PIPE,
-                                env=run_lizdrog.surroundings(), start_new_session=True)
+                                env=run_lizdrog.surroundings(), start_new_session=True, preexec_fn=with_parent())
     except OSError as why:
         raise programs.Stop(f"{program} does not start: {why.strerror}") from why
 
