@@ -15,6 +15,7 @@ INSTALLED = f"{TOP}/program/timing_shell"
 LIVE_PROVED = f"{TOP}/crates/timing_live/out/timing_live"
 LIVE_QUICK = f"{FOLDER}/timing_live"
 LIVE_INSTALLED = f"{TOP}/program/timing_live"
+LIVE_BESIDE = {PROVED: LIVE_PROVED, QUICK: LIVE_QUICK, INSTALLED: LIVE_INSTALLED}
 ABOUT_INSTALLED = f"{TOP}/program/about"
 # What a program is made of; and what it was proved to do, which is all that a proof is about. (Another proof of the
 # same is no change.)

@@ -157,6 +157,9 @@ def answer(words: list[str]) -> int:
     given, words = command_line.options_of(words)
     if words == [] and given["version"]:
         return 0 if write_all("\n".join([*programs.version(), ""]).encode()) else 5
+    if words and words[0] in BESIDE:
+        usage(f"the options of {words[0]} stand behind it: lizdrog {words[0]} .. ; `lizdrog {words[0]} --help` lists them")
+        return 2 if write_all(b"fault words\n") else 5
     status = other_command(words or [], given["proved"])
     if status is not None:
         return status

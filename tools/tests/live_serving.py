@@ -28,7 +28,7 @@ class Serving:
         self.folder, self.listen = pathlib.Path(folder), listen or f"unix:{folder}/socket"
         program = REAL or STAND_IN
         surroundings = {**os.environ, "LIZDROG_STAND_IN_PROGRAM": str(common.PROGRAM) if answers and common.PROGRAM else ""}
-        start = f"from lizdrog_tools.live import bridge, seats, serve; {limits}; raise SystemExit(serve.main())" if limits else ""
+        start = f"from lizdrog_tools.live import bridge, serve; {limits}; raise SystemExit(serve.main())" if limits else ""
         front = [sys.executable, "-c", start] if limits else [sys.executable, common.TOOLS / "serve_live.py"]
         self.process = subprocess.Popen([*front, *words, "--listen", self.listen, "--sessions", str(sessions), "--program", program, *options], cwd=folder,
                                         env={**surroundings, "PYTHONPATH": str(common.TOOLS)}, stdin=subprocess.DEVNULL, stdout=subprocess.PIPE, stderr=subprocess.PIPE)

@@ -12,7 +12,7 @@ import time
 from collections.abc import Callable
 
 from lizdrog_tools import check_sessions
-from lizdrog_tools.live import seats, wire
+from lizdrog_tools.live import wire
 from lizdrog_tools.live.replies import Reply
 from lizdrog_tools.live.seats import Item, Seat
 from lizdrog_tools.live.transcripts import Transcripts
@@ -22,7 +22,7 @@ READ_BYTES = 1 << 16
 MOST_OPEN = 1 << 20
 # What a client does not read is kept up to this, and then its session is not read.
 MOST_UNREAD = 4 << 20
-MOST_ENTRIES = 1000
+MOST_ENTRIES, MOST_CLIENTS = 1000, 256
 OPEN_SECONDS, LONG_SECONDS, OVER_SECONDS, LAST_SECONDS = 0.01, 0.002, 0.2, 2.0
 IN, OUT = select.EPOLLIN, select.EPOLLOUT
 GONE = select.EPOLLHUP | select.EPOLLERR
@@ -163,6 +163,9 @@ class Bridge:
         try:
             connection, _ = self.listener.accept()
         except OSError:
+            return
+        if len(self.clients) >= MOST_CLIENTS:
+            connection.close()
             return
         connection.setblocking(False)
         self.served += 1

@@ -1,6 +1,5 @@
 """The client's end of a connection: what is said to the bridge and to the session, and what is heard of both."""
 import dataclasses
-import socket
 
 from lizdrog_tools.live import wire
 from lizdrog_tools.live.replies import Reply, ReplyReader
