@@ -366,9 +366,10 @@ class Checked(Live):
 
         def work(number):
             client = self.client(serving, f"s{number}")
-            client.send(*(it.format(number // 2) for it in lines))
-            client.socket.shutdown(socket.SHUT_WR)
-            told[number] = client.rest()
+            client.send(*(it.format(number // 2) for it in lines), "report_tns hold")
+            told[number] = []
+            while not told[number] or " tns " not in told[number][-1]:
+                told[number].append(client.line())
 
         threads = [threading.Thread(target=work, args=(it,)) for it in range(16)]
         for it in threads:
@@ -379,9 +380,9 @@ class Checked(Live):
         self.assertEqual(status, 1)
         for number in range(16):
             self.assertEqual(len([it for it in told[number] if it.startswith("error C1 ")]), 2)
-            self.assertEqual(len([it for it in told[number] if it[:2].rstrip(" ").isdigit()]), 7, told[number])
+            self.assertEqual(len([it for it in told[number] if it[:2].rstrip(" ").isdigit()]), 8, told[number])
         said = self.check(self.folder / "told", self.words, 16, "--journal", self.folder / "told" / "before.journal")
-        self.assertIn("112 rows of 16 sessions, ", said)
+        self.assertIn("128 rows of 16 sessions, ", said)
         self.assertGreaterEqual(int(out.split(" ")[1]), 9)
         entries = (self.folder / "saved.journal").read_text().count("\nentry ")
         self.assertEqual(entries, int(out.split(" ")[1]))

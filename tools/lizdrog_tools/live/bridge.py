@@ -137,8 +137,9 @@ class Bridge:
         closed = [it for it in self.seats if it.input is None and not it.is_shut]
         over = [it for it in self.seats if it.is_over and it.client is not None]
         found = self.poll.poll(LONG_SECONDS if late else OPEN_SECONDS if closed else OVER_SECONDS if over else -1)
-        # New clients come last, so that none has the number of a file that was closed in this round.
-        for file, events in sorted(found, key=lambda it: it[0] == self.listener.fileno()):
+        # Clients that are gone come first, so that their seats are free; new ones last, so that none has the number of a file that was
+        # closed in this round.
+        for file, events in sorted(found, key=lambda it: (it[0] == self.listener.fileno(), not it[1] & GONE)):
             call = self.calls.get(file)
             if call:
                 call(events)
@@ -190,12 +191,12 @@ class Bridge:
             client.flush()
             if client.seat is not None:
                 self.look_at_output(client.seat)
-        if events & IN:
-            self.read_client(client)
-        if events & GONE and not events & IN:
+        if events & GONE:
             while not client.is_read and self.read_client(client):
                 pass
             self.close(client)
+        elif events & IN:
+            self.read_client(client)
         self.look_at(client)
 
     def read_client(self, client: Client) -> bool:
@@ -222,15 +223,15 @@ class Bridge:
         return client.fileno() >= 0
 
     def finish(self, client: Client) -> None:
-        """The client says no more: what it said is still answered, but for a last line without its end."""
+        """The client says no more. A plain one still hears its answers; one with a name is gone. A last line without its end is not
+        handed on."""
         client.is_read = True
-        if client.received:
-            client.received.clear()
-            client.tell(notice="the last line has no line's end: it was not handed on")
-        if client.seat is None:
+        client.received.clear()
+        if client.seat is None or not client.is_plain:
             self.close(client)
         else:
             client.seat.put(None, client)
+            self.pump(client.seat)
 
     def refuse(self, client: Client, why: str) -> None:
         """Tells a client why, and closes the connection once it has read it; its seat is left."""
