@@ -1,8 +1,9 @@
 """Tells whether a saved journal is torn at its end: mend_journal.py JOURNAL [--cut]
 
-A crash or a full disk may leave a part of the last block. This tool tells at which line and byte such a part begins. With --cut it cuts it
-off, and keeps the file as it was beside it, as JOURNAL.torn. No session was told of an entry of a torn block, since the live server tells of
-an entry only when the whole block is on disk. A fault at any other place comes of something else, and is told and never cut.
+A crash or a full disk may leave a part of the last block. This tool tells at which line and byte such a part begins.
+With --cut it cuts it off, and keeps the file as it was beside it, as JOURNAL.torn. No session was told of an entry of a
+torn block, since the live server tells of an entry only when the whole block is on disk. A fault at any other place
+comes of something else, and is told and never cut.
 
 The status is 0 where the journal is whole (or was cut), 1 where it is torn, 2 where it cannot be used.
 """
@@ -19,8 +20,12 @@ DERATES = re.compile(f"derates( {NUMBER}){{4}}")
 ENTRY = re.compile(f"entry ({NUMBER}) session {NUMBER} edits ({NUMBER})")
 EDIT = re.compile(r"[a-z]+(_[a-z]+)+ [!-~ ]+")
 # What a part of a line may be, where the text ends in it.
-PARTS = {"head": re.compile(r"journal( ([12]( [0-9]*){0,2})?)?"), "derates": re.compile(r"derates( [0-9]*){0,4}"),
-         "entry": re.compile(r"entry( [0-9]*( session( [0-9]*( edits( [0-9]*)?)?)?)?)?"), "edit": re.compile(r"[!-~ ]*")}
+PARTS = {
+    "head": re.compile(r"journal( ([12]( [0-9]*){0,2})?)?"),
+    "derates": re.compile(r"derates( [0-9]*){0,4}"),
+    "entry": re.compile(r"entry( [0-9]*( session( [0-9]*( edits( [0-9]*)?)?)?)?)?"),
+    "edit": re.compile(r"[!-~ ]*"),
+}
 WORDS = ("journal", "derates", "entry", "session", "edits")
 SEEN = 60
 
@@ -42,11 +47,13 @@ def is_part(sort: str, line: str) -> bool:
     if PARTS[sort].fullmatch(line):
         return True
     last = line.split(" ")[-1]
-    return any(PARTS[sort].fullmatch(line[:len(line) - len(last)] + it) for it in WORDS if it.startswith(last))
+    return any(PARTS[sort].fullmatch(line[: len(line) - len(last)] + it) for it in WORDS if it.startswith(last))
 
 
 class Blocks:
-    """The blocks of a journal: up to where they are whole, how many entries these have, and whether the rest is a part of one."""
+    """The blocks of a journal: up to where they are whole, how many entries these have, and whether the rest is a part
+    of one.
+    """
 
     def __init__(self, text: str):
         self.text, self.at, self.whole, self.entries, self.blocks, self.is_torn = text, 0, 0, 0, 0, False
@@ -114,14 +121,21 @@ def mend(name: str, wants_cut: bool) -> int:
         text = data.decode("latin-1")
         found = Blocks(text)
         if found.fault:
-            raise InputFault(name, line_of(text, found.fault.place), f"{found.fault.why} (byte {found.fault.place}): the journal is not torn at "
-                             "its end, and nothing is cut")
+            raise InputFault(
+                name,
+                line_of(text, found.fault.place),
+                f"{found.fault.why} (byte {found.fault.place}): the journal is not torn at "
+                "its end, and nothing is cut",
+            )
         so_far = f"{found.blocks} block{'' if found.blocks == 1 else 's'} with {found.entries} entries"
         if not found.is_torn:
             print(f"{name}: whole: {so_far}")
             return 0
-        print(f"{name}:{line_of(text, found.whole)}: torn: behind {so_far} a part of a block begins at byte {found.whole}, of {len(data) - found.whole} "
-              "bytes")
+        print(
+            f"{name}:{line_of(text, found.whole)}: torn: behind {so_far} a part of a block begins at byte "
+            f"{found.whole}, of {len(data) - found.whole} "
+            "bytes"
+        )
         if not wants_cut:
             print(f"  `mend_journal.py {name} --cut` cuts it off and keeps the file as it is beside it")
             return 1

@@ -1,6 +1,8 @@
-"""A server of `lizdrog serve` and clients for the tests: over the real live program where it is there, else over the stand-in.
+"""A server of `lizdrog serve` and clients for the tests: over the real live program where it is there, else over the
+stand-in.
 
-LIZDROG_TEST_LIVE_PROGRAM names the live program. The stand-in takes its answers of the batch program where that is there.
+LIZDROG_TEST_LIVE_PROGRAM names the live program. The stand-in takes its answers of the batch program where that is
+there.
 """
 import json
 import os
@@ -14,7 +16,10 @@ import threading
 import common
 
 GIVEN = os.environ.get("LIZDROG_TEST_LIVE_PROGRAM")
-BUILT = (common.TOP / "crates" / "timing_live" / "out" / "timing_live", common.TOP / "out" / "quick_build" / "timing_live")
+BUILT = (
+    common.TOP / "crates" / "timing_live" / "out" / "timing_live",
+    common.TOP / "out" / "quick_build" / "timing_live",
+)
 REAL = pathlib.Path(GIVEN) if GIVEN else next((it for it in BUILT if it.is_file() and os.access(it, os.X_OK)), None)
 STAND_IN = common.TOP / "tools" / "tests" / "live_stand_in.py"
 SECONDS = 20
@@ -27,11 +32,22 @@ class Serving:
     def __init__(self, folder, words, *options, listen=None, limits="", answers=True, sessions=2):
         self.folder, self.listen = pathlib.Path(folder), listen or f"unix:{folder}/socket"
         program = REAL or STAND_IN
-        surroundings = {**os.environ, "LIZDROG_STAND_IN_PROGRAM": str(common.PROGRAM) if answers and common.PROGRAM else ""}
-        start = f"from lizdrog_tools.live import bridge, serve; {limits}; raise SystemExit(serve.main())" if limits else ""
+        surroundings = {
+            **os.environ,
+            "LIZDROG_STAND_IN_PROGRAM": str(common.PROGRAM) if answers and common.PROGRAM else "",
+        }
+        start = (
+            f"from lizdrog_tools.live import bridge, serve; {limits}; raise SystemExit(serve.main())" if limits else ""
+        )
         front = [sys.executable, "-c", start] if limits else [sys.executable, common.TOOLS / "serve_live.py"]
-        self.process = subprocess.Popen([*front, *words, "--listen", self.listen, "--sessions", str(sessions), "--program", program, *options], cwd=folder,
-                                        env={**surroundings, "PYTHONPATH": str(common.TOOLS)}, stdin=subprocess.DEVNULL, stdout=subprocess.PIPE, stderr=subprocess.PIPE)
+        self.process = subprocess.Popen(
+            [*front, *words, "--listen", self.listen, "--sessions", str(sessions), "--program", program, *options],
+            cwd=folder,
+            env={**surroundings, "PYTHONPATH": str(common.TOOLS)},
+            stdin=subprocess.DEVNULL,
+            stdout=subprocess.PIPE,
+            stderr=subprocess.PIPE,
+        )
         self.said, self.ready = [], threading.Event()
         self.thread = threading.Thread(target=self.hear, daemon=True)
         self.thread.start()
@@ -82,7 +98,9 @@ class Client:
         is_path = address.startswith("unix:")
         self.socket = socket.socket(socket.AF_UNIX if is_path else socket.AF_INET)
         self.socket.settimeout(SECONDS)
-        self.socket.connect(address.removeprefix("unix:") if is_path else ("127.0.0.1", int(address.rpartition(":")[2])))
+        self.socket.connect(
+            address.removeprefix("unix:") if is_path else ("127.0.0.1", int(address.rpartition(":")[2]))
+        )
         self.file, self.told = self.socket.makefile("rb"), []
 
     def send(self, *lines):
@@ -101,7 +119,7 @@ class Client:
             line = self.file.readline()
             if not line.startswith(MARK):
                 return line.decode("latin-1").removesuffix("\n") if line else None
-            self.told.append(json.loads(line[len(MARK):]))
+            self.told.append(json.loads(line[len(MARK) :]))
 
     def control(self, key):
         """The next object of the bridge with this key."""
@@ -114,7 +132,7 @@ class Client:
             if not line:
                 return None
             assert line.startswith(MARK), line
-            self.told.append(json.loads(line[len(MARK):]))
+            self.told.append(json.loads(line[len(MARK) :]))
 
     def ask(self, *lines):
         """The next line of a reply, once these lines are sent."""

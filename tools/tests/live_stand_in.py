@@ -3,8 +3,9 @@
 
 live_stand_in.py live [--journal NAME] EARLY LATE NETLIST SDC SPEF WORKERS [IN OUT ..]
 
-It speaks the lines of the live program over FIFOs. Each answer is that of a run of the batch program that LIZDROG_STAND_IN_PROGRAM
-names, made anew for each command; where none is named answers are canned, and an edit with the word ABSENT is refused.
+It speaks the lines of the live program over FIFOs. Each answer is that of a run of the batch program that
+LIZDROG_STAND_IN_PROGRAM names, made anew for each command; where none is named answers are canned, and an edit with the
+word ABSENT is refused.
 """
 import fcntl
 import os
@@ -17,18 +18,42 @@ import tempfile
 import threading
 import time
 
-ARITIES = {"report_slew": (3, 3), "report_at": (3, 3), "report_rat": (3, 3), "report_slack": (3, 3), "report_endpoint": (2, 2),
-           "report_path": (2, 2), "report_through": (3, 18), "report_paths": (3, 3), "report_wns": (1, 1), "report_tns": (1, 1),
-           "report_worst": (2, 2), "advise": (3, 201), "take": (0, 0), "await": (2, 2)}
-EDITS = {"repower_gate": (2, 2), "insert_gate": (2, 2), "remove_gate": (1, 1), "insert_net": (1, 1), "remove_net": (1, 1),
-         "connect_pin": (2, 2), "disconnect_pin": (1, 1), "insert_buffer": (5, 20000), "set_parasitics": (2, 20000)}
+ARITIES = {
+    "report_slew": (3, 3),
+    "report_at": (3, 3),
+    "report_rat": (3, 3),
+    "report_slack": (3, 3),
+    "report_endpoint": (2, 2),
+    "report_path": (2, 2),
+    "report_through": (3, 18),
+    "report_paths": (3, 3),
+    "report_wns": (1, 1),
+    "report_tns": (1, 1),
+    "report_worst": (2, 2),
+    "advise": (3, 201),
+    "take": (0, 0),
+    "await": (2, 2),
+}
+EDITS = {
+    "repower_gate": (2, 2),
+    "insert_gate": (2, 2),
+    "remove_gate": (1, 1),
+    "insert_net": (1, 1),
+    "remove_net": (1, 1),
+    "connect_pin": (2, 2),
+    "disconnect_pin": (1, 1),
+    "insert_buffer": (5, 20000),
+    "set_parasitics": (2, 20000),
+}
 NO_TRIALS = ("take", "await", "report_through", "report_paths", "advise")
 LONGEST = 65536
 
 
 def fits(words, table):
     least, most = table.get(words[0], (1, 0))
-    return least <= len(words) - 1 <= most and ("KIND" not in words) and not any(it in ("seutp", "hodl") for it in words)
+    return (
+        least <= len(words) - 1 <= most and ("KIND" not in words) and not any(it in ("seutp", "hodl") for it in words)
+    )
 
 
 class Batch:
@@ -62,7 +87,9 @@ class Batch:
             if name != "none":
                 self.documents[at] = shutil.copy(name, f"{self.folder.name}/{at}")
         status, output = self.run([], []) if self.program else (0, "")
-        self.derates = next((it for it in output.split("\n") if it.startswith("derates ")), "derates 1000000 1000000 1000000 1000000")
+        self.derates = next(
+            (it for it in output.split("\n") if it.startswith("derates ")), "derates 1000000 1000000 1000000 1000000"
+        )
         return (status, output) if status > 1 else None
 
     def answer(self, ecos, lines):
@@ -83,7 +110,10 @@ class Batch:
         if words[0] in EDITS or words[0] == "begin_eco":
             return "refused E3 ABSENT\n" if any("ABSENT" in it for it in lines) else "accepted\n"
         if words[0] == "report_path":
-            return f"path {words[2]} {words[1]} slack {number}.000 credit 0.000 from clk rise to clk rise nodes 2\nclk rise 0.000\n{words[1]} rise 1.000\n"
+            return (
+                f"path {words[2]} {words[1]} slack {number}.000 credit 0.000 from clk rise to clk rise nodes 2\n"
+                f"clk rise 0.000\n{words[1]} rise 1.000\n"
+            )
         if words[0] == "report_worst":
             return f"worst 1\nr2:D {number}.000\n"
         return f"{words[0].removeprefix('report_')} {number}.000\n"
@@ -92,7 +122,11 @@ class Batch:
         words = line.split()
         if words[0] == "drop_last":
             return "dropped\n"
-        return ("refused E3 ABSENT\n" if "ABSENT" in line else "tried\n") if words[0] in EDITS else self.canned(number, [line])
+        return (
+            ("refused E3 ABSENT\n" if "ABSENT" in line else "tried\n")
+            if words[0] in EDITS
+            else self.canned(number, [line])
+        )
 
     def final(self, ecos):
         if not self.program:
@@ -162,7 +196,11 @@ class Session:
         """A line that is no comment, in its place."""
         if self.open is None:
             if words in (["begin_eco"], ["begin_what_if"]):
-                self.open = (self.line, {"begin_eco": "commit_eco", "begin_what_if": "end_what_if"}[words[0]], [words[0]])
+                self.open = (
+                    self.line,
+                    {"begin_eco": "commit_eco", "begin_what_if": "end_what_if"}[words[0]],
+                    [words[0]],
+                )
                 self.trials, self.group = 0, None
                 return ""
             return self.reply([" ".join(words)]) if fits(words, {**ARITIES, **EDITS}) else self.wrong("C1")
@@ -185,7 +223,11 @@ class Session:
             self.group, self.trials = self.line, self.trials + 1
         elif in_group and fits(words, EDITS):
             pass
-        elif is_draft and not in_group and (fits(words, {**ARITIES, **EDITS}) and name not in NO_TRIALS or words == ["drop_last"]):
+        elif (
+            is_draft
+            and not in_group
+            and (fits(words, {**ARITIES, **EDITS}) and name not in NO_TRIALS or words == ["drop_last"])
+        ):
             self.trials += 1
         else:
             return self.wrong("C1")
@@ -224,7 +266,7 @@ class Session:
         if name in EDITS or name == "begin_eco":
             said, self.held = self.server.edit(self.number, lines)
             return said
-        return self.server.batch.answer(self.server.ecos[:self.held - self.server.batch.first], lines)
+        return self.server.batch.answer(self.server.ecos[: self.held - self.server.batch.first], lines)
 
     def talk(self, source, sink):
         """Answers each line before it reads the next."""
@@ -239,7 +281,7 @@ class Session:
         data = memoryview(text.encode("latin-1"))
         try:
             while data:
-                data = data[sink.write(data):]
+                data = data[sink.write(data) :]
         except OSError:
             self.server.status = 5
             return False
@@ -278,7 +320,10 @@ def main():
         sys.stdout.write(refused[1])
         return refused[0]
     server, names = Server(batch, file), words[6:]
-    threads = [threading.Thread(target=serve_pair, args=(server, at + 1, names[2 * at:2 * at + 2])) for at in range(len(names) // 2)]
+    threads = [
+        threading.Thread(target=serve_pair, args=(server, at + 1, names[2 * at : 2 * at + 2]))
+        for at in range(len(names) // 2)
+    ]
     for it in threads:
         it.start()
     if not threads:

@@ -1,4 +1,5 @@
-"""`lizdrog serve` with clients, kind and hostile: over the live program where it is there, else over a stand-in for it."""
+"""`lizdrog serve` with clients, kind and hostile: over the live program where it is there, else over a stand-in for it.
+"""
 import os
 import pathlib
 import shutil
@@ -50,13 +51,18 @@ class TwoClients(Live):
         ann, ben = self.client(serving, "ann"), self.client(serving, "ben")
         self.assertRegex(ann.ask("report_wns setup"), r"^1 0 wns -?\d+\.\d{3}$")
         self.assertEqual(ben.ask("# a comment", "", "insert_net n9"), "1 1 accepted")
-        self.assertEqual(ann.control("entry"), {"entry": {"number": 1, "session": 2, "who": "ben", "edits": ["insert_net n9"]}})
+        self.assertEqual(
+            ann.control("entry"), {"entry": {"number": 1, "session": 2, "who": "ben", "edits": ["insert_net n9"]}}
+        )
         self.assertRegex(ann.ask("report_wns setup"), "^2 0 wns ")
         self.assertEqual(ann.ask("take"), "3 1 taken")
         self.assertEqual(ann.ask("rubbish"), "error C1 4")
         ben.tell(ask="who")
         seats = ben.control("who")["who"]
-        self.assertEqual([(it["seat"], it["name"], it["here"], it["design"], it["rows"]) for it in seats], [(1, "ann", True, 1, 3), (2, "ben", True, 1, 1)])
+        self.assertEqual(
+            [(it["seat"], it["name"], it["here"], it["design"], it["rows"]) for it in seats],
+            [(1, "ann", True, 1, 3), (2, "ben", True, 1, 1)],
+        )
         status, out, said = serving.end()
         self.assertEqual(status, 1)
         self.assertRegex(out, r"^final 1 setup \S+ \S+ hold \S+ \S+\n$")
@@ -122,7 +128,9 @@ class Seats(Live):
         self.assertEqual(ben.ask("insert_net m2"), "1 2 accepted")
         ann = self.client(serving)
         told = ann.hello("ann")
-        self.assertEqual([told[it] for it in ("seat", "again", "design", "newest", "own", "rows")], [1, True, 1, 2, [1], 1])
+        self.assertEqual(
+            [told[it] for it in ("seat", "again", "design", "newest", "own", "rows")], [1, True, 1, 2, [1], 1]
+        )
         self.assertRegex(ann.ask("report_wns setup"), "^2 1 wns ")
         self.assertEqual(ann.ask("take"), "3 2 taken")
 
@@ -174,7 +182,9 @@ class Seats(Live):
 
     def killed(self, serving, text):
         """A client `ann` that sends a text and is killed."""
-        process = subprocess.Popen([sys.executable, "-c", KILLED, serving.address().removeprefix("unix:"), text], stdout=subprocess.PIPE)
+        process = subprocess.Popen(
+            [sys.executable, "-c", KILLED, serving.address().removeprefix("unix:"), text], stdout=subprocess.PIPE
+        )
         self.addCleanup(process.stdout.close)
         self.assertEqual(process.stdout.readline(), b"sent\n")
         process.kill()
@@ -182,8 +192,14 @@ class Seats(Live):
 
     def test_killed_in_a_group(self):
         serving = self.serve("--transcript", self.folder / "told")
-        for text in ("begin_eco\ninsert_net m1\n", "begin_eco\ninsert_net m1\ninsert_n", "begin_what_if\ninsert_net m1\nbegin_eco\ninsert_net m2\n",
-                     "begin_eco\nrubbish\ninsert_net m1\n", "begin_eco\n", "insert_net m1"):
+        for text in (
+            "begin_eco\ninsert_net m1\n",
+            "begin_eco\ninsert_net m1\ninsert_n",
+            "begin_what_if\ninsert_net m1\nbegin_eco\ninsert_net m2\n",
+            "begin_eco\nrubbish\ninsert_net m1\n",
+            "begin_eco\n",
+            "insert_net m1",
+        ):
             self.killed(serving, text)
             ann = self.client(serving, "ann")
             self.assertRegex(ann.ask("take"), r"^\d+ 0 taken$", text)
@@ -202,7 +218,10 @@ class Seats(Live):
         own = ann.hello("ann")["own"]
         self.assertEqual(ann.ask("take"), "2 1 taken")
         self.assertIn(own, ([], [1]))
-        self.assertEqual(ann.ask("insert_net m1").split(" ")[1:], ["1", "refused", "E5", "m1"] if common.PROGRAM or live_serving.REAL else ["2", "accepted"])
+        self.assertEqual(
+            ann.ask("insert_net m1").split(" ")[1:],
+            ["1", "refused", "E5", "m1"] if common.PROGRAM or live_serving.REAL else ["2", "accepted"],
+        )
 
 
 class Hostile(Live):
@@ -227,9 +246,24 @@ class Hostile(Live):
     def test_binary(self):
         serving = self.serve()
         ann, bad = self.client(serving, "ann"), self.client(serving, "bad")
-        bad.send(b"\x00\x01\xff\n", bytes(range(11, 256)) + b"\n", b"begin_eco\n\xfe\nremove_net n1\ncommit_eco\n", b"# gr\xfcn\n", "take")
-        self.assertEqual([bad.line() for _ in range(5)], ["error C1 1", "error C1 2", "error C1 4", "error C1 7", "1 0 taken"])
-        for text in (b"#lizdrog \n", b"#lizdrog {\n", b"#lizdrog [[[\n", b'#lizdrog {"ask": "journal", "first": "x"}\n', b'#lizdrog {"ask": []}\n', b"#lizdrog \xff\n"):
+        bad.send(
+            b"\x00\x01\xff\n",
+            bytes(range(11, 256)) + b"\n",
+            b"begin_eco\n\xfe\nremove_net n1\ncommit_eco\n",
+            b"# gr\xfcn\n",
+            "take",
+        )
+        self.assertEqual(
+            [bad.line() for _ in range(5)], ["error C1 1", "error C1 2", "error C1 4", "error C1 7", "1 0 taken"]
+        )
+        for text in (
+            b"#lizdrog \n",
+            b"#lizdrog {\n",
+            b"#lizdrog [[[\n",
+            b'#lizdrog {"ask": "journal", "first": "x"}\n',
+            b'#lizdrog {"ask": []}\n',
+            b"#lizdrog \xff\n",
+        ):
             bad.send(text)
             self.assertIn("fault", bad.control("fault"))
         self.assertEqual(ann.ask("take"), "1 0 taken")
@@ -237,7 +271,12 @@ class Hostile(Live):
     def test_lines_that_are_too_long(self):
         serving = self.serve()
         ann = self.client(serving, "ann")
-        ann.send(b"x" * 70000 + b"\n", b"begin_eco\n" + b"insert_net " + b"y" * 65526 + b"\ninsert_net m1\ncommit_eco\n", b"#" * 900000 + b"\n", "take")
+        ann.send(
+            b"x" * 70000 + b"\n",
+            b"begin_eco\n" + b"insert_net " + b"y" * 65526 + b"\ninsert_net m1\ncommit_eco\n",
+            b"#" * 900000 + b"\n",
+            "take",
+        )
         self.assertEqual([ann.line() for _ in range(4)], ["error C2 1", "error C2 3", "error C2 6", "1 0 taken"])
 
     def test_one_that_never_reads(self):
@@ -253,7 +292,11 @@ class Hostile(Live):
             self.assertEqual(ann.ask("take"), f"{number} 0 taken")
             time.sleep(0.01)
         self.assertLess(time.monotonic() - began, 20)
-        heads = [it for it in (slow.line() for _ in range(3 * count)) if it[:1].isdigit()] if not live_serving.REAL else self.heads(slow, count)
+        heads = (
+            [it for it in (slow.line() for _ in range(3 * count)) if it[:1].isdigit()]
+            if not live_serving.REAL
+            else self.heads(slow, count)
+        )
         self.assertEqual([it.split(" ")[0] for it in heads], [str(it) for it in range(1, count + 1)])
         thread.join(20)
 
@@ -327,7 +370,7 @@ class Kept(Live):
             self.assertEqual([it["number"] for it in ann.control("journal")["journal"]], [number])
             serving.end(signal.SIGKILL)
             time.sleep(0.3)
-        self.assertTrue(file.read_text().endswith(f"entry 3 session 1 edits 1\ninsert_net m3\n"))
+        self.assertTrue(file.read_text().endswith("entry 3 session 1 edits 1\ninsert_net m3\n"))
         self.assertEqual(common.tool("mend_journal", file)[0], 0)
 
     def test_journals_that_are_refused(self):
@@ -353,15 +396,34 @@ class Kept(Live):
 class Checked(Live):
     def check(self, folder, words, count, *journal):
         scripts = [folder / f"session{it}.eco" for it in range(1, count + 1)]
-        told = common.tool("check_sessions", "--program", common.PROGRAM, folder / "output", "run", *journal, *words, *scripts, cwd=self.folder)
+        told = common.tool(
+            "check_sessions",
+            "--program",
+            common.PROGRAM,
+            folder / "output",
+            "run",
+            *journal,
+            *words,
+            *scripts,
+            cwd=self.folder,
+        )
         self.assertEqual(told[0], 0, told[1:])
         return told[1]
 
     def test_sixteen_sessions(self):
         (self.folder / "saved.journal").write_text("")
         serving = self.serve("--journal", "saved.journal", "--transcript", "told", sessions=16)
-        lines = ["insert_gate b{} BUF", "report_worst setup 2", "take", "report_path r2:D setup", "insert_buffer n2 x{0} m{0} BUF r2:D", "report_wns hold",
-                 "begin_what_if\nrepower_gate g1 BUF\nreport_path r2:D setup\nend_what_if", "rubbish", "begin_eco\nrubbish\nremove_gate g1\ncommit_eco"]
+        lines = [
+            "insert_gate b{} BUF",
+            "report_worst setup 2",
+            "take",
+            "report_path r2:D setup",
+            "insert_buffer n2 x{0} m{0} BUF r2:D",
+            "report_wns hold",
+            "begin_what_if\nrepower_gate g1 BUF\nreport_path r2:D setup\nend_what_if",
+            "rubbish",
+            "begin_eco\nrubbish\nremove_gate g1\ncommit_eco",
+        ]
         told = {}
 
         def work(number):
@@ -396,8 +458,13 @@ class Checked(Live):
             self.assertEqual(ann.ask(f"insert_buffer {net} x{number} m{number} BUF r2:D"), f"1 {number} accepted")
             ann.ask("report_wns hold")
             self.assertEqual(serving.end()[0], 0)
-            self.check(self.folder / f"told{number}", self.words, 2, "--journal", self.folder / f"told{number}" / "before.journal")
-
+            self.check(
+                self.folder / f"told{number}",
+                self.words,
+                2,
+                "--journal",
+                self.folder / f"told{number}" / "before.journal",
+            )
 
 
 class Words(Live):
@@ -446,10 +513,15 @@ class Words(Live):
         return serving.end(None)
 
     def test_a_project_file(self):
-        (self.folder / "p.toml").write_text('library = "early.lib"\nnetlist = "top.v"\nsdc = "top.sdc"\nspef = "top.spef"\n')
+        (self.folder / "p.toml").write_text(
+            'library = "early.lib"\nnetlist = "top.v"\nsdc = "top.sdc"\nspef = "top.spef"\n'
+        )
         self.words = ["p.toml"]
         told = self.client(self.serve()).hello("ann")
-        self.assertEqual(told["documents"], [str(self.folder / it) for it in ("early.lib", "early.lib", "top.v", "top.sdc", "top.spef")])
+        self.assertEqual(
+            told["documents"],
+            [str(self.folder / it) for it in ("early.lib", "early.lib", "top.v", "top.sdc", "top.spef")],
+        )
 
     def test_no_program(self):
         """A clone without a live program says so."""
@@ -459,7 +531,9 @@ class Words(Live):
         (top / "crates").mkdir()
         (top / "crates.txt").write_text("")
         for proved, said in ((["--proved"], "there is no proved live server here"), ([], "lizdrog --build")):
-            status, out, err = common.run(top / "lizdrog", "serve", *self.words, "--listen", "unix:s", *proved, cwd=self.folder)
+            status, out, err = common.run(
+                top / "lizdrog", "serve", *self.words, "--listen", "unix:s", *proved, cwd=self.folder
+            )
             self.assertEqual((status, out), (70, ""))
             self.assertIn(said, err)
             self.assertIn("crates/timing_live/out/timing_live", err)
@@ -474,9 +548,23 @@ class Words(Live):
         program = self.folder / "program"
         program.write_text("#!/bin/sh\necho ran\n")
         program.chmod(0o755)
-        for text, is_warned in (("", False), ("journal 1 0\n", False), ("journal 1 1\nentry 1 session 1 edits 1\nrepower_gate g1 BUF_X1", True)):
+        for text, is_warned in (
+            ("", False),
+            ("journal 1 0\n", False),
+            ("journal 1 1\nentry 1 session 1 edits 1\nrepower_gate g1 BUF_X1", True),
+        ):
             (self.folder / "saved.journal").write_text(text)
-            status, out, err = common.run(top / "lizdrog", "--program", program, "run", "--journal", "saved.journal", *self.words, "s", cwd=self.folder)
+            status, out, err = common.run(
+                top / "lizdrog",
+                "--program",
+                program,
+                "run",
+                "--journal",
+                "saved.journal",
+                *self.words,
+                "s",
+                cwd=self.folder,
+            )
             self.assertEqual((status, out), (0, "ran\n"))
             self.assertEqual("saved.journal does not end with a line feed" in err, is_warned, err)
         status, out, err = common.run(top / "lizdrog", "--program", program, "run", *self.words, "s", cwd=self.folder)

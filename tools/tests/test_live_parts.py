@@ -1,4 +1,6 @@
-"""Parts of the prompt and the bridge: replies, addresses, completion, drafts that are kept, and ECOs that are taken back."""
+"""Parts of the prompt and the bridge: replies, addresses, completion, drafts that are kept, and ECOs that are taken
+back.
+"""
 import pathlib
 import re
 import shutil
@@ -60,17 +62,22 @@ def small_design():
 
 
 class Replies(unittest.TestCase):
-    DATA = (b"1 0 wns -2.500\nerror C1 3\n2 0 worst 2\na:D 1.000\nb:D 2.000\n3 1 path none\n4 1 path setup q slack 1.000 credit 0.000 from c rise to c rise nodes 1\n"
-            b"q rise 2.000\n5 1 paths 2\npath setup q slack 1.000 credit 0.000 from c rise to c rise nodes 2\na rise 1.000\nq rise 2.000\n"
-            b"path setup q slack 1.500 credit 0.000 from c rise to c rise nodes 1\nq rise 2.000\n"
-            b"6 1 what_if 3\ntried\nworst 1\nq 1.000\nwns 3.000\n7 1 worst 0\n8 1 paths 0\n9 1 at 1 clk rise 4\n10 2 accepted\n")
+    DATA = (
+        b"1 0 wns -2.500\nerror C1 3\n2 0 worst 2\na:D 1.000\nb:D 2.000\n3 1 path none\n"
+        b"4 1 path setup q slack 1.000 credit 0.000 from c rise to c rise nodes 1\n"
+        b"q rise 2.000\n5 1 paths 2\npath setup q slack 1.000 credit 0.000 from c rise to c rise nodes 2\n"
+        b"a rise 1.000\nq rise 2.000\n"
+        b"path setup q slack 1.500 credit 0.000 from c rise to c rise nodes 1\nq rise 2.000\n"
+        b"6 1 what_if 3\ntried\nworst 1\nq 1.000\nwns 3.000\n7 1 worst 0\n8 1 paths 0\n9 1 at 1 clk rise 4\n"
+        b"10 2 accepted\n"
+    )
     COUNTS = [1, 1, 3, 1, 2, 6, 5, 1, 1, 1, 1]
 
     def test_where_each_ends(self):
         for step in (1, 7, len(self.DATA)):
             reader, found = ReplyReader(), []
             for at in range(0, len(self.DATA), step):
-                found += reader.take(self.DATA[at:at + step])
+                found += reader.take(self.DATA[at : at + step])
             self.assertEqual(b"".join(it.data for it in found), self.DATA)
             self.assertEqual([it.data.count(b"\n") for it in found], self.COUNTS)
         self.assertEqual([it.error_line for it in found if not it.is_row], [3])
@@ -105,7 +112,13 @@ class Addresses(unittest.TestCase):
 
     def test_control_lines(self):
         self.assertEqual(wire.read_control(wire.control(who=[1, "ü"])), {"who": [1, "ü"]})
-        for line in (b"take\n", wire.MARK + b"{\n", wire.MARK + b"[1]\n", wire.MARK + b"\xff\n", wire.MARK + b"[" * 100000 + b"\n"):
+        for line in (
+            b"take\n",
+            wire.MARK + b"{\n",
+            wire.MARK + b"[1]\n",
+            wire.MARK + b"\xff\n",
+            wire.MARK + b"[" * 100000 + b"\n",
+        ):
             self.assertIsNone(wire.read_control(line))
 
 
@@ -123,7 +136,12 @@ class Seats(unittest.TestCase):
         self.folder = tempfile.mkdtemp()
         self.addCleanup(shutil.rmtree, self.folder)
         self.seat, self.ann = seats.Seat(1, self.folder), Sender()
-        self.server = open(self.seat.names[0], "rb", buffering=0, opener=lambda name, _: seats.os.open(name, seats.os.O_RDONLY | seats.os.O_NONBLOCK))
+        self.server = open(
+            self.seat.names[0],
+            "rb",
+            buffering=0,
+            opener=lambda name, _: seats.os.open(name, seats.os.O_RDONLY | seats.os.O_NONBLOCK),
+        )
         self.addCleanup(self.server.close)
         self.assertTrue(self.seat.try_open())
         self.addCleanup(self.seat.close_output)
@@ -175,13 +193,23 @@ class Seats(unittest.TestCase):
         """It is wrong there, and the draft goes on to the next one; but behind an earlier wrong line it is the end."""
         for error, rest in ((4, ["end_what_if", "take"]), (2, ["end_what_if"])):
             self.setUp()
-            self.say("begin_what_if", "remove_net a" if error == 4 else "rubbish", "begin_eco", "end_what_if", "end_what_if", "take")
+            self.say(
+                "begin_what_if",
+                "remove_net a" if error == 4 else "rubbish",
+                "begin_eco",
+                "end_what_if",
+                "end_what_if",
+                "take",
+            )
             self.assertEqual(len(self.handed()), 4)
             self.told(f"error C1 {error}")
             self.assertEqual(self.handed(), rest)
 
     def test_what_is_left_open_is_closed(self):
-        for lines, closing in ((["begin_eco", "remove_net a"], "commit_eco"), (["begin_what_if", "begin_eco", "remove_net a"], "end_what_if")):
+        for lines, closing in (
+            (["begin_eco", "remove_net a"], "commit_eco"),
+            (["begin_what_if", "begin_eco", "remove_net a"], "end_what_if"),
+        ):
             self.setUp()
             self.say(*lines, None)
             self.assertEqual(self.handed(), [*lines, "client_gone", closing])
@@ -211,7 +239,10 @@ class Seats(unittest.TestCase):
     def test_late_replies_have_a_limit(self):
         self.say("take")
         self.handed()
-        item, reply = self.seat.item or seats.Item(self.ann, "ann", 1, [b"take\n"]), ReplyReader().take(b"1 0 " + b"x" * 1000 + b"\n")[0]
+        item, reply = (
+            self.seat.item or seats.Item(self.ann, "ann", 1, [b"take\n"]),
+            ReplyReader().take(b"1 0 " + b"x" * 1000 + b"\n")[0],
+        )
         for _ in range(2000):
             self.seat.keep_late(item, reply)
         late, lost = self.seat.take_late()
@@ -232,13 +263,35 @@ class Collected(unittest.TestCase):
         self.assertEqual(self.commands("begin_eco", "remove_net a"), ([], ["begin_eco", "remove_net a"]))
 
     def test_what_stands_of_a_draft(self):
-        lines = ["begin_what_if", "repower_gate a X2", "begin_eco", "remove_net b", "remove_net c", "commit_eco", "repower_gate d X9", "report_wns setup",
-                 "drop_last", "repower_gate e X4", "drop_last", "drop_last", "drop_last", "repower_gate f X8", "end_what_if"]
-        row = "1 0 what_if 10\ntried\ntried\nrefused E3 X9\nwns 1.000\ndropped\ntried\ndropped\ndropped\nno_draft\ntried\n"
+        lines = [
+            "begin_what_if",
+            "repower_gate a X2",
+            "begin_eco",
+            "remove_net b",
+            "remove_net c",
+            "commit_eco",
+            "repower_gate d X9",
+            "report_wns setup",
+            "drop_last",
+            "repower_gate e X4",
+            "drop_last",
+            "drop_last",
+            "drop_last",
+            "repower_gate f X8",
+            "end_what_if",
+        ]
+        row = (
+            "1 0 what_if 10\ntried\ntried\nrefused E3 X9\nwns 1.000\ndropped\ntried\ndropped\ndropped\nno_draft\n"
+            "tried\n"
+        )
         self.assertEqual(standing_edits(command_of(lines), row_of(row)), ["repower_gate f X8"])
         row = row.replace("wns 1.000\ndropped", "wns 1.000\nno_draft")
-        self.assertEqual(standing_edits(command_of(lines), row_of(row.replace("dropped\ndropped\nno_draft", "dropped\nno_draft\nno_draft"))),
-                         ["repower_gate a X2", "remove_net b", "remove_net c", "repower_gate f X8"])
+        self.assertEqual(
+            standing_edits(
+                command_of(lines), row_of(row.replace("dropped\ndropped\nno_draft", "dropped\nno_draft\nno_draft"))
+            ),
+            ["repower_gate a X2", "remove_net b", "remove_net c", "repower_gate f X8"],
+        )
 
 
 class Completion(unittest.TestCase):
@@ -255,17 +308,38 @@ class Completion(unittest.TestCase):
         self.assertEqual(self.found("begin"), ["begin_eco", "begin_what_if"])
 
     def test_each_place(self):
-        for line, wanted in (("report_at g1", ["g1:A", "g1:Z"]), ("report_at g", ["g1:", "g2:", "g3:"]), ("report_at g2:", ["g2:A", "g2:Z"]),
-                             ("report_at c", ["clk"]), ("report_at clk l", ["late"]), ("report_at clk late ", ["rise", "fall"]), ("report_wns ", ["setup", "hold"]),
-                             ("report_endpoint ", ["q", "r1:D"]), ("report_path r1:D h", ["hold"]), ("report_through r1:D setup g1:", ["g1:A", "g1:Z"]),
-                             ("report_through r1:D setup g1:A g2:Z", ["g2:Z"]), ("repower_gate g", ["g1", "g2", "g3"]), ("repower_gate g1 ", ["BUF", "DFF", "INV"]),
-                             ("insert_buffer n", ["n1", "n2"]), ("insert_buffer n1 b1 m1 B", ["BUF"]), ("insert_buffer n1 b1 m1 BUF g2:A g", ["g1:", "g2:", "g3:"]),
-                             ("advise setup g1 INV g", ["g1", "g2", "g3"]), ("advise setup g1 ", ["BUF", "DFF", "INV"]), ("set_parasitics l", ["lone"]),
-                             ("set_parasitics n1 no", ["none"]), ("set_parasitics n1 c g2:", ["g2:A", "g2:Z"]), ("await 5 ", []), ("take ", []), ("nonsense ", [])):
+        for line, wanted in (
+            ("report_at g1", ["g1:A", "g1:Z"]),
+            ("report_at g", ["g1:", "g2:", "g3:"]),
+            ("report_at g2:", ["g2:A", "g2:Z"]),
+            ("report_at c", ["clk"]),
+            ("report_at clk l", ["late"]),
+            ("report_at clk late ", ["rise", "fall"]),
+            ("report_wns ", ["setup", "hold"]),
+            ("report_endpoint ", ["q", "r1:D"]),
+            ("report_path r1:D h", ["hold"]),
+            ("report_through r1:D setup g1:", ["g1:A", "g1:Z"]),
+            ("report_through r1:D setup g1:A g2:Z", ["g2:Z"]),
+            ("repower_gate g", ["g1", "g2", "g3"]),
+            ("repower_gate g1 ", ["BUF", "DFF", "INV"]),
+            ("insert_buffer n", ["n1", "n2"]),
+            ("insert_buffer n1 b1 m1 B", ["BUF"]),
+            ("insert_buffer n1 b1 m1 BUF g2:A g", ["g1:", "g2:", "g3:"]),
+            ("advise setup g1 INV g", ["g1", "g2", "g3"]),
+            ("advise setup g1 ", ["BUF", "DFF", "INV"]),
+            ("set_parasitics l", ["lone"]),
+            ("set_parasitics n1 no", ["none"]),
+            ("set_parasitics n1 c g2:", ["g2:A", "g2:Z"]),
+            ("await 5 ", []),
+            ("take ", []),
+            ("nonsense ", []),
+        ):
             self.assertEqual(self.found(line), wanted, line)
 
     def test_templates_are_those_of_the_help(self):
-        told = set(re.findall(r"^\| `([a-z]+(?:_[a-z]+)*)[ `]", (common.TOP / "docs" / "SCRIPTS.md").read_text(), re.M)) - {"accepted", "refused"}
+        told = set(
+            re.findall(r"^\| `([a-z]+(?:_[a-z]+)*)[ `]", (common.TOP / "docs" / "SCRIPTS.md").read_text(), re.M)
+        ) - {"accepted", "refused"}
         self.assertLessEqual(told, set(completion.COMMANDS))
 
     def test_without_documents_commands_stay(self):
@@ -290,16 +364,34 @@ class TakenBack(unittest.TestCase):
         (["set_parasitics n2 none"], ["set_parasitics n2 c #1 2250"]),
         (["disconnect_pin g2:A"], ["connect_pin g2:A n1", N1]),
         (["connect_pin g3:Z lone"], ["disconnect_pin g3:Z"]),
-        (["disconnect_pin g2:A", "connect_pin g2:A n2"], ["disconnect_pin g2:A", "connect_pin g2:A n1", N1, "set_parasitics n2 c #1 2250"]),
-        (["insert_buffer n1 b m BUF g2:A", "set_parasitics m c #1 5"],
-         ["disconnect_pin b:A", "disconnect_pin g2:A", "connect_pin g2:A n1", "disconnect_pin b:Z", "remove_gate b", "remove_net m", N1]),
-        (["disconnect_pin g2:A", "disconnect_pin g2:Z", "remove_gate g2"],
-         ["insert_gate g2 INV", "connect_pin g2:Z n2", "connect_pin g2:A n1", "set_parasitics n2 c #1 2250", N1]),
+        (
+            ["disconnect_pin g2:A", "connect_pin g2:A n2"],
+            ["disconnect_pin g2:A", "connect_pin g2:A n1", N1, "set_parasitics n2 c #1 2250"],
+        ),
+        (
+            ["insert_buffer n1 b m BUF g2:A", "set_parasitics m c #1 5"],
+            [
+                "disconnect_pin b:A",
+                "disconnect_pin g2:A",
+                "connect_pin g2:A n1",
+                "disconnect_pin b:Z",
+                "remove_gate b",
+                "remove_net m",
+                N1,
+            ],
+        ),
+        (
+            ["disconnect_pin g2:A", "disconnect_pin g2:Z", "remove_gate g2"],
+            ["insert_gate g2 INV", "connect_pin g2:Z n2", "connect_pin g2:A n1", "set_parasitics n2 c #1 2250", N1],
+        ),
         (["repower_gate g1 BUF", "repower_gate g1 INV"], ["repower_gate g1 BUF", "repower_gate g1 INV"]),
     ]
 
     def state(self, design):
-        return {key: design.value(key) for key in [*(("instance", it) for it in design.parts), *(("net", it) for it in design.wires)]}
+        return {
+            key: design.value(key)
+            for key in [*(("instance", it) for it in design.parts), *(("net", it) for it in design.wires)]
+        }
 
     def test_each_kind(self):
         for edits, wanted in self.CASES:
@@ -319,7 +411,18 @@ class TakenBack(unittest.TestCase):
         design = small_design()
         design.take(1, ["insert_buffer n1 b m BUF g2:A"])
         names = [it.split(" ")[0] for it in design.undo(1)[0]]
-        self.assertEqual(names, ["disconnect_pin", "disconnect_pin", "connect_pin", "disconnect_pin", "remove_gate", "remove_net", "set_parasitics"])
+        self.assertEqual(
+            names,
+            [
+                "disconnect_pin",
+                "disconnect_pin",
+                "connect_pin",
+                "disconnect_pin",
+                "remove_gate",
+                "remove_net",
+                "set_parasitics",
+            ],
+        )
 
     def test_what_is_tied_stays_open(self):
         design = small_design()
@@ -329,13 +432,21 @@ class TakenBack(unittest.TestCase):
         self.assertEqual(notes, ["g3:A of INV was tied to a constant, and stays open"])
         design = small_design()
         design.take(1, ["remove_gate g3"])
-        self.assertEqual(design.undo(1), (["insert_gate g3 INV"], ["g3:A of INV was tied to a constant, and stays open"]))
+        self.assertEqual(
+            design.undo(1), (["insert_gate g3 INV"], ["g3:A of INV was tied to a constant, and stays open"])
+        )
 
     def test_what_another_changed_since(self):
-        for edits, later, what in ((["repower_gate g1 BUF"], ["repower_gate g1 INV", "insert_net m"], None), (["repower_gate g1 BUF"], ["repower_gate g1 DFF"], "instance g1"),
-                                   (["insert_net m"], ["connect_pin g3:Z m"], "net m"), (["insert_gate x BUF"], ["connect_pin x:A lone"], "instance x"),
-                                   (["set_parasitics n1 none"], ["disconnect_pin g2:A"], "net n1"), (["set_parasitics n1 none"], ["set_parasitics n1 c #1 3"], "net n1"),
-                                   (["insert_net m"], ["remove_net m"], "net m"), (["repower_gate g1 BUF"], ["repower_gate g2 BUF", "set_parasitics n1 none"], "")):
+        for edits, later, what in (
+            (["repower_gate g1 BUF"], ["repower_gate g1 INV", "insert_net m"], None),
+            (["repower_gate g1 BUF"], ["repower_gate g1 DFF"], "instance g1"),
+            (["insert_net m"], ["connect_pin g3:Z m"], "net m"),
+            (["insert_gate x BUF"], ["connect_pin x:A lone"], "instance x"),
+            (["set_parasitics n1 none"], ["disconnect_pin g2:A"], "net n1"),
+            (["set_parasitics n1 none"], ["set_parasitics n1 c #1 3"], "net n1"),
+            (["insert_net m"], ["remove_net m"], "net m"),
+            (["repower_gate g1 BUF"], ["repower_gate g2 BUF", "set_parasitics n1 none"], ""),
+        ):
             design = small_design()
             design.take(1, edits)
             design.take(2, later)
@@ -344,7 +455,9 @@ class TakenBack(unittest.TestCase):
                 continue
             with self.assertRaises(CannotUndo) as told:
                 design.undo(1)
-            self.assertEqual(str(told.exception), f"entry 2 changed the {what or 'instance g1'} since: take that back first")
+            self.assertEqual(
+                str(told.exception), f"entry 2 changed the {what or 'instance g1'} since: take that back first"
+            )
 
     def test_after_what_came_since_is_taken_back(self):
         design = small_design()
@@ -365,20 +478,59 @@ class TakenBack(unittest.TestCase):
             design.undo(2)
         design.take(3, [f"insert_net m{it}" for it in range(1000)])
         self.assertEqual(len(design.undo(3)[0]), 1000)
-        design.take(4, [it for number in range(300) for it in (f"insert_gate x{number} BUF", f"connect_pin x{number}:A lone", f"connect_pin x{number}:Z m{number}")])
+        design.take(
+            4,
+            [
+                it
+                for number in range(300)
+                for it in (
+                    f"insert_gate x{number} BUF",
+                    f"connect_pin x{number}:A lone",
+                    f"connect_pin x{number}:Z m{number}",
+                )
+            ],
+        )
         self.assertEqual(len(design.undo(4)[0]), 900)
-        design.take(5, ["insert_buffer lone b5 n5 BUF " + " ".join(f"x{it}:A" for it in range(300)), *(f"remove_net m{it}" for it in range(300, 700))])
+        design.take(
+            5,
+            [
+                "insert_buffer lone b5 n5 BUF " + " ".join(f"x{it}:A" for it in range(300)),
+                *(f"remove_net m{it}" for it in range(300, 700)),
+            ],
+        )
         with self.assertRaisesRegex(CannotUndo, "that takes 1004 edits, and an ECO has 1000 at most"):
             design.undo(5)
 
     @common.needs_program
     def test_answers_are_those_before(self):
-        """On an example with the wires of a SPEF: what was asked before an ECO has the same answers once it is taken back."""
-        documents = [EXAMPLE / it for it in ("sizes.lib", "sizes.lib", "accumulator.v", "accumulator.sdc", "accumulator.spef")]
-        questions = ["report_worst setup 100", "report_worst hold 100", "report_tns setup", "report_path sum_5:D setup", "report_path sum_5:D hold"]
-        ecos = [["repower_gate carry_1 NAND2_X4"], ["insert_buffer c_1 b9 m9 CLKBUF_X4 pass_2:B"], ["set_parasitics c_2 none"],
-                ["disconnect_pin carry_2:A", "connect_pin carry_2:A c_1", "set_parasitics c_1 c #1 9000"], ["insert_gate b8 INV_X1", "insert_net m8", "connect_pin b8:A q_0"],
-                ["disconnect_pin pass_2:A", "disconnect_pin pass_2:B", "disconnect_pin pass_2:Z", "remove_gate pass_2", "disconnect_pin carry_2:B", "remove_net p_2"]]
+        """On an example with the wires of a SPEF: what was asked before an ECO has the same answers once it is taken
+        back.
+        """
+        documents = [
+            EXAMPLE / it for it in ("sizes.lib", "sizes.lib", "accumulator.v", "accumulator.sdc", "accumulator.spef")
+        ]
+        questions = [
+            "report_worst setup 100",
+            "report_worst hold 100",
+            "report_tns setup",
+            "report_path sum_5:D setup",
+            "report_path sum_5:D hold",
+        ]
+        ecos = [
+            ["repower_gate carry_1 NAND2_X4"],
+            ["insert_buffer c_1 b9 m9 CLKBUF_X4 pass_2:B"],
+            ["set_parasitics c_2 none"],
+            ["disconnect_pin carry_2:A", "connect_pin carry_2:A c_1", "set_parasitics c_1 c #1 9000"],
+            ["insert_gate b8 INV_X1", "insert_net m8", "connect_pin b8:A q_0"],
+            [
+                "disconnect_pin pass_2:A",
+                "disconnect_pin pass_2:B",
+                "disconnect_pin pass_2:Z",
+                "remove_gate pass_2",
+                "disconnect_pin carry_2:B",
+                "remove_net p_2",
+            ],
+        ]
         design = Design(read_netlist(documents[2]), read_library(documents[0]), read_spef(documents[4]))
         script = list(questions)
         for at, edits in enumerate(ecos):
@@ -393,8 +545,8 @@ class TakenBack(unittest.TestCase):
             file.write_text("".join(f"{it}\n" for it in script))
             status, out, _ = common.run(common.PROGRAM, "run", *documents, "1", file)
         self.assertEqual(status, 0, out[:300])
-        rows = re.split(r"(?m)^\d+ \d+ ", out[out.index("session 1 rows"):out.index("final ")])[1:]
-        sets = [rows[at:at + 5] for at in range(0, len(rows), 7)]
+        rows = re.split(r"(?m)^\d+ \d+ ", out[out.index("session 1 rows") : out.index("final ")])[1:]
+        sets = [rows[at : at + 5] for at in range(0, len(rows), 7)]
         self.assertEqual(len(sets), 1 + len(ecos))
         for it in sets[1:]:
             self.assertEqual(it, sets[0])

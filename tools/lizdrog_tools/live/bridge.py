@@ -1,4 +1,5 @@
-"""The bridge between sockets and the FIFOs of a live server: it gives each client a seat, hands lines on, and replies back.
+"""The bridge between sockets and the FIFOs of a live server: it gives each client a seat, hands lines on, and replies
+back.
 
 One thread waits for all of them and never for one: what a client does not read is kept up to a limit, and then its
 session alone is left unread; what a session does not read is left in the client's socket.
@@ -77,8 +78,15 @@ class Bridge:
 
     child: subprocess.Popen
 
-    def __init__(self, folder: str, count: int, listener: socket.socket, about: dict, say: Callable[[str], None],
-                 transcripts: Transcripts | None):
+    def __init__(
+        self,
+        folder: str,
+        count: int,
+        listener: socket.socket,
+        about: dict,
+        say: Callable[[str], None],
+        transcripts: Transcripts | None,
+    ):
         self.listener, self.about, self.say, self.transcripts = listener, about, say, transcripts
         self.seats = [Seat(number, folder) for number in range(1, count + 1)]
         self.clients: dict[int, Client] = {}
@@ -137,8 +145,8 @@ class Bridge:
         closed = [it for it in self.seats if it.input is None and not it.is_shut]
         over = [it for it in self.seats if it.is_over and it.client is not None]
         found = self.poll.poll(LONG_SECONDS if late else OPEN_SECONDS if closed else OVER_SECONDS if over else -1)
-        # Clients that are gone come first, so that their seats are free; new ones last, so that none has the number of a file that was
-        # closed in this round.
+        # Clients that are gone come first, so that their seats are free; new ones last, so that none has the number of
+        # a file that was closed in this round.
         for file, events in sorted(found, key=lambda it: (it[0] == self.listener.fileno(), not it[1] & GONE)):
             call = self.calls.get(file)
             if call:
@@ -223,7 +231,8 @@ class Bridge:
         return client.fileno() >= 0
 
     def finish(self, client: Client) -> None:
-        """The client says no more. A plain one still hears its answers; one with a name is gone. A last line without its end is not
+        """The client says no more. A plain one still hears its answers; one with a name is gone. A last line without
+        its end is not
         handed on."""
         client.is_read = True
         client.received.clear()
@@ -241,7 +250,8 @@ class Bridge:
         self.leave(client)
 
     def leave(self, client: Client) -> None:
-        """A client is no more on its seat: what it left open there is closed, and the seat is kept where it has a name."""
+        """A client is no more on its seat: what it left open there is closed, and the seat is kept where it has a name.
+        """
         seat, client.seat = client.seat, None
         if seat is None:
             return
@@ -290,7 +300,7 @@ class Bridge:
             client.tell(who=[self.told_of(it) for it in self.seats])
         elif what.get("ask") == "journal" and isinstance(what.get("first"), int):
             at = max(0, what["first"] - self.about["first"] - 1)
-            client.tell(journal=self.entries[at:at + MOST_ENTRIES], newest=self.about["first"] + len(self.entries))
+            client.tell(journal=self.entries[at : at + MOST_ENTRIES], newest=self.about["first"] + len(self.entries))
         elif what.get("ask") == "leave" and client.seat is not None:
             client.seat.is_kept = False
             client.seat.take_late()
@@ -302,8 +312,14 @@ class Bridge:
 
     def told_of(self, seat: Seat) -> dict:
         """What is told of a seat."""
-        return {"seat": seat.number, "name": seat.name, "here": seat.client is not None, "design": seat.held, "rows": seat.rows,
-                "over": seat.is_over}
+        return {
+            "seat": seat.number,
+            "name": seat.name,
+            "here": seat.client is not None,
+            "design": seat.held,
+            "rows": seat.rows,
+            "over": seat.is_over,
+        }
 
     def take_over(self, name: str, is_wanted: bool) -> None:
         """Cuts off who sits on the seat of this name, where that is wanted."""
@@ -323,14 +339,28 @@ class Bridge:
         seat = seat or next((it for it in self.seats if it.name is None and not it.is_over), None)
         if seat is None or self.is_ending:
             taken = ", ".join(f"{it.name}{'' if it.client else ' (away)'}" for it in self.seats if it.name)
-            self.refuse(client, "the server is ending" if self.is_ending else f"no seat is free: {taken or 'all sessions are over'}; "
-                        "`leave` gives up one's own")
+            self.refuse(
+                client,
+                "the server is ending"
+                if self.is_ending
+                else f"no seat is free: {taken or 'all sessions are over'}; " "`leave` gives up one's own",
+            )
             return
         client.seat, client.name, seat.client, seat.name, seat.is_kept = seat, name, client, name, is_kept
         late, lost = seat.take_late() if is_again else ([], 0)
         own = [it["number"] for it in self.entries if it and it["who"] == name]
-        client.tell(seat=seat.number, name=name, again=is_again, rows=seat.rows, design=seat.held,
-                    newest=self.newest, own=own[-1:], lost=lost, late=late, **self.about)
+        client.tell(
+            seat=seat.number,
+            name=name,
+            again=is_again,
+            rows=seat.rows,
+            design=seat.held,
+            newest=self.newest,
+            own=own[-1:],
+            lost=lost,
+            late=late,
+            **self.about,
+        )
 
     # ------------------------------------------------------------------------------------------------ seats
 
@@ -401,8 +431,12 @@ class Bridge:
             self.transcripts.keep(seat.number, item, reply)
         if reply.sort != b"accepted":
             return
-        entry = {"number": reply.design, "session": seat.number, "who": item.name,
-                 "edits": [check_sessions.in_order(it) for it in item.edits() if it and not it.startswith("#")]}
+        entry = {
+            "number": reply.design,
+            "session": seat.number,
+            "who": item.name,
+            "edits": [check_sessions.in_order(it) for it in item.edits() if it and not it.startswith("#")],
+        }
         at = reply.design - self.about["first"] - 1
         self.entries += [{}] * (at + 1 - len(self.entries))
         self.entries[at] = entry

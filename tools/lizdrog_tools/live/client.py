@@ -107,8 +107,17 @@ class Connection:
         """Takes the seat of a name, or a free one."""
         found = self.ask("seat", hello=1, name=name, take_over=take_over)
         self.beside({"late": found["late"], "lost": found["lost"]})
-        return Seat(found["seat"], found["name"], found["again"], found["design"], found["newest"], next(iter(found["own"]), None),
-                    found["first"], found["documents"], found["journal"])
+        return Seat(
+            found["seat"],
+            found["name"],
+            found["again"],
+            found["design"],
+            found["newest"],
+            next(iter(found["own"]), None),
+            found["first"],
+            found["documents"],
+            found["journal"],
+        )
 
     def tell(self, data: bytes) -> None:
         try:

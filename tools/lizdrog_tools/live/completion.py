@@ -5,11 +5,16 @@ from collections.abc import Callable, Iterable
 from lizdrog_tools import help_text
 from lizdrog_tools.live.design import Design
 
-OF_PROMPT = {"who": "who sits where", "journal": "who made which ECO: journal [COUNT]",
-             "undo": "takes an ECO of yours back: undo [ENTRY] [yes]",
-             "keep": "makes the edits of the last draft that stand: keep [yes]",
-             "source": "says the lines of a file: source FILE", "help": "help [COMMAND]",
-             "leave": "gives the seat up and ends", "quit": "ends; the seat is kept for your name"}
+OF_PROMPT = {
+    "who": "who sits where",
+    "journal": "who made which ECO: journal [COUNT]",
+    "undo": "takes an ECO of yours back: undo [ENTRY] [yes]",
+    "keep": "makes the edits of the last draft that stand: keep [yes]",
+    "source": "says the lines of a file: source FILE",
+    "help": "help [COMMAND]",
+    "leave": "gives the seat up and ends",
+    "quit": "ends; the seat is kept for your name",
+}
 FIXED = {"SPLIT": ["early", "late"], "EDGE": ["rise", "fall"], "KIND": ["setup", "hold"]}
 FURTHER = ["begin_eco", "commit_eco", "begin_what_if", "end_what_if"]
 ENDPOINTS = ("report_endpoint", "report_path", "report_paths", "report_through")
@@ -74,7 +79,9 @@ class Names:
             return self.pins(prefix)
         if sort == "ITEM":
             return [*begins(["c", "none", "r"], prefix), *(self.pins(prefix) if prefix else [])]
-        return begins({"INSTANCE": self.instances, "NET": self.nets, "CELL": self.cells, "END": self.ends}.get(sort, []), prefix)
+        return begins(
+            {"INSTANCE": self.instances, "NET": self.nets, "CELL": self.cells, "END": self.ends}.get(sort, []), prefix
+        )
 
 
 def begins(names: list[str], prefix: str) -> list[str]:

@@ -1,20 +1,23 @@
 """A prompt at a live server: lizdrog connect ADDRESS [--name WHO] [--json]
 
-ADDRESS is unix:PATH, or PATH alone, or tcp:127.0.0.1:PORT, as `lizdrog serve` says it. Each line is answered at once. A group of edits
-or a draft is sent once it is complete. `help` lists the commands; besides those of scripts the prompt knows
+ADDRESS is unix:PATH, or PATH alone, or tcp:127.0.0.1:PORT, as `lizdrog serve` says it. Each line is answered at once. A
+group of edits or a draft is sent once it is complete. `help` lists the commands; besides those of scripts the prompt
+knows
 
-  who               who sits where                 journal [COUNT]   who made which ECO
-  undo [N] [yes]    takes your last ECO back, or   keep [yes]        makes the edits of your last draft that stand, as one ECO
-                    entry N; shown first           source FILE       says the lines of a script
-  quit              ends; the seat stays yours     leave             ends and gives the seat up
+  who, journal [COUNT]    who sits where; who made which ECO
+  undo [N] [yes]          takes your last ECO back, or entry N; shown first
+  keep [yes]              makes the edits of your last draft that stand, as one ECO; shown first
+  source FILE             says the lines of a script
+  quit, leave             ends, and the seat stays yours; ends and gives the seat up
 
   --name WHO    the seat to take: who comes back by a name has the same session again (default: the user's name)
   --take-over   cuts off another client that sits there
   --json        an object a row, for programs; other words go to standard error
   --plain       no prompt: lines of standard input, as where it is no terminal
 
-Ctrl-C drops what is typed, or leaves where an answer is awaited; the server goes on, and keeps the answer. The status is 0 where each reply
-was an answer, 1 where one was refused, no, not_yet or an error, 2 for wrong words, 4 where the server is not there or has ended.
+Ctrl-C drops what is typed, or leaves where an answer is awaited; the server goes on, and keeps the answer. The status
+is 0 where each reply was an answer, 1 where one was refused, no, not_yet or an error, 2 for wrong words, 4 where the
+server is not there or has ended.
 """
 import argparse
 import getpass
@@ -99,7 +102,9 @@ class Talk:
         self.documents = Documents(self.seat.documents, self.seat.journal, self.seat.first)
         self.known, self.last_own, self.draft, self.undone = self.seat.first, self.seat.own, None, {}
         self.design, self.newest, self.status = self.seat.design, self.seat.newest, 0
-        self.prompt = prompts.prompt_of(lambda line: completion.complete(line, self.documents.names_now), given.plain or given.json)
+        self.prompt = prompts.prompt_of(
+            lambda line: completion.complete(line, self.documents.names_now), given.plain or given.json
+        )
         self.lines = Lines()
 
     # ------------------------------------------------------------------------------------------------ showing
@@ -110,13 +115,21 @@ class Talk:
             return
         again = "yours again" if self.seat.is_again else "yours"
         held = f", at design {self.design}" if self.design is not None else ""
-        print(f"session {self.seat.number} is {again}, {self.seat.name}{held}; the newest design is {self.newest}. `help` lists the commands.")
+        print(
+            f"session {self.seat.number} is {again}, {self.seat.name}{held}; the newest design is {self.newest}. "
+            f"`help` lists the commands."
+        )
 
     def show_beside(self) -> None:
         """Shows what came besides answers: ECOs of others, late replies, other words."""
         connection = self.connection
         for it in connection.late:
-            self.show(it["question"], Reply(it["reply"].encode("latin-1"), it["reply"].encode("latin-1").split(b"\n")[0].split(b" ")), None, True)
+            self.show(
+                it["question"],
+                Reply(it["reply"].encode("latin-1"), it["reply"].encode("latin-1").split(b"\n")[0].split(b" ")),
+                None,
+                True,
+            )
         for it in connection.entries:
             self.newest = max(self.newest, it["number"])
             if self.prompt.is_person:
@@ -143,10 +156,22 @@ class Talk:
             self.draft = (command, row)
         edited = self.beside(row)
         if self.is_json:
-            print(json.dumps({"command": row.command, "design": row.design, "question": command.lines, "answer": row.sort,
-                              **read_answers.row_value(command, row, edited)}), flush=True)
+            print(
+                json.dumps(
+                    {
+                        "command": row.command,
+                        "design": row.design,
+                        "question": command.lines,
+                        "answer": row.sort,
+                        **read_answers.row_value(command, row, edited),
+                    }
+                ),
+                flush=True,
+            )
             return
-        print(f"{'(late) ' if is_late else ''}{command.text()} -> {read_answers.answer_text(row)} (design {row.design})")
+        print(
+            f"{'(late) ' if is_late else ''}{command.text()} -> {read_answers.answer_text(row)} (design {row.design})"
+        )
         for line in read_answers.lines_of_row(command, row, edited):
             print(line)
         sys.stdout.flush()
@@ -164,9 +189,23 @@ class Talk:
         code = reply.words[1].decode("latin-1") if len(reply.words) > 1 else ""
         place = wrong if wrong is not None and 0 <= wrong < len(lines) else 0
         if self.is_json:
-            print(json.dumps({"question": [" ".join(it.split()) for it in lines], "error": code, "line": place + 1, "text": lines[place]}), flush=True)
+            print(
+                json.dumps(
+                    {
+                        "question": [" ".join(it.split()) for it in lines],
+                        "error": code,
+                        "line": place + 1,
+                        "text": lines[place],
+                    }
+                ),
+                flush=True,
+            )
             return
-        of = f"line {place + 1} of the {'group' if lines[0].strip() == 'begin_eco' else 'draft'}, " if len(lines) > 1 else ""
+        of = (
+            f"line {place + 1} of the {'group' if lines[0].strip() == 'begin_eco' else 'draft'}, "
+            if len(lines) > 1
+            else ""
+        )
         given_up = ": all of it is given up" if len(lines) > 1 else ""
         print(f"error {code}: {of}`{lines[place][:120]}`{given_up}")
         for hint in explain_fault.script_hints(code, lines[place], lines[:place]):
@@ -259,7 +298,11 @@ class Talk:
             return
         edits = standing_edits(*self.draft)
         if not edits or len(edits) > MOST_EDITS:
-            self.note(f"{len(edits)} edits stand, and an ECO has 1 to {MOST_EDITS}" if edits else "no edit of the last draft stands")
+            self.note(
+                f"{len(edits)} edits stand, and an ECO has 1 to {MOST_EDITS}"
+                if edits
+                else "no edit of the last draft stands"
+            )
             return
         self.send_shown(edits, words, f"keeps what stands of the draft of design {self.draft[1].design}")
 
@@ -268,7 +311,9 @@ class Talk:
         lines = as_group(edits)
         out = sys.stderr if self.is_json else sys.stdout
         print(f"  {what}:", *(f"    {it}" for it in lines), sep="\n", file=out, flush=True)
-        if "yes" not in words and not (self.prompt.is_person and self.prompt.read("send it? [y/N] ").strip().lower() in ("y", "yes")):
+        if "yes" not in words and not (
+            self.prompt.is_person and self.prompt.read("send it? [y/N] ").strip().lower() in ("y", "yes")
+        ):
             self.note("it was not sent" + ("" if self.prompt.is_person else ": a `yes` behind the command sends it"))
             return False
         before = self.last_own
@@ -315,11 +360,20 @@ class Talk:
     def help(self, words: list[str]) -> None:
         """Lists the commands, or explains one."""
         if words:
-            rows = [*help_text.QUESTIONS, *help_text.EDITS, *help_text.OTHERS, *((name, name, what) for name, what in OF_PROMPT.items())]
+            rows = [
+                *help_text.QUESTIONS,
+                *help_text.EDITS,
+                *help_text.OTHERS,
+                *((name, name, what) for name, what in OF_PROMPT.items()),
+            ]
             found = [it for it in rows if words[0] in re.findall(r"\w+", it[0])[:1] + it[0].split()]
             text = help_text.table("", found).removeprefix(":\n") if found else f"there is no command {words[0]}"
         else:
-            text = help_text.script_commands() + "\n\nAt the prompt:\n" + "\n".join(f"  {it:52} {what}" for it, what in OF_PROMPT.items())
+            text = (
+                help_text.script_commands()
+                + "\n\nAt the prompt:\n"
+                + "\n".join(f"  {it:52} {what}" for it, what in OF_PROMPT.items())
+            )
         print(text, file=sys.stderr if self.is_json else sys.stdout, flush=True)
 
     def leave(self, _: list[str]) -> None:
@@ -330,8 +384,19 @@ class Talk:
     def line(self, line: str) -> None:
         """One line of a person or a script."""
         words = line.split()
-        work = {"who": self.who, "journal": self.journal, "undo": self.undo, "keep": self.keep, "source": self.source, "help": self.help,
-                "leave": self.leave}.get(words[0]) if words and not self.lines.open else None
+        work = (
+            {
+                "who": self.who,
+                "journal": self.journal,
+                "undo": self.undo,
+                "keep": self.keep,
+                "source": self.source,
+                "help": self.help,
+                "leave": self.leave,
+            }.get(words[0])
+            if words and not self.lines.open
+            else None
+        )
         if words == ["quit"] and not self.lines.open:
             raise EOFError
         if work:
@@ -392,8 +457,12 @@ def user_name() -> str:
 
 
 def arguments() -> argparse.Namespace:
-    parser = argparse.ArgumentParser(prog="lizdrog connect", description=__doc__, formatter_class=argparse.RawDescriptionHelpFormatter,
-                                     usage="lizdrog connect ADDRESS [--name WHO] [--take-over] [--json] [--plain]")
+    parser = argparse.ArgumentParser(
+        prog="lizdrog connect",
+        description=__doc__,
+        formatter_class=argparse.RawDescriptionHelpFormatter,
+        usage="lizdrog connect ADDRESS [--name WHO] [--take-over] [--json] [--plain]",
+    )
     parser.add_argument("address", help=argparse.SUPPRESS)
     parser.add_argument("--name", default=user_name(), help=argparse.SUPPRESS)
     for name in ("--take-over", "--json", "--plain"):

@@ -33,7 +33,8 @@ class Wire:
 
 @dataclasses.dataclass
 class Change:
-    """What an ECO changed: each instance and net that it touched before and after it, the edits that take it back, the nets whose
+    """What an ECO changed: each instance and net that it touched before and after it, the edits that take it back, the
+    nets whose
     parasitics these drop, and what they cannot bring back."""
 
     before: dict
@@ -82,7 +83,9 @@ class Design:
             try:
                 self.edit(edit.split(" "), change)
             except (KeyError, IndexError, StopIteration) as why:
-                raise TextFault(None, f"the edit `{edit[:80]}` of entry {number} names what the documents have not") from why
+                raise TextFault(
+                    None, f"the edit `{edit[:80]}` of entry {number} names what the documents have not"
+                ) from why
         change.after = {it: self.value(it) for it in change.before}
         self.changes[number], self.number = change, number
 
@@ -102,9 +105,17 @@ class Design:
     def edit(self, words: list[str], change: Change) -> None:
         """Makes an edit, and notes what takes it back."""
         name, *rest = words
-        work = {"repower_gate": self.repower, "insert_gate": self.insert_gate, "remove_gate": self.remove_gate,
-                "insert_net": self.insert_net, "remove_net": self.remove_net, "connect_pin": self.connect,
-                "disconnect_pin": self.disconnect, "insert_buffer": self.insert_buffer, "set_parasitics": self.set_parasitics}
+        work = {
+            "repower_gate": self.repower,
+            "insert_gate": self.insert_gate,
+            "remove_gate": self.remove_gate,
+            "insert_net": self.insert_net,
+            "remove_net": self.remove_net,
+            "connect_pin": self.connect,
+            "disconnect_pin": self.disconnect,
+            "insert_buffer": self.insert_buffer,
+            "set_parasitics": self.set_parasitics,
+        }
         work[name](change, *rest) if name not in ("insert_buffer", "set_parasitics") else work[name](change, rest)
 
     def repower(self, change: Change, instance: str, cell: str) -> None:
@@ -154,8 +165,15 @@ class Design:
         self.join(change, f"{instance}:{given}", net)
         self.join(change, f"{instance}:{made}", new)
         moved = [line for sink in sinks for line in (f"disconnect_pin {sink}", f"connect_pin {sink} {net}")]
-        change.inverse.append([f"disconnect_pin {instance}:{given}", *moved, f"disconnect_pin {instance}:{made}",
-                               f"remove_gate {instance}", f"remove_net {new}"])
+        change.inverse.append(
+            [
+                f"disconnect_pin {instance}:{given}",
+                *moved,
+                f"disconnect_pin {instance}:{made}",
+                f"remove_gate {instance}",
+                f"remove_net {new}",
+            ]
+        )
 
     def set_parasitics(self, change: Change, words: list[str]) -> None:
         self.touch(change, "net", words[0])
@@ -191,8 +209,11 @@ class Design:
     def note_tied(change: Change, instance: str, part: Part, pins: set[str] | frozenset[str]) -> None:
         """No edit ties a pin to a constant."""
         if pins:
-            change.notes.append(f"{', '.join(f'{instance}:{it}' for it in sorted(pins))} of {part.cell} was tied to a constant, and stays "
-                                "open")
+            change.notes.append(
+                f"{', '.join(f'{instance}:{it}' for it in sorted(pins))} of {part.cell} was tied to a constant, and "
+                f"stays "
+                "open"
+            )
 
     # ------------------------------------------------------------------------------------------------ taking back
 
@@ -207,7 +228,9 @@ class Design:
             raise CannotUndo(f"there is no entry {number}")
         for key, value in change.after.items():
             if not is_same(key, self.value(key), value):
-                raise CannotUndo(f"entry {self.later_change(key, number)} changed the {' '.join(key)} since: take that back first")
+                raise CannotUndo(
+                    f"entry {self.later_change(key, number)} changed the {' '.join(key)} since: take that back first"
+                )
         edits = [edit for part in reversed(change.inverse) for edit in part]
         for (sort, name), before in change.before.items():
             if sort == "net" and before is not None:

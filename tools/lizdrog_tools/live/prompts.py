@@ -1,4 +1,5 @@
-"""Reads lines from a person: by python3-prompt-toolkit where it is there, else by readline; and from a file or a pipe."""
+"""Reads lines from a person: by python3-prompt-toolkit where it is there, else by readline; and from a file or a pipe.
+"""
 import os
 import pathlib
 import sys
@@ -44,12 +45,13 @@ class ByReadline:
     def __init__(self, completing: Completing):
         import atexit
         import readline
+
         self.found: list[str] = []
         file = history_file()
 
         def complete(_: str, number: int) -> str | None:
             if number == 0:
-                self.found = completing(readline.get_line_buffer()[:readline.get_endidx()])[1]
+                self.found = completing(readline.get_line_buffer()[: readline.get_endidx()])[1]
             return ended(self.found[number]) if number < len(self.found) else None
 
         readline.set_completer_delims(" \t")
@@ -81,8 +83,12 @@ class ByToolkit:
                 for it in found:
                     yield Completion(ended(it), start_position=-len(prefix), display=it)
 
-        self.session = PromptSession(history=FileHistory(str(history_file())), completer=ByLine(), complete_while_typing=False,
-                                     enable_history_search=True)
+        self.session = PromptSession(
+            history=FileHistory(str(history_file())),
+            completer=ByLine(),
+            complete_while_typing=False,
+            enable_history_search=True,
+        )
 
     def read(self, text: str) -> str:
         return self.session.prompt(text)

@@ -11,7 +11,9 @@ MOST_LINES = 10_000_000
 
 
 def words_of(line: bytes) -> list[bytes]:
-    """The words of a line as the server takes them: none of a comment; a line that is too long or not in ASCII is wrong."""
+    """The words of a line as the server takes them: none of a comment; a line that is too long or not in ASCII is
+    wrong.
+    """
     line = line.removesuffix(b"\n")
     if len(line) > LONGEST_LINE or not line.isascii():
         return WRONG

@@ -1,8 +1,8 @@
 """A session of the live server as the bridge sees it: the two FIFOs, what waits to be said, and whose reply comes next.
 
-One command is with the server at a time: a command's line, the `commit_eco` of a group or the `end_what_if` of a draft is
-answered before the next line is handed on. So a reply is always that of the last command. A group is handed on line by
-line; at a wrong line of it the server answers at once, and passes over what is left of the group, which then has no
+One command is with the server at a time: a command's line, the `commit_eco` of a group or the `end_what_if` of a draft
+is answered before the next line is handed on. So a reply is always that of the last command. A group is handed on line
+by line; at a wrong line of it the server answers at once, and passes over what is left of the group, which then has no
 answer of its own.
 
 A line is handed on whole, in one write: the end of an input ends a last line, too, and a part of `BUF_X16` is `BUF_X1`.
@@ -68,7 +68,7 @@ class Seat:
         self.is_waiting, self.doubt, self.own_lines = False, None, set()
         self.rows, self.errors, self.held, self.is_over, self.is_shut = 0, 0, None, False, False
 
-    # ------------------------------------------------------------------------------------------------ opening and closing
+    # ---------------------------------------------------------------------- opening and closing
 
     def try_open(self) -> bool:
         """Whether the input is open: it is once the server's thread of this session is there."""
@@ -110,8 +110,8 @@ class Seat:
         return self.queued > MOST_QUEUED
 
     def pump(self) -> str:
-        """Hands on what may be: "idle" where nothing is left or a reply has to come first, "full" where the FIFO is full, "long"
-        where a long line waits for an empty FIFO, and "gone" where the server reads no more."""
+        """Hands on what may be. It is `idle` where nothing is left or a reply has to come first, `full` where the FIFO is
+        full, `long` where a long line waits for an empty FIFO, and `gone` where the server reads no more."""
         while self.input is not None:
             if self.rest:
                 state = self.write(self.rest)
@@ -171,7 +171,7 @@ class Seat:
         if len(data) > ATOMIC and not self.is_empty():
             return "long"
         try:
-            self.rest = data[os.write(self.input, data):]
+            self.rest = data[os.write(self.input, data) :]
         except BlockingIOError:
             return "full"
         except BrokenPipeError:

@@ -1,18 +1,18 @@
 """A live server that clients attach to: lizdrog serve DESIGN [WORKERS] --listen ADDRESS [options]
 
-DESIGN is EARLY LATE NETLIST SDC SPEF and WORKERS, as for `lizdrog run`, or FILE.toml, which names them. The live server reads the design
-once, and each client that attaches (`lizdrog connect`) has a session of its own on it. A session outlives its client, who takes it up
-again by its name.
+DESIGN is EARLY LATE NETLIST SDC SPEF and WORKERS, as for `lizdrog run`, or FILE.toml, which names them. The live server
+reads the design once, and each client that attaches (`lizdrog connect`) has a session of its own on it. A session
+outlives its client, who takes it up again by its name.
 
   --listen unix:PATH             a Unix socket, for this user alone (mode 600)
   --listen tcp:127.0.0.1:PORT    a port of the loopback address, for all users of this machine; PORT 0 takes a free one
   --sessions N                   how many sessions, 1 to 16 (default 4)
-  --journal NAME                 goes on from the entries of this file, and adds each accepted ECO to it before anybody is told of it
+  --journal NAME                 goes on from the entries of this file, and adds each accepted ECO before it is told
   --transcript FOLDER            keeps what each session asked and was told, for tools/check_sessions.py
   --program FILE, --proved       this program; refuses one that is not proved
 
-SIGTERM and SIGINT end it: the sessions are closed, and the server writes its last line. The status is that of the live server (lizdrog
---help), and 70 where there is none. docs/LIVE.md walks through it.
+SIGTERM and SIGINT end it: the sessions are closed, and the server writes its last line. The status is that of the live
+server (`lizdrog --help`), and 70 where there is none. docs/LIVE.md walks through it.
 """
 import argparse
 import contextlib
@@ -51,11 +51,17 @@ def say(line: str) -> None:
 
 
 def arguments(words: list[str]) -> argparse.Namespace:
-    parser = argparse.ArgumentParser(prog="lizdrog serve", description=__doc__, formatter_class=argparse.RawDescriptionHelpFormatter,
-                                     usage="lizdrog serve DESIGN [WORKERS] --listen ADDRESS [--sessions N] [--journal NAME]")
+    parser = argparse.ArgumentParser(
+        prog="lizdrog serve",
+        description=__doc__,
+        formatter_class=argparse.RawDescriptionHelpFormatter,
+        usage="lizdrog serve DESIGN [WORKERS] --listen ADDRESS [--sessions N] [--journal NAME]",
+    )
     parser.add_argument("design", nargs="+", help=argparse.SUPPRESS)
     for name in ("--listen", "--sessions", "--journal", "--transcript", "--program"):
-        parser.add_argument(name, help=argparse.SUPPRESS, required=name == "--listen", default="4" if name == "--sessions" else None)
+        parser.add_argument(
+            name, help=argparse.SUPPRESS, required=name == "--listen", default="4" if name == "--sessions" else None
+        )
     parser.add_argument("--proved", action="store_true", help=argparse.SUPPRESS)
     given = parser.parse_intermixed_args(words)
     if not command_line.is_number(given.sessions, MOST_SESSIONS):
@@ -71,8 +77,12 @@ def documents_of(design: list[str]) -> list[str]:
         documents, workers = read_documents(design[0])
         design = [*documents, *(design[1:] or [workers])]
     if len(design) != DOCUMENT_WORDS + 1 or not command_line.is_number(design[-1], command_line.MOST_WORKERS):
-        raise InputFault("the words of the design", None, "they are EARLY LATE NETLIST SDC SPEF WORKERS, or FILE.toml and perhaps WORKERS, "
-                         f"a number from 1 to {command_line.MOST_WORKERS}")
+        raise InputFault(
+            "the words of the design",
+            None,
+            "they are EARLY LATE NETLIST SDC SPEF WORKERS, or FILE.toml and perhaps WORKERS, "
+            f"a number from 1 to {command_line.MOST_WORKERS}",
+        )
     return design
 
 
@@ -140,7 +150,8 @@ def saved_count(journal: str | None) -> int:
 
 
 def with_parent() -> Callable[[], None]:
-    """What a child does first, so that it ends where this process is killed: it may wait for the other end of a FIFO."""
+    """What a child does first, so that it ends where this process is killed: it may wait for the other end of a FIFO.
+    """
     system = ctypes.CDLL(None, use_errno=True)
     return lambda: system.prctl(END_WITH_PARENT, signal.SIGTERM)
 
@@ -150,8 +161,14 @@ def start(program: str, journal: str | None, documents: list[str], count: int, f
     option = ["--journal", journal] if journal is not None else []
     pairs = [f"{folder}/{way}{number}" for number in range(1, count + 1) for way in ("in", "out")]
     try:
-        return subprocess.Popen([program, "live", *option, *documents, *pairs], stdin=subprocess.DEVNULL, stdout=subprocess.PIPE,
-                                env=run_lizdrog.surroundings(), start_new_session=True, preexec_fn=with_parent())
+        return subprocess.Popen(
+            [program, "live", *option, *documents, *pairs],
+            stdin=subprocess.DEVNULL,
+            stdout=subprocess.PIPE,
+            env=run_lizdrog.surroundings(),
+            start_new_session=True,
+            preexec_fn=with_parent(),
+        )
     except OSError as why:
         raise programs.Stop(f"{program} does not start: {why.strerror}") from why
 
@@ -165,8 +182,10 @@ def report(bridge: Bridge, status: int, given: argparse.Namespace, documents: li
     output = bridge.output.decode("latin-1")
     run_lizdrog.write_all(bridge.output)
     rows, errors = sum(it.rows for it in bridge.seats), sum(it.errors for it in bridge.seats)
-    say(f"ended with {status_text(status)}: {bridge.served} clients, {rows} rows, {errors} wrong lines, "
-        f"{sum(map(bool, bridge.entries))} ECOs")
+    say(
+        f"ended with {status_text(status)}: {bridge.served} clients, {rows} rows, {errors} wrong lines, "
+        f"{sum(map(bool, bridge.entries))} ECOs"
+    )
     if bridge.transcripts and bridge.is_ready:
         say(f"to check what was told: {bridge.transcripts.check(documents, f'{TOP}/tools/check_sessions.py')}")
     if status > 1 and output.startswith("fault"):
@@ -181,8 +200,11 @@ def serve(given: argparse.Namespace, documents: list[str], program: str) -> int:
     try:
         with listening(given.listen) as (listener, address):
             say(f"{address}, {count} session{'s' if count > 1 else ''}: the server reads the design")
-            about = {"first": saved_count(given.journal), "documents": [absolute(it) for it in documents[:DOCUMENT_WORDS]],
-                     "journal": given.journal and os.path.abspath(given.journal)}
+            about = {
+                "first": saved_count(given.journal),
+                "documents": [absolute(it) for it in documents[:DOCUMENT_WORDS]],
+                "journal": given.journal and os.path.abspath(given.journal),
+            }
             transcripts = Transcripts(given.transcript, count, given.journal) if given.transcript else None
             bridge = Bridge(folder, count, listener, about, lambda line: say(f"{address}, {line}"), transcripts)
             status = bridge.run(lambda: start(program, given.journal, documents, count, folder))

@@ -1,4 +1,6 @@
-"""The documents that a server names, read here where they are: for what stands beside pins, for completion, and for `undo`."""
+"""The documents that a server names, read here where they are: for what stands beside pins, for completion, and for
+`undo`.
+"""
 import os
 import threading
 
@@ -19,7 +21,7 @@ def saved_entries(journal: str | None, first: int) -> dict[int, list[str]]:
         return {}
     text = read_text(journal, may_be_empty=True)
     blocks = Blocks(text)
-    entries = convert_journal.read_journal(text[:blocks.whole])
+    entries = convert_journal.read_journal(text[: blocks.whole])
     return {it: entries[it] for it in range(1, first + 1)}
 
 

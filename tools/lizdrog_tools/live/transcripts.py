@@ -1,7 +1,7 @@
 """What each session asked and was told, kept in a folder in the form of scripts and of the output of a run.
 
-`session1.eco` has the commands of session 1 that were answered, wrong lines left out; `output` has the journal, the rows and the
-last line, and `before.journal` what was saved before. So tools/check_sessions.py can check them.
+`session1.eco` has the commands of session 1 that were answered, wrong lines left out; `output` has the journal, the
+rows and the last line, and `before.journal` what was saved before. So tools/check_sessions.py can check them.
 """
 import os
 import pathlib

@@ -1,8 +1,8 @@
 """What goes over a socket between a client and the bridge, and how such a socket is named.
 
-A client sends the lines of a script, and hears the rows and errors that the live server tells its session. Lines that begin
-with `#lizdrog ` are between client and bridge alone, each with an object in JSON; the server never sees them. A client
-that never says one is a plain one, such as `nc -U`, and hears none.
+A client sends the lines of a script, and hears the rows and errors that the live server tells its session. Lines that
+begin with `#lizdrog ` are between client and bridge alone, each with an object in JSON; the server never sees them. A
+client that never says one is a plain one, such as `nc -U`, and hears none.
 """
 import dataclasses
 import json
@@ -14,8 +14,10 @@ NAME = re.compile(r"[A-Za-z0-9][A-Za-z0-9_.-]{0,31}")
 LOOPBACK = ("127.0.0.1", "localhost")
 LONGEST_PATH = 107
 MOST_PORT = 65535
-TUNNEL = ("from another machine go through ssh: `ssh -N -L 7000:127.0.0.1:7000 HOST` there, and then "
-          "`lizdrog connect tcp:127.0.0.1:7000`")
+TUNNEL = (
+    "from another machine go through ssh: `ssh -N -L 7000:127.0.0.1:7000 HOST` there, and then "
+    "`lizdrog connect tcp:127.0.0.1:7000`"
+)
 
 
 class WrongAddress(Exception):
@@ -69,7 +71,7 @@ def read_control(line: bytes) -> dict | None:
     if not line.startswith(MARK):
         return None
     try:
-        found = json.loads(line[len(MARK):])
+        found = json.loads(line[len(MARK) :])
     except (ValueError, RecursionError):
         return None
     return found if isinstance(found, dict) else None
