@@ -109,8 +109,8 @@ def warn_of_journal(words: list[str]) -> None:
     except OSError:
         return
     if last not in (b"", b"\n"):
-        say(f"warning: {journal} does not end with a line feed: its last line may be cut short, and is read as it stands; "
-            f"`tools/mend_journal.py {journal}` tells more")
+        say(f"warning: {journal} does not end with a line feed: its last line may be cut short, and is read as it "
+            f"stands; `tools/mend_journal.py {journal}` tells more")
 
 
 def serve(given: dict, words: list[str]) -> int:
@@ -158,7 +158,7 @@ def answer(words: list[str]) -> int:
     if words == [] and given["version"]:
         return 0 if write_all("\n".join([*programs.version(), ""]).encode()) else 5
     if words and words[0] in BESIDE:
-        usage(f"the options of {words[0]} stand behind it: lizdrog {words[0]} .. ; `lizdrog {words[0]} --help` lists them")
+        usage(f"the options of {words[0]} stand behind it: `lizdrog {words[0]} --help` lists them")
         return 2 if write_all(b"fault words\n") else 5
     status = other_command(words or [], given["proved"])
     if status is not None:

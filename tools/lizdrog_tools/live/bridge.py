@@ -177,6 +177,8 @@ class Bridge:
             connection.close()
             return
         connection.setblocking(False)
+        if connection.family == socket.AF_INET:
+            wire.prompt_and_alive(connection)
         self.served += 1
         client = Client(connection, self.served)
         self.clients[connection.fileno()] = client

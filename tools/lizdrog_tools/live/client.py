@@ -1,10 +1,13 @@
 """The client's end of a connection: what is said to the bridge and to the session, and what is heard of both."""
 import dataclasses
+import select
+from collections.abc import Callable
 
 from lizdrog_tools.live import wire
 from lizdrog_tools.live.replies import Reply, ReplyReader
 
 READ_BYTES = 1 << 16
+WAIT_SECONDS = 1.0
 
 
 class Refused(Exception):
@@ -29,8 +32,8 @@ class Seat:
 class Connection:
     """A connection to a bridge, with a seat of its own."""
 
-    def __init__(self, address: wire.Address):
-        self.socket = address.socket()
+    def __init__(self, address: wire.Address, say: Callable[[str], None]):
+        self.socket, self.say_beside = address.socket(), say
         try:
             self.socket.connect(address.place)
         except OSError as why:
@@ -96,6 +99,10 @@ class Connection:
     def ask(self, answer: str, **what: object) -> dict:
         """Asks the bridge, and gives the object with this answer."""
         self.tell(wire.control(**what))
+        return self.answer(answer)
+
+    def answer(self, answer: str) -> dict:
+        """The next object with this answer."""
         while True:
             found = self.next()
             if isinstance(found, dict):
@@ -105,7 +112,10 @@ class Connection:
 
     def sit(self, name: str, take_over: bool) -> Seat:
         """Takes the seat of a name, or a free one."""
-        found = self.ask("seat", hello=1, name=name, take_over=take_over)
+        self.tell(wire.control(hello=1, name=name, take_over=take_over))
+        if not select.select([self.socket], [], [], WAIT_SECONDS)[0]:
+            self.say_beside("the server reads its design: waiting for it")
+        found = self.answer("seat")
         self.beside({"late": found["late"], "lost": found["lost"]})
         return Seat(
             found["seat"],

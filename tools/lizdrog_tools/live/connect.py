@@ -40,6 +40,8 @@ WRONG_WORDS, LOST, INTERRUPTED = 2, 4, 130
 NO_ANSWERS = ("refused", "no", "not_yet")
 SHOWN_ENTRIES = 20
 SHOWN_EDITS = 3
+MOST_DIGITS = 10
+MOST_SHOWN = 120
 
 
 def say(line: str) -> None:
@@ -117,19 +119,15 @@ class Talk:
         held = f", at design {self.design}" if self.design is not None else ""
         print(
             f"session {self.seat.number} is {again}, {self.seat.name}{held}; the newest design is {self.newest}. "
-            f"`help` lists the commands."
+            "`help` lists the commands."
         )
 
     def show_beside(self) -> None:
         """Shows what came besides answers: ECOs of others, late replies, other words."""
         connection = self.connection
         for it in connection.late:
-            self.show(
-                it["question"],
-                Reply(it["reply"].encode("latin-1"), it["reply"].encode("latin-1").split(b"\n")[0].split(b" ")),
-                None,
-                True,
-            )
+            data = it["reply"].encode("latin-1")
+            self.show(it["question"], Reply(data, data.split(b"\n")[0].split(b" ")), None, True)
         for it in connection.entries:
             self.newest = max(self.newest, it["number"])
             if self.prompt.is_person:
@@ -156,25 +154,19 @@ class Talk:
             self.draft = (command, row)
         edited = self.beside(row)
         if self.is_json:
-            print(
-                json.dumps(
-                    {
-                        "command": row.command,
-                        "design": row.design,
-                        "question": command.lines,
-                        "answer": row.sort,
-                        **read_answers.row_value(command, row, edited),
-                    }
-                ),
-                flush=True,
-            )
+            head = {"command": row.command, "design": row.design, "question": command.lines, "answer": row.sort}
+            self.put({**head, **read_answers.row_value(command, row, edited)})
             return
-        print(
-            f"{'(late) ' if is_late else ''}{command.text()} -> {read_answers.answer_text(row)} (design {row.design})"
-        )
+        late = "(late) " if is_late else ""
+        print(f"{late}{command.text()} -> {read_answers.answer_text(row)} (design {row.design})")
         for line in read_answers.lines_of_row(command, row, edited):
             print(line)
         sys.stdout.flush()
+
+    @staticmethod
+    def put(what: dict) -> None:
+        """An object in a line."""
+        print(json.dumps(what), flush=True)
 
     def beside(self, row: Row) -> read_answers.Edited | None:
         """What tells of the pins of the paths in a row; none where it has none."""
@@ -189,25 +181,14 @@ class Talk:
         code = reply.words[1].decode("latin-1") if len(reply.words) > 1 else ""
         place = wrong if wrong is not None and 0 <= wrong < len(lines) else 0
         if self.is_json:
-            print(
-                json.dumps(
-                    {
-                        "question": [" ".join(it.split()) for it in lines],
-                        "error": code,
-                        "line": place + 1,
-                        "text": lines[place],
-                    }
-                ),
-                flush=True,
-            )
+            question = [" ".join(it.split()) for it in lines]
+            self.put({"question": question, "error": code, "line": place + 1, "text": lines[place]})
             return
-        of = (
-            f"line {place + 1} of the {'group' if lines[0].strip() == 'begin_eco' else 'draft'}, "
-            if len(lines) > 1
-            else ""
-        )
-        given_up = ": all of it is given up" if len(lines) > 1 else ""
-        print(f"error {code}: {of}`{lines[place][:120]}`{given_up}")
+        text = f"`{lines[place][:MOST_SHOWN]}`"
+        if len(lines) > 1:
+            whole = "group" if lines[0].strip() == "begin_eco" else "draft"
+            text = f"line {place + 1} of the {whole}, {text}: all of it is given up"
+        print(f"error {code}: {text}")
         for hint in explain_fault.script_hints(code, lines[place], lines[:place]):
             print(f"  {hint}")
         sys.stdout.flush()
@@ -237,7 +218,7 @@ class Talk:
         """Shows who made which ECO."""
         entries, _ = self.entries()
         if self.is_json:
-            print(json.dumps({"saved": self.seat.first, "journal": entries}), flush=True)
+            self.put({"saved": self.seat.first, "journal": entries})
             return
         count = int(words[0]) if words and words[0].isdecimal() else SHOWN_ENTRIES
         if self.seat.first:
@@ -252,7 +233,7 @@ class Talk:
         """Shows who sits where."""
         seats = self.connection.ask("who", ask="who")["who"]
         if self.is_json:
-            print(json.dumps({"who": seats}), flush=True)
+            self.put({"who": seats})
             return
         for it in seats:
             where = "over" if it["over"] else "free" if it["name"] is None else "here" if it["here"] else "away"
@@ -269,7 +250,11 @@ class Talk:
 
     def undo(self, words: list[str]) -> None:
         """Takes an ECO back, the last one of one's own where none is named."""
-        number = int(words[0]) if words and words[0].isdecimal() else self.last_standing()
+        numbers = [int(it) for it in words[:1] if it.isascii() and it.isdecimal() and len(it) < MOST_DIGITS]
+        if words[len(numbers):] not in ([], ["yes"]):
+            self.note("undo [ENTRY] [yes]")
+            return
+        number = numbers[0] if numbers else self.last_standing()
         if number is None:
             self.note("you have made no ECO that stands")
             return
@@ -298,11 +283,8 @@ class Talk:
             return
         edits = standing_edits(*self.draft)
         if not edits or len(edits) > MOST_EDITS:
-            self.note(
-                f"{len(edits)} edits stand, and an ECO has 1 to {MOST_EDITS}"
-                if edits
-                else "no edit of the last draft stands"
-            )
+            many = f"{len(edits)} edits of the last draft stand, and an ECO has {MOST_EDITS} at most"
+            self.note(many if edits else "no edit of the last draft stands")
             return
         self.send_shown(edits, words, f"keeps what stands of the draft of design {self.draft[1].design}")
 
@@ -311,14 +293,19 @@ class Talk:
         lines = as_group(edits)
         out = sys.stderr if self.is_json else sys.stdout
         print(f"  {what}:", *(f"    {it}" for it in lines), sep="\n", file=out, flush=True)
-        if "yes" not in words and not (
-            self.prompt.is_person and self.prompt.read("send it? [y/N] ").strip().lower() in ("y", "yes")
-        ):
+        if "yes" not in words and not self.agrees():
             self.note("it was not sent" + ("" if self.prompt.is_person else ": a `yes` behind the command sends it"))
             return False
         before = self.last_own
         self.command(lines)
         return self.last_own != before
+
+    def agrees(self) -> bool:
+        """Whether a person says yes."""
+        try:
+            return self.prompt.is_person and self.prompt.read("send it? [y/N] ").strip().lower() in ("y", "yes")
+        except (KeyboardInterrupt, EOFError):
+            return False
 
     def note(self, text: str) -> None:
         """A word of the prompt's own; in a script it counts as no answer."""
@@ -476,7 +463,7 @@ def arguments() -> argparse.Namespace:
 def main() -> int:
     given = arguments()
     try:
-        connection = Connection(wire.address_of(given.address))
+        connection = Connection(wire.address_of(given.address), say)
     except wire.WrongAddress as why:
         say(str(why))
         return WRONG_WORDS

@@ -110,8 +110,8 @@ class Seat:
         return self.queued > MOST_QUEUED
 
     def pump(self) -> str:
-        """Hands on what may be. It is `idle` where nothing is left or a reply has to come first, `full` where the FIFO is
-        full, `long` where a long line waits for an empty FIFO, and `gone` where the server reads no more."""
+        """Hands on what may be. It is `idle` where nothing is left or a reply has to come first, `full` where the FIFO
+        is full, `long` where a long line waits for an empty FIFO, and `gone` where the server reads no more."""
         while self.input is not None:
             if self.rest:
                 state = self.write(self.rest)

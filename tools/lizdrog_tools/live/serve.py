@@ -35,7 +35,7 @@ from lizdrog_tools.live.transcripts import Transcripts
 from lizdrog_tools.places import TOP
 from lizdrog_tools.run_project import read_documents
 
-WRONG_WORDS, CANNOT_LISTEN = 2, 5
+WRONG_WORDS, CANNOT_LISTEN, CANNOT_WRITE = 2, 5, 5
 MOST_SESSIONS = 16
 # PR_SET_PDEATHSIG of prctl(2).
 END_WITH_PARENT = 1
@@ -47,7 +47,8 @@ class CannotListen(Exception):
 
 
 def say(line: str) -> None:
-    print(f"lizdrog serve: {line}", file=sys.stderr, flush=True)
+    with contextlib.suppress(OSError):
+        print(f"lizdrog serve: {line}", file=sys.stderr, flush=True)
 
 
 def arguments(words: list[str]) -> argparse.Namespace:
@@ -177,21 +178,23 @@ def absolute(name: str) -> str:
     return name if name == "none" else os.path.abspath(name)
 
 
-def report(bridge: Bridge, status: int, given: argparse.Namespace, documents: list[str]) -> None:
-    """Says how it ended, and what a fault means."""
+def report(bridge: Bridge, status: int, given: argparse.Namespace, documents: list[str]) -> int:
+    """Says how it ended, and what a fault means; gives the status, 5 where the last line could not be written."""
     output = bridge.output.decode("latin-1")
-    run_lizdrog.write_all(bridge.output)
+    is_written = run_lizdrog.write_all(bridge.output)
     rows, errors = sum(it.rows for it in bridge.seats), sum(it.errors for it in bridge.seats)
-    say(
-        f"ended with {status_text(status)}: {bridge.served} clients, {rows} rows, {errors} wrong lines, "
-        f"{sum(map(bool, bridge.entries))} ECOs"
-    )
+    ecos = sum(map(bool, bridge.entries))
+    say(f"ended with {status_text(status)}: {bridge.served} clients, {rows} rows, {errors} wrong lines, {ecos} ECOs")
     if bridge.transcripts and bridge.is_ready:
-        say(f"to check what was told: {bridge.transcripts.check(documents, f'{TOP}/tools/check_sessions.py')}")
+        check = bridge.transcripts.check(documents, f"{TOP}/tools/check_sessions.py")
+        say(f"to check what was told: {check}")
     if status > 1 and output.startswith("fault"):
         words = ["run", *(["--journal", given.journal] if given.journal else []), *documents]
         for line in explain_fault.explain(status, output, words):
-            print(line, file=sys.stderr)
+            say(line)
+    if status == CANNOT_WRITE and given.journal:
+        say(f"{given.journal} could not be written, or another server holds it")
+    return status if is_written else max(status, CANNOT_WRITE)
 
 
 def serve(given: argparse.Namespace, documents: list[str], program: str) -> int:
@@ -210,8 +213,7 @@ def serve(given: argparse.Namespace, documents: list[str], program: str) -> int:
             status = bridge.run(lambda: start(program, given.journal, documents, count, folder))
     finally:
         shutil.rmtree(folder, ignore_errors=True)
-    report(bridge, status, given, documents)
-    return status
+    return report(bridge, status, given, documents)
 
 
 def main() -> int:

@@ -20,6 +20,12 @@ TUNNEL = (
 )
 
 
+def prompt_and_alive(made: socket.socket) -> None:
+    """A connection by TCP sends small pieces at once, and notices in time that the other end is gone."""
+    made.setsockopt(socket.IPPROTO_TCP, socket.TCP_NODELAY, 1)
+    made.setsockopt(socket.SOL_SOCKET, socket.SO_KEEPALIVE, 1)
+
+
 class WrongAddress(Exception):
     """Says in a sentence why a word names no socket."""
 
@@ -41,7 +47,10 @@ class Address:
 
     def socket(self) -> socket.socket:
         """A new socket of this kind."""
-        return socket.socket(socket.AF_UNIX if self.path else socket.AF_INET, socket.SOCK_STREAM)
+        made = socket.socket(socket.AF_UNIX if self.path else socket.AF_INET, socket.SOCK_STREAM)
+        if not self.path:
+            prompt_and_alive(made)
+        return made
 
 
 def address_of(word: str) -> Address:
