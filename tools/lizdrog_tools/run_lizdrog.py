@@ -96,19 +96,23 @@ def explain(status: int, first: bytes, words: list[str]) -> None:
         print(line, file=sys.stderr)
 
 
+def lacks_line_end(name: str) -> bool:
+    """Whether a file has bytes of which the last is no line feed."""
+    try:
+        if not os.path.isfile(name):
+            return False
+        with open(name, "rb") as file:
+            size = file.seek(0, os.SEEK_END)
+            file.seek(max(0, size - 1))
+            return file.read(1) not in (b"", b"\n")
+    except OSError:
+        return False
+
+
 def warn_of_journal(words: list[str]) -> None:
     """Warns of a saved journal that may be cut short in its last line: a part of `BUF_X16` is read as `BUF_X1`."""
     _, journal = command_line.without_journal(words) if words[:1] == ["run"] else (words, None)
-    if journal is None or not os.path.isfile(journal):
-        return
-    try:
-        with open(journal, "rb") as file:
-            size = file.seek(0, os.SEEK_END)
-            file.seek(max(0, size - 1))
-            last = file.read(1)
-    except OSError:
-        return
-    if last not in (b"", b"\n"):
+    if journal is not None and lacks_line_end(journal):
         say(f"warning: {journal} does not end with a line feed: its last line may be cut short, and is read as it "
             f"stands; `tools/mend_journal.py {journal}` tells more")
 

@@ -379,6 +379,7 @@ class Kept(Live):
         status, out, said = serving.end(None)
         self.assertEqual((status, out.split(" ")[:3]), (3, ["fault", "journal", "J1"]))
         self.assertIn("J1", said.split("ended with", 1)[1])
+        self.assertIn("`tools/mend_journal.py saved.journal` tells where it is torn", said)
         status, out, said = self.serve("--journal", "absent").end(None)
         self.assertEqual((status, out), (4, "fault shelf absent failed\n"))
         self.assertIn(": >absent", said)

@@ -214,6 +214,9 @@ class Scripts(Connected):
             "journal 1 1\nentry 1 session 1 edits 1\ninsert_buffer c1 skew c2 BUF_X1 r2:CK\n"
         )
         serving = self.serve("--journal", "saved.journal")
+        self.assertRegex(
+            self.connect(serving, "report_path q setup\n")[1], r"(?m)^ .* rise skew:Z +BUF_X1  net c2, 1 sink$"
+        )
         status, out, _ = self.connect(
             serving, "report_endpoint r2:D setup\ndisconnect_pin r2:CK\nundo yes\nreport_endpoint r2:D setup\n"
         )

@@ -501,55 +501,50 @@ class TakenBack(unittest.TestCase):
         with self.assertRaisesRegex(CannotUndo, "that takes 1004 edits, and an ECO has 1000 at most"):
             design.undo(5)
 
-    @common.needs_program
-    def test_answers_are_those_before(self):
-        """On an example with the wires of a SPEF: what was asked before an ECO has the same answers once it is taken
-        back.
-        """
-        documents = [
-            EXAMPLE / it for it in ("sizes.lib", "sizes.lib", "accumulator.v", "accumulator.sdc", "accumulator.spef")
-        ]
-        questions = [
-            "report_worst setup 100",
-            "report_worst hold 100",
-            "report_tns setup",
-            "report_path sum_5:D setup",
-            "report_path sum_5:D hold",
-        ]
-        ecos = [
-            ["repower_gate carry_1 NAND2_X4"],
-            ["insert_buffer c_1 b9 m9 CLKBUF_X4 pass_2:B"],
-            ["set_parasitics c_2 none"],
-            ["disconnect_pin carry_2:A", "connect_pin carry_2:A c_1", "set_parasitics c_1 c #1 9000"],
-            ["insert_gate b8 INV_X1", "insert_net m8", "connect_pin b8:A q_0"],
-            [
-                "disconnect_pin pass_2:A",
-                "disconnect_pin pass_2:B",
-                "disconnect_pin pass_2:Z",
-                "remove_gate pass_2",
-                "disconnect_pin carry_2:B",
-                "remove_net p_2",
-            ],
-        ]
-        design = Design(read_netlist(documents[2]), read_library(documents[0]), read_spef(documents[4]))
-        script = list(questions)
-        for at, edits in enumerate(ecos):
-            design.take(2 * at + 1, edits)
-            back = design.undo(2 * at + 1)[0]
-            design.take(2 * at + 2, back)
+
+@common.needs_program
+class Answers(unittest.TestCase):
+    """On an example with the wires of a SPEF: an ECO changes answers, and once it is taken back they are those before."""
+
+    ROLES = ("sizes.lib", "sizes.lib", "accumulator.v", "accumulator.sdc", "accumulator.spef")
+    QUESTIONS = ["report_worst setup 100", "report_worst hold 100", "report_tns setup", "report_path sum_5:D setup"]
+    OUT = ["pass_2:A", "pass_2:B", "pass_2:Z", "carry_2:B"]
+    ECOS = [
+        ["repower_gate carry_1 NAND2_X4"],
+        ["insert_buffer c_1 b9 m9 CLKBUF_X4 pass_2:B"],
+        ["set_parasitics c_2 none"],
+        ["disconnect_pin carry_2:A", "connect_pin carry_2:A c_1", "set_parasitics c_1 c #1 9000"],
+        ["insert_gate b8 INV_X1", "insert_net m8", "connect_pin b8:A q_0"],
+        [*(f"disconnect_pin {it}" for it in OUT), "remove_gate pass_2", "remove_net p_2"],
+    ]
+
+    def script(self, design):
+        """The questions, and then for each ECO: it, the questions, what takes it back, the questions."""
+        lines = list(self.QUESTIONS)
+        for number, edits in enumerate(self.ECOS):
+            design.take(2 * number + 1, edits)
+            back = design.undo(2 * number + 1)[0]
+            design.take(2 * number + 2, back)
             for it in (edits, back):
-                script += it if len(it) == 1 else ["begin_eco", *it, "commit_eco"]
-            script += questions
+                lines += it if len(it) == 1 else ["begin_eco", *it, "commit_eco"]
+                lines += self.QUESTIONS
+        return "".join(f"{it}\n" for it in lines)
+
+    def test_they_are_those_before(self):
+        documents = [EXAMPLE / it for it in self.ROLES]
+        design = Design(read_netlist(documents[2]), read_library(documents[0]), read_spef(documents[4]))
         with tempfile.TemporaryDirectory() as folder:
             file = pathlib.Path(folder, "s.eco")
-            file.write_text("".join(f"{it}\n" for it in script))
+            file.write_text(self.script(design))
             status, out, _ = common.run(common.PROGRAM, "run", *documents, "1", file)
         self.assertEqual(status, 0, out[:300])
         rows = re.split(r"(?m)^\d+ \d+ ", out[out.index("session 1 rows") : out.index("final ")])[1:]
-        sets = [rows[at : at + 5] for at in range(0, len(rows), 7)]
-        self.assertEqual(len(sets), 1 + len(ecos))
-        for it in sets[1:]:
-            self.assertEqual(it, sets[0])
+        step = len(self.QUESTIONS) + 1
+        told = [rows[at : at + step - 1] for at in range(0, len(rows), step)]
+        self.assertEqual(len(told), 1 + 2 * len(self.ECOS))
+        for number, edits in enumerate(self.ECOS):
+            self.assertNotEqual(told[2 * number + 1], told[0], edits)
+            self.assertEqual(told[2 * number + 2], told[0], edits)
 
 
 if __name__ == "__main__":

@@ -171,7 +171,8 @@ class Talk:
     def beside(self, row: Row) -> read_answers.Edited | None:
         """What tells of the pins of the paths in a row; none where it has none."""
         has_path = row.sort in ("path", "paths") or row.sort == "what_if" and any(it[0] == "path" for it in row.below)
-        if not has_path or not self.documents.wait():
+        # A person is not kept waiting while a large netlist is read.
+        if not has_path or self.prompt.is_person and not self.documents.is_read or not self.documents.wait():
             return None
         self.know(row.design)
         return self.documents.beside(row.design)
@@ -258,6 +259,8 @@ class Talk:
         if number is None:
             self.note("you have made no ECO that stands")
             return
+        if not self.documents.is_read and self.prompt.is_person:
+            print("  the documents are still being read: waiting for them")
         if not self.documents.wait():
             self.note(f"entry {number} cannot be taken back: {self.documents.why}")
             return

@@ -41,11 +41,12 @@ class Documents:
         early, late, netlist, _, spef = self.documents
         try:
             libraries = [read_library(it) for it in dict.fromkeys([late, early])]
-            design = Design(read_netlist(netlist), libraries[0], None if spef == "none" else read_spef(spef))
-            self.edited = Edited(read_netlist(netlist), libraries[0], [])
-            self.entries = saved_entries(self.journal, self.first)
+            text = read_netlist(netlist)
+            design = Design(text, libraries[0], None if spef == "none" else read_spef(spef))
+            self.edited, self.entries = Edited(text, libraries[0], []), saved_entries(self.journal, self.first)
+            self.advance(design)
             self.libraries, self.design = [it.cells for it in libraries], design
-        except (InputFault, TextFault, KeyError) as why:
+        except (InputFault, TextFault, LookupError, ValueError, ArithmeticError) as why:
             self.why = f"{why}"
         except OSError as why:
             self.why = f"{why.filename} cannot be read here: {os.strerror(why.errno or 0)}"
@@ -61,16 +62,26 @@ class Documents:
             if it:
                 self.entries[it["number"]] = it["edits"]
         try:
-            while self.wait() and self.design.number + 1 in self.entries:
-                number = self.design.number + 1
-                self.design.take(number, self.entries[number])
-                self.edited.ecos.append(self.entries[number])
+            if self.wait():
+                self.advance(self.design)
         except TextFault as why:
             self.why, self.design, self.edited = str(why), None, None
 
+    def advance(self, design: Design) -> None:
+        """Makes the ECOs that are known."""
+        while design.number + 1 in self.entries:
+            number = design.number + 1
+            design.take(number, self.entries[number])
+            self.edited.ecos.append(self.entries[number])
+
+    @property
+    def is_read(self) -> bool:
+        """Whether no more is to be read."""
+        return not self.thread.is_alive()
+
     def names_now(self) -> Names | None:
         """The names of the newest design that is known, once they are read; none while they are not."""
-        if self.thread.is_alive() or self.design is None:
+        if not self.is_read or self.design is None:
             return None
         if self.names_at != self.design.number:
             self.names, self.names_at = Names(self.design, self.libraries), self.design.number
