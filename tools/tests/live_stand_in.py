@@ -5,7 +5,8 @@ live_stand_in.py live [--journal NAME] EARLY LATE NETLIST SDC SPEF WORKERS [IN O
 
 It speaks the lines of the live program over FIFOs. Each answer is that of a run of the batch program that
 LIZDROG_STAND_IN_PROGRAM names, made anew for each command; where none is named answers are canned, and an edit with the
-word ABSENT is refused.
+word ABSENT is refused. LIZDROG_STAND_IN_FAULT makes it a wrong one, to see that a trial finds that: `unkept` puts no ECO
+into the journal, `unpassed` does not pass over what stands behind a wrong line of a group.
 """
 import fcntl
 import os
@@ -47,6 +48,7 @@ EDITS = {
 }
 NO_TRIALS = ("take", "await", "report_through", "report_paths", "advise")
 LONGEST = 65536
+FAULT = os.environ.get("LIZDROG_STAND_IN_FAULT")
 
 
 def fits(words, table):
@@ -156,7 +158,7 @@ class Server:
 
     def keep(self, session, edits):
         """A block of one entry, before anybody is told of it."""
-        if self.file:
+        if self.file and FAULT != "unkept":
             head = f"journal 2 {self.newest} 1\n{self.batch.derates}\n"
             entry = f"entry {self.newest + 1} session {session} edits {len(edits)}\n"
             os.write(self.file, (head + entry + "".join(f"{it}\n" for it in edits)).encode("latin-1"))
@@ -172,7 +174,8 @@ class Session:
 
     def wrong(self, code, at=None):
         """What is open is passed over; the error."""
-        self.passing, self.open, self.group = self.open and self.open[1], None, None
+        self.passing = self.open[1] if self.open and FAULT != "unpassed" else None
+        self.open = self.group = None
         self.server.status = max(self.server.status, 1)
         return f"error {code} {at or self.line}\n"
 

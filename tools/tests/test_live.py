@@ -468,6 +468,36 @@ class Checked(Live):
             )
 
 
+@common.needs_program
+class Trials(Live):
+    """bench/live_trial.py passes a right server and finds wrong ones."""
+
+    def trial(self, fault):
+        program = live_serving.REAL or live_serving.STAND_IN
+        surroundings = {
+            **os.environ,
+            "LIZDROG_STAND_IN_PROGRAM": str(common.PROGRAM),
+            "LIZDROG_STAND_IN_FAULT": fault,
+        }
+        words = ["--program", program, "--batch", common.PROGRAM, "--seconds", "3", "--pause", "0.01", "--kills", "2"]
+        return common.run(
+            common.BENCH / "live_trial.py", *words, *self.words, cwd=self.folder, env=surroundings, timeout=SECONDS * 5
+        )
+
+    def test_a_right_server(self):
+        status, out, err = self.trial("")
+        self.assertEqual((status, err), (0, ""))
+        self.assertRegex(out, r"^work: check_sessions: \d+ rows of 4 sessions, \d+ ECOs: each answer is that of one ")
+        self.assertRegex(out, r"\nkills: 2, behind which \d+ ECOs stand, and each that was told; ")
+
+    @unittest.skipIf(live_serving.REAL, "the stand-in alone has faults to order")
+    def test_wrong_servers(self):
+        for fault, said in (("unkept", ", and the journal has None"), ("unpassed", "live_trial: ")):
+            status, _, err = self.trial(fault)
+            self.assertEqual(status, 1, fault)
+            self.assertIn(said, err)
+
+
 class Words(Live):
     def refused(self, status, said, *words):
         told = common.tool("serve_live", *words, "--program", live_serving.STAND_IN, cwd=self.folder)

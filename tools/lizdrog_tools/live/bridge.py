@@ -285,7 +285,7 @@ class Bridge:
             return
         if client.seat is None:
             client.is_plain = True
-            self.sit(client, f"guest{client.number}", is_kept=False)
+            self.sit(client, f"(guest {client.number})", is_kept=False)
         if client.seat is not None:
             client.seat.put(line, client)
 

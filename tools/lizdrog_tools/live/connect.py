@@ -418,10 +418,12 @@ class Talk:
             except KeyboardInterrupt:
                 if not self.prompt.is_person:
                     raise
-                print("  what was typed is dropped; `quit` ends, and the server goes on")
+                print("\n  what was typed is dropped; `quit` ends, and the server goes on")
                 self.lines.open = []
                 continue
             except EOFError:
+                if self.prompt.is_person:
+                    print()
                 break
             try:
                 self.line(line)

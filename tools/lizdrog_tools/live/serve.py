@@ -35,7 +35,7 @@ from lizdrog_tools.live.transcripts import Transcripts
 from lizdrog_tools.places import TOP
 from lizdrog_tools.run_project import read_documents
 
-WRONG_WORDS, CANNOT_LISTEN, CANNOT_WRITE = 2, 5, 5
+WRONG_WORDS, CANNOT_LISTEN, CANNOT_WRITE, INTERRUPTED = 2, 5, 5, 130
 MOST_SESSIONS = 16
 # PR_SET_PDEATHSIG of prctl(2).
 END_WITH_PARENT = 1
@@ -224,10 +224,7 @@ def main() -> int:
         documents = documents_of(given.design)
         program = os.path.abspath(given.program) if given.program else programs.choose_live(given.proved)
         return serve(given, documents, program)
-    except InputFault as why:
-        say(str(why))
-        return WRONG_WORDS
-    except wire.WrongAddress as why:
+    except (InputFault, wire.WrongAddress) as why:
         say(str(why))
         return WRONG_WORDS
     except CannotListen as why:
@@ -239,3 +236,5 @@ def main() -> int:
     except programs.Stop as why:
         say(str(why))
         return run_lizdrog.NO_PROGRAM
+    except KeyboardInterrupt:
+        return INTERRUPTED

@@ -29,7 +29,7 @@ class Transcripts:
         self.folder.mkdir(parents=True, exist_ok=True)
         self.scripts = [open(self.folder / f"session{it}.eco", "wb") for it in range(1, count + 1)]
         self.told = [open(self.folder / f"session{it}.rows", "wb") for it in range(1, count + 1)]
-        if journal:
+        if journal and os.path.isfile(journal):
             shutil.copy(journal, self.folder / "before.journal")
 
     def keep(self, number: int, item: Item, reply: Reply) -> None:
