@@ -330,7 +330,7 @@ def main():
     for it in threads:
         it.start()
     if not threads:
-        Session(1, server).talk(sys.stdin.buffer, sys.stdout.buffer.raw)
+        Session(1, server).talk(sys.stdin.buffer, open(1, "wb", buffering=0, closefd=False))
     for it in threads:
         it.join()
     sys.stdout.write(batch.final(server.ecos))

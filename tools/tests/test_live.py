@@ -2,6 +2,7 @@
 """
 import os
 import pathlib
+import random
 import shutil
 import signal
 import socket
@@ -278,6 +279,32 @@ class Hostile(Live):
             "take",
         )
         self.assertEqual([ann.line() for _ in range(4)], ["error C2 1", "error C2 3", "error C2 6", "1 0 taken"])
+
+    DRAWN = [
+        *[b"begin_eco", b"commit_eco", b"begin_what_if", b"end_what_if", b"drop_last"] * 3,
+        *[b"report_wns setup", b"repower_gate g1 ABSENT", b"take", b"report_worst hold 3"] * 2,
+        *[b"", b"# a comment", b" \tcommit_eco ", b"commit_eco x", b"begin_eco #", b"rubbish", b"report_wns seutp"],
+        *[b"\xff", b"# \xff", b"\x00", b"\x0b", b"end_what_if\r", b"x" * 65537, b"#" * 65537, b" " * 66000],
+        b"report_through r2:D setup g1:A",
+    ]
+    LAST = [b"rubbish", b"commit_eco", b"rubbish", b"end_what_if", b"await 7 1"]
+
+    def test_lines_that_are_drawn(self):
+        """Whatever the lines are, a client hears what the live program writes for them on its standard output."""
+        serving = self.serve(sessions=16, answers=False)
+        program = [live_serving.REAL or live_serving.STAND_IN, "live", *self.words]
+        for seed in range(16):
+            lines = [*random.Random(seed).choices(self.DRAWN, k=400), *self.LAST]
+            text = b"".join(it + b"\n" for it in lines)
+            canned = {**os.environ, "LIZDROG_STAND_IN_PROGRAM": ""}
+            ran = subprocess.run(program, input=text, stdout=subprocess.PIPE, cwd=self.folder, env=canned, check=False)
+            wanted = ran.stdout.decode().split("\n")[:-2]
+            self.assertRegex(wanted[-1], r"^\d+ 0 not_yet 1$")
+            client = self.client(serving, f"s{seed}")
+            thread = threading.Thread(target=client.send, args=(text,))
+            thread.start()
+            self.assertEqual([client.line() for _ in wanted], wanted)
+            thread.join()
 
     def test_one_that_never_reads(self):
         """It is not read any more; the others are answered; and it hears all once it reads."""
