@@ -202,6 +202,8 @@ def choose_live(wants_proved: bool) -> str:
         return LIVE_PROVED
     if not wants_proved and is_program(LIVE_QUICK) and quick_is_current():
         return LIVE_QUICK
+    if not os.path.isdir(f"{TOP}/crates/timing_live") and not is_program(LIVE_QUICK):
+        raise Stop("this version has no live server yet: its parts are proved, and the program that joins them is missing")
     found = next(filter(is_program, [LIVE_PROVED, *([] if wants_proved else [LIVE_QUICK])]), None)
     none = f"there is no {'proved ' if wants_proved else ''}live server here"
     more = "" if wants_proved else f", and `lizdrog --build` builds {LIVE_QUICK} without proof"

@@ -588,6 +588,10 @@ class Words(Live):
         shutil.copy(common.TOP / "lizdrog", top)
         (top / "crates").mkdir()
         (top / "crates.txt").write_text("")
+        status, _, err = common.run(top / "lizdrog", "serve", *self.words, "--listen", "unix:s", cwd=self.folder)
+        self.assertEqual(status, 70)
+        self.assertIn("this version has no live server yet", err)
+        (top / "crates" / "timing_live").mkdir()
         for proved, said in ((["--proved"], "there is no proved live server here"), ([], "lizdrog --build")):
             status, out, err = common.run(
                 top / "lizdrog", "serve", *self.words, "--listen", "unix:s", *proved, cwd=self.folder

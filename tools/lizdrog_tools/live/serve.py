@@ -12,7 +12,7 @@ outlives its client, who takes it up again by its name.
   --program FILE, --proved       this program; refuses one that is not proved
 
 SIGTERM and SIGINT end it: the sessions are closed, and the server writes its last line. The status is that of the live
-server (`lizdrog --help`), and 70 where there is none. docs/LIVE.md walks through it.
+server (`lizdrog --help`), and 70 where there is none. docs/log/2026-12-01-live.md walks through it.
 """
 import argparse
 import contextlib
