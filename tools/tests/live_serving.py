@@ -43,7 +43,7 @@ class Serving:
         self.process = subprocess.Popen(
             [*front, *words, "--listen", self.listen, "--sessions", str(sessions), "--program", program, *options],
             cwd=folder,
-            env={**surroundings, "PYTHONPATH": str(common.TOOLS)},
+            env={**surroundings, "PYTHONPATH": str(common.TOOLS), "TMPDIR": str(folder)},
             stdin=subprocess.DEVNULL,
             stdout=subprocess.PIPE,
             stderr=subprocess.PIPE,
@@ -85,7 +85,7 @@ class Serving:
     def close(self):
         if self.process.poll() is None:
             self.process.kill()
-        self.process.wait()
+        self.process.wait(SECONDS)
         self.thread.join(SECONDS)
         for it in (self.process.stdout, self.process.stderr):
             it.close()

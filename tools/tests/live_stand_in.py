@@ -5,8 +5,8 @@ live_stand_in.py live [--journal NAME] EARLY LATE NETLIST SDC SPEF WORKERS [IN O
 
 It speaks the lines of the live program over FIFOs. Each answer is that of a run of the batch program that
 LIZDROG_STAND_IN_PROGRAM names, made anew for each command; where none is named answers are canned, and an edit with the
-word ABSENT is refused. LIZDROG_STAND_IN_FAULT makes it a wrong one, to see that a trial finds that: `unkept` puts no ECO
-into the journal, `unpassed` does not pass over what stands behind a wrong line of a group.
+word ABSENT is refused. LIZDROG_STAND_IN_FAULT makes it a wrong one, to see that a trial finds that: `unkept` puts no
+ECO into the journal, `unpassed` does not pass over what stands behind a wrong line of a group.
 """
 import fcntl
 import os

@@ -504,7 +504,7 @@ class TakenBack(unittest.TestCase):
 
 @common.needs_program
 class Answers(unittest.TestCase):
-    """On an example with the wires of a SPEF: an ECO changes answers, and once it is taken back they are those before."""
+    """On an example with the wires of a SPEF an ECO changes answers; once it is taken back they are those before."""
 
     ROLES = ("sizes.lib", "sizes.lib", "accumulator.v", "accumulator.sdc", "accumulator.spef")
     QUESTIONS = ["report_worst setup 100", "report_worst hold 100", "report_tns setup", "report_path sum_5:D setup"]

@@ -193,7 +193,8 @@ def report(bridge: Bridge, status: int, given: argparse.Namespace, documents: li
         for line in explain_fault.explain(status, output, words):
             say(line)
     if status > 1 and given.journal and run_lizdrog.lacks_line_end(given.journal):
-        say(f"{given.journal} does not end with a line feed: `tools/mend_journal.py {given.journal}` tells where it is torn")
+        mend = f"`tools/mend_journal.py {given.journal}`"
+        say(f"{given.journal} does not end with a line feed: {mend} tells where it is torn")
     if status == CANNOT_WRITE and given.journal:
         say(f"{given.journal} could not be written, or another server holds it")
     return status if is_written else max(status, CANNOT_WRITE)
