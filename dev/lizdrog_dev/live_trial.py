@@ -166,10 +166,18 @@ class Serving:
         os.kill(int(children[0]), signal.SIGKILL)
         self.process.communicate(timeout=READY_SECONDS)
 
-    def end(self) -> tuple[int, str]:
+    def end(self) -> int:
+        """Ends it; its status."""
         self.process.terminate()
-        out, _ = self.process.communicate(timeout=READY_SECONDS)
-        return self.process.returncode, out
+        self.process.communicate(timeout=READY_SECONDS)
+        return self.process.returncode
+
+    def __enter__(self) -> "Serving":
+        return self
+
+    def __exit__(self, *_: object) -> None:
+        if self.process.poll() is None:
+            self.end()
 
 
 def sit(address: wire.Address, name: str) -> Connection:
@@ -234,47 +242,47 @@ def check_client(name: str, session: int, told: list[Told], rows: bytes, entries
                 )
 
 
-def try_work(given: argparse.Namespace, folder: pathlib.Path) -> str:
-    """The clients' work, and what came of it; in a line."""
-    (folder / "journal").write_text("")
-    serving = Serving(given, folder, given.clients, "--transcript", str(folder / "told"))
+def check_sessions(given: argparse.Namespace, told: pathlib.Path) -> str:
+    """The answers by a run of one session; the tool's line."""
+    scripts = [str(told / f"session{it + 1}.eco") for it in range(given.clients)]
+    run = ["run", "--journal", str(told / "before.journal"), *given.design, *scripts]
+    words = [sys.executable, str(TOOLS / "check_sessions.py"), "--program", str(given.batch), str(told / "output"), *run]
+    checked = subprocess.run(words, capture_output=True, text=True, check=False)
+    if checked.returncode:
+        raise Amiss(f"{checked.stdout}{checked.stderr}")
+    return checked.stdout.strip()
+
+
+def clients_work(given: argparse.Namespace, address: wire.Address) -> list[list[Told]]:
+    """The clients' work; what each was told."""
     netlist, library = read_netlist(given.design[2]), read_library(given.design[1])
     told: list[list[Told]] = [[] for _ in range(given.clients)]
-    until = time.monotonic() + given.seconds
     draws = [Draws(netlist, library, f"{given.seed}{chr(97 + it)}") for it in range(given.clients)]
     for number in range(given.clients):
-        sit(serving.address, f"c{number}").close()
+        sit(address, f"c{number}").close()
+    until = time.monotonic() + given.seconds
     in_threads(
         [
-            lambda it=it: work(serving.address, f"c{it}", draws[it], until, given.pause, told[it])
+            lambda it=it: work(address, f"c{it}", draws[it], until, given.pause, told[it])
             for it in range(given.clients)
         ]
     )
-    status, _ = serving.end()
+    return told
+
+
+def try_work(given: argparse.Namespace, folder: pathlib.Path) -> str:
+    """The clients' work, and what came of it; in a line."""
+    (folder / "journal").write_text("")
+    with Serving(given, folder, given.clients, "--transcript", str(folder / "told")) as serving:
+        told = clients_work(given, serving.address)
+        status = serving.end()
     if status not in (0, 1):
         raise Amiss(f"the server ended with status {status}")
     entries = parsed(folder / "journal", convert_journal.read_journal, may_be_empty=True)
     for number, it in enumerate(told):
-        check_client(
-            f"c{number}", number + 1, it, (folder / "told" / f"session{number + 1}.rows").read_bytes(), entries
-        )
-    scripts = [str(folder / "told" / f"session{it + 1}.eco") for it in range(given.clients)]
-    words = [
-        sys.executable,
-        str(TOOLS / "check_sessions.py"),
-        "--program",
-        str(given.batch),
-        str(folder / "told" / "output"),
-        "run",
-        "--journal",
-        str(folder / "told" / "before.journal"),
-        *given.design,
-        *scripts,
-    ]
-    checked = subprocess.run(words, capture_output=True, text=True, check=False)
-    if checked.returncode:
-        raise Amiss(f"{checked.stdout}{checked.stderr}")
-    return f"work: {checked.stdout.strip()}; {times([it for one in told for it in one])}"
+        rows = (folder / "told" / f"session{number + 1}.rows").read_bytes()
+        check_client(f"c{number}", number + 1, it, rows, entries)
+    return f"work: {check_sessions(given, folder / 'told')}; {times([it for one in told for it in one])}"
 
 
 def times(told: list[Told]) -> str:
@@ -302,18 +310,24 @@ def push(address: wire.Address, name: str, told: list[int]) -> None:
         return
 
 
+def kill_in_work(given: argparse.Namespace, folder: pathlib.Path, number: int, seconds: float) -> list[int]:
+    """Kills a server that takes ECOs; the numbers that were told."""
+    told: list[int] = []
+    with Serving(given, folder, KILLED_CLIENTS) as serving:
+        names = [f"k{number}_{it}" for it in range(KILLED_CLIENTS)]
+        threads = [threading.Thread(target=push, args=(serving.address, it, told)) for it in names]
+        for it in threads:
+            it.start()
+        time.sleep(seconds)
+        serving.kill()
+        for it in threads:
+            it.join()
+    return told
+
+
 def kill_once(given: argparse.Namespace, folder: pathlib.Path, number: int, draw: random.Random) -> tuple[int, bool]:
     """One kill; gives how many ECOs stand, and whether the journal was torn."""
-    serving, told = Serving(given, folder, KILLED_CLIENTS), []
-    threads = [
-        threading.Thread(target=push, args=(serving.address, f"k{number}_{it}", told)) for it in range(KILLED_CLIENTS)
-    ]
-    for it in threads:
-        it.start()
-    time.sleep(draw.uniform(0.02, 0.4))
-    serving.kill()
-    for it in threads:
-        it.join()
+    told = kill_in_work(given, folder, number, draw.uniform(0.02, 0.4))
     journal = folder / "journal"
     found = Blocks(journal.read_text(encoding="latin-1"))
     if found.fault:
