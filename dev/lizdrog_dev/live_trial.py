@@ -246,8 +246,8 @@ def check_sessions(given: argparse.Namespace, told: pathlib.Path) -> str:
     """The answers by a run of one session; the tool's line."""
     scripts = [str(told / f"session{it + 1}.eco") for it in range(given.clients)]
     run = ["run", "--journal", str(told / "before.journal"), *given.design, *scripts]
-    words = [sys.executable, str(TOOLS / "check_sessions.py"), "--program", str(given.batch), str(told / "output"), *run]
-    checked = subprocess.run(words, capture_output=True, text=True, check=False)
+    words = [str(TOOLS / "check_sessions.py"), "--program", str(given.batch), str(told / "output"), *run]
+    checked = subprocess.run([sys.executable, *words], capture_output=True, text=True, check=False)
     if checked.returncode:
         raise Amiss(f"{checked.stdout}{checked.stderr}")
     return checked.stdout.strip()
