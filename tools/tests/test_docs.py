@@ -18,7 +18,7 @@ PAGES = [
     ]
     if it.exists()
 ]
-TRIED = "## Where each crate is tried"
+TRIED = common.DEV / "cases" / "crates.tsv"
 # The crate of a file that pages name without one.
 RULES = "timing_rules"
 # Definitions or laws alone, and the program.
@@ -169,20 +169,18 @@ class Documents(unittest.TestCase):
             # As above: code may be cut anew at any time.
             self.skipTest(f"the index of docs/RULES.md names code or edits that are gone: {'; '.join(gone)}")
 
-    def test_each_crate_is_tried_where_the_map_says(self):
-        text = (DOCS / "TESTS.md").read_text()
-        rows = [row.split(" | ") for row in re.findall(r"^\| (`.*) \|$", text[text.index(TRIED):], re.M)]
+    def test_each_crate_is_tried_where_the_list_says(self):
+        rows = [line.split("\t") for line in TRIED.read_text().splitlines()]
         text = (common.TOP / "crates.txt").read_text()
         crates = re.findall(r"(?m)^(\w+):", text[: text.index("\n# tests\n")])
-        is_whole = [row[0].strip("`") for row in rows] == crates
-        gone = [] if is_whole else ["its crates are not those of crates.txt, in their order"]
+        gone = [] if [row[0] for row in rows] == crates else ["its crates are not those of crates.txt, in their order"]
         for crate, test in rows:
             for file, name in re.findall(r"`([\w/]+\.rt)` `(\w+)`", test):
                 gone += [] if f"fn {name}(" in text_of(CRATES / file) else [f"{crate}: {name}"]
             gone += [f"{crate}: {program} {case}" for program, case in rows_named(test) if not has_row(program, case)]
         if gone:
             # As above.
-            self.skipTest(f"docs/TESTS.md does not say where each crate is tried: {'; '.join(gone)}")
+            self.skipTest(f"dev/cases/crates.tsv does not say where each crate is tried: {'; '.join(gone)}")
 
     def test_each_crate_with_code_has_an_edit(self):
         text = (common.TOP / "crates.txt").read_text()
