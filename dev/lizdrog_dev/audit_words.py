@@ -1,4 +1,4 @@
-"""What must be read to know what `serve` says: dev/audit_words.py [--files | --words | --write]
+"""What must be read to know what `serve` says: dev/audit_words.py [--files | --words | --write] [--call CRATE FILE NAME]
 
 Follows the words of specifications (`crates/*/specs`) from the clauses of `pub fn serve` in
 crates/shell_session/src/serving.rt: each word that a clause names, each word that the definition of such a word names,
@@ -11,6 +11,7 @@ has it, so a variable with the name of a word makes the count larger, never smal
   --files   a line for each file
   --words   a line for each word: crate, file, line, number of lines, name
   --write   puts the sum into docs/GUARANTEE.md, in the place of the one that it has
+  --call    the same for another public function: its crate, its file below src/ and its name
 """
 import argparse
 import dataclasses
@@ -124,7 +125,10 @@ def named(text: str, file: File, files: dict[tuple[str, str], File]) -> set[Word
 
 def clauses_of(text: str, call: str) -> str:
     """The clauses of a public function."""
-    start = text.index(f"pub fn {call}<")
+    start = re.search(rf"pub fn {call}\b", text)
+    if start is None:
+        raise ValueError(call)
+    start = start.start()
     return "\n".join(re.findall(r"^    (?:requires|ensures) .*$", text[start:text.index("\n{", start)], re.M))
 
 
@@ -168,14 +172,18 @@ def main() -> int:
     form.add_argument("--files", action="store_true", help="a line for each file")
     form.add_argument("--words", action="store_true", help="a line for each word")
     form.add_argument("--write", action="store_true", help="put the sum into the page")
-    asked = asked.parse_args()
-    words = words_under(*TOP_CALL)
-    if asked.words:
+    asked.add_argument("--call", nargs=3, metavar=("CRATE", "FILE", "NAME"), help="another function than `serve`")
+    given = asked.parse_args()
+    try:
+        words = words_under(*(given.call or TOP_CALL))
+    except (OSError, ValueError):
+        asked.error(f"there is no public function {' '.join(given.call or TOP_CALL)}")
+    if given.words:
         for it in words:
             print(f"{it.crate} {it.file} {it.line} {it.lines} {it.name}")
         return 0
-    counts = counts_of(words, asked.files)
-    if asked.write:
+    counts = counts_of(words, given.files)
+    if given.write:
         write_page(counts[-1], DOCS / "GUARANTEE.md")
     else:
         print("\n".join(counts))

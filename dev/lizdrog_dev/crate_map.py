@@ -7,7 +7,7 @@ With names it prints for each crate what it uses (what follows from other uses i
 of it proves again, with their share of all lines of sources, definitions and proofs.
 
 --write puts the table of crates and these counts into docs/ARCHITECTURE.md. What the table says of a crate stays; of a
-new one it says the first line of the crate's source.
+new one it says how the crate's source begins.
 
 Status 1 where a crate uses one of a later group or a later line; 2 where there is no such crate.
 """
@@ -128,11 +128,12 @@ def change_lines(crates: Crates, counts: dict[str, int], name: str) -> list[str]
     return said + textwrap.wrap(change, 120, initial_indent="  ", subsequent_indent="  ", break_on_hyphens=False)
 
 
-def first_line(name: str) -> str:
+def first_words(name: str) -> str:
     """What a crate's source says of it first."""
     for file in (TOP / "crates" / name / "src" / it for it in ("lib.rt", "main.rt")):
         if file.is_file():
-            return file.read_text(encoding="utf-8").split("\n", 1)[0].removeprefix("//!").strip().rstrip(".")
+            said = re.match(r"(?://!.*\n)*", file.read_text(encoding="utf-8"))[0].replace("//!", "")
+            return re.split(r"[.:](?:\s|$)", " ".join(said.split()))[0]
     return ""
 
 
@@ -143,7 +144,7 @@ def table_lines(crates: Crates, said: dict[str, str]) -> list[str]:
         if it.group != TESTS:
             group, last = ("" if it.group == last else f" **{it.group}**"), it.group
             lines.append(
-                f"|{group} | {level(crates, it.name)} | `{it.name}` | {said.get(it.name) or first_line(it.name)} |"
+                f"|{group} | {level(crates, it.name)} | `{it.name}` | {said.get(it.name) or first_words(it.name)} |"
             )
     return lines
 

@@ -18,11 +18,11 @@ PAGES = [
     ]
     if it.exists()
 ]
-TRIED = "## Where each crate is tried"
+TRIED = common.DEV / "cases" / "crates.tsv"
 # The crate of a file that pages name without one.
 RULES = "timing_rules"
-# Definitions or laws alone.
-NO_EDITS = (RULES, "bounded_changes")
+# Definitions or laws alone, and the program.
+NO_EDITS = (RULES, "bounded_changes", "timing_shell")
 
 
 def index_rows():
@@ -131,7 +131,7 @@ class Documents(unittest.TestCase):
             f"{row[0]}: {name}"
             for row in index_rows()
             for name in re.findall(r"`(\w+)`", row[3])
-            if f"fn {name}(" not in text
+            if f"fn {name}(" not in text and not has_row("shell_rows", f"case {name}")
         ]
         files = [(row[0], name) for row in index_rows() for name in re.findall(r"`([\w/]+\.rt)`", row[3])]
         gone += [f"{rule}: {name}" for rule, name in files
@@ -151,9 +151,11 @@ class Documents(unittest.TestCase):
         for row in index_rows():
             folder, code = None, set()
             for name in re.findall(r"`([\w/]+\.rt)`", row[2]):
-                folder = (CRATES / name).parent if "/" in name else folder
+                crate, _, rest = name.partition("/")
+                folder = (CRATES / crate / "src" / rest).parent if rest else folder
                 code.add(folder / pathlib.Path(name).name)
-            gone += [f"{row[0]}: {file.name}" for file in code if not file.is_file()]
+            for file in code:
+                self.assertTrue(file.is_file(), f"{row[0]}: {file}")
             crate, edit, gate = re.fullmatch(r"`(?:(\w+)/)?(\w+)`( \(gate\))?", row[4]).groups()
             crate = crate or re.match(r"`(\w+)/", row[2])[1]
             file = (CRATES / crate / "must-fail" if gate else EDITS / crate) / f"{edit}.edit"
@@ -167,25 +169,23 @@ class Documents(unittest.TestCase):
             # As above: code may be cut anew at any time.
             self.skipTest(f"the index of docs/RULES.md names code or edits that are gone: {'; '.join(gone)}")
 
-    def test_each_crate_is_tried_where_the_map_says(self):
-        text = (DOCS / "TESTS.md").read_text()
-        rows = [row.split(" | ") for row in re.findall(r"^\| (`.*) \|$", text[text.index(TRIED):], re.M)]
+    def test_each_crate_is_tried_where_the_list_says(self):
+        rows = [line.split("\t") for line in TRIED.read_text().splitlines()]
         text = (common.TOP / "crates.txt").read_text()
         crates = re.findall(r"(?m)^(\w+):", text[: text.index("\n# tests\n")])
-        is_whole = [row[0].strip("`") for row in rows] == crates
-        gone = [] if is_whole else ["its crates are not those of crates.txt, in their order"]
+        gone = [] if [row[0] for row in rows] == crates else ["its crates are not those of crates.txt, in their order"]
         for crate, test in rows:
             for file, name in re.findall(r"`([\w/]+\.rt)` `(\w+)`", test):
                 gone += [] if f"fn {name}(" in text_of(CRATES / file) else [f"{crate}: {name}"]
             gone += [f"{crate}: {program} {case}" for program, case in rows_named(test) if not has_row(program, case)]
         if gone:
             # As above.
-            self.skipTest(f"docs/TESTS.md does not say where each crate is tried: {'; '.join(gone)}")
+            self.skipTest(f"dev/cases/crates.tsv does not say where each crate is tried: {'; '.join(gone)}")
 
     def test_each_crate_with_code_has_an_edit(self):
-        tests = ("_laws", "base_tests", "reader_tests", "shell_tests")
-        names = [it.parent.parent.name for it in CRATES.glob("*/src/lib.rt")]
-        gone = [it for it in names if it not in NO_EDITS and not it.endswith(tests) and not
+        text = (common.TOP / "crates.txt").read_text()
+        names = re.findall(r"(?m)^(\w+):", text[: text.index("\n# tests\n")])
+        gone = [it for it in names if it not in NO_EDITS and not it.endswith("_laws") and not
                 [*(EDITS / it).glob("*.edit"), *(CRATES / it / "must-fail").glob("*.edit")]]
         if gone:
             # As above.

@@ -73,6 +73,13 @@ class Audit(unittest.TestCase):
         self.assertRegex(total, r"^\d{4} words, \d{4} lines in \d\d crates$")
         self.assertIn(f"**{total}**", (DOCS / "GUARANTEE.md").read_text())
 
+    def test_words_of_another_call(self):
+        status, out, _ = script("audit_words", "--call", "shell_core", "documents.rs", "read_all")
+        self.assertEqual(status, 2)
+        status, out, _ = script("audit_words", "--words", "--call", "levelizer", "leveling.rt", "levels")
+        self.assertEqual(status, 0)
+        self.assertIn(" AreLevels\n", out)
+
     def test_clauses_are_listed(self):
         out = script("clause_names", "shell_session")[1]
         self.assertIn("serve: ensures ends, kept, rising, shelf_count, completeness", out)
