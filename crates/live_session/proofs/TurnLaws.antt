@@ -9,7 +9,7 @@ use Rattle.live_doors.specs.Doors.{Deed, Loses, Grows, Hears, SaysPart}
 use Rattle.script_reader.specs.declared.live.Item.{Item}
 use Rattle.script_reader.specs.Scripts.{outside, inside, drafted, tried}
 use Rattle.script_reader.specs.Live.{Reading, LivePlace, stands, passing_eco, passing_draft, live_end}
-use Rattle.live_session.specs.Answerable.{CanBeAnswered}
+use Rattle.script_reader.specs.LiveKept.{CanBeAnswered}
 use Rattle.live_session.specs.declared.replies.Reply.{Reply}
 use Rattle.live_session.specs.declared.replies.TalkEnd.{TalkEnd}
 use Rattle.live_session.specs.declared.replies.TalkEnd.TheVariants.{Closed, Deaf, Mute, Unkept, Wanting, Full}

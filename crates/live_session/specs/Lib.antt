@@ -1,4 +1,3 @@
 pub mod Talks
 pub mod Turns
 pub mod Moments
-pub mod Answerable

@@ -3,7 +3,7 @@
 ghost use Rattle.std.specs.Prelude.{◌≡◌, ℕ, OnOk, List, [], ◌∷◌, true};
 ghost use Rattle.timing_defs.specs.declared.scripts.Command.{Command};
 ghost use Rattle.timing_defs.specs.declared.scripts.Row.{Row};
-ghost use Rattle.live_session.specs.Answerable.{CanBeAnswered};
+ghost use Rattle.script_reader.specs.LiveKept.{CanBeAnswered};
 ghost use Rattle.script_reader.specs.declared.live.Item.TheVariants.{Asked};
 ghost use Rattle.live_session.specs.Turns.{Runs};
 

@@ -4,7 +4,7 @@ ghost use Rattle.std.specs.Prelude.{◌≡◌, ◌&&◌, List, [], true, IfOk, I
 ghost use Rattle.timing_defs.specs.declared.scripts.Command.{Command};
 ghost use Rattle.timing_defs.specs.declared.scripts.Row.{Row};
 ghost use Rattle.script_reader.specs.Live.{beginning};
-ghost use Rattle.live_session.specs.Answerable.{CanBeAnswered};
+ghost use Rattle.script_reader.specs.LiveKept.{CanBeAnswered};
 ghost use Rattle.live_doors.specs.Doors.{Grows, Loses};
 ghost use Rattle.live_session.specs.Talks.{Talked, at_door, telling, reply_text, marks_of, is_clean, IsKept};
 ghost use Rattle.live_session.specs.Turns.{Tells, Answers, Replies, Reads, Rounds};
