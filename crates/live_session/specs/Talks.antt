@@ -24,10 +24,10 @@ use Rattle.live_session.specs.declared.replies.TalkEnd.TheVariants.{Closed, Deaf
 -- how replies are told, and what is known of a number once it was kept: all entries up to it stand in the journal
 pub record Telling : Type 1 where
   pub manner : Manner
-  pub stands : ℕ → Type 0
+  pub known : ℕ → Type 0
 
 abbrev pub telling : (ℕ → Type 0) → Manner → Telling
-telling stands manner = record { manner = manner; stands = stands }
+telling known manner = record { manner = manner; known = known }
 
 -- the text of a reply: a row as in a batch run, or `error CODE LINE`
 abbrev pub reply_text : List Clock → Reply → List ℕ
@@ -46,7 +46,7 @@ deeds_of way reply = marks_of way.keeps reply ++ said (reply_text way.clocks rep
 
 -- where there is a journal, its keeper has said that all entries up to a row's number stand there
 abbrev pub IsKept : Telling → Reply → Type 0
-IsKept way (row r) = IsTrue way.manner.keeps → way.stands r.number
+IsKept way (row r) = IsTrue way.manner.keeps → way.known r.number
 IsKept way (error wrong) = ⊤
 
 abbrev pub AreKept : Telling → List Reply → Type 0
