@@ -1,23 +1,26 @@
 #!/usr/bin/env python3
-"""Times questions about paths to the deepest endpoint: paths.py [--cells N ..] [--rounds R] [--times T] [--workers W] [--program FILE ..]
+"""Times questions about paths to the deepest endpoint: paths.py [--cells N ..] [--rounds R] [--times T] [--workers W]
+[--program FILE ..]
 
-A design of N cells (default: 50000; several N one after the other) is made by bench/design.py with parasitics by bench/spef.py; its deepest
-endpoint is the data pin of a register with the most gates before it, on the way that has most. Each question is asked many times in a
-run of its own, a run without questions is made beside it, and what a question takes is the difference by the number of questions:
-seconds of processors (of user and system) since the session's thread began, and page faults. So reading and the first analysis are left out
-(since_thread.c beside this script, compiled and loaded before the C library, tells the time since the last thread began), and what is
-written and given up at a run's end is in.
-The questions are
+A design of N cells (default: 50000; several N one after the other) is made by bench/design.py with parasitics by
+bench/spef.py; its deepest endpoint is the data pin of a register with the most gates before it, on the way that has
+most. Each question is asked many times in a run of its own, a run without questions is made beside it, and what a
+question takes is the difference by the number of questions: seconds of processors (of user and system) since the
+session's thread began, and page faults. So reading and the first analysis are left out (since_thread.c beside this
+script, compiled and loaded before the C library, tells the time since the last thread began), and what is written and
+given up at a run's end is in. The questions are
 
   report_path PIN setup           the worst path, 20 T times
-  report_paths PIN setup K        the K worst paths, for K of 1 (20 T times), 10 (5 T times) and 100 (T times; default: 200)
-  report_through PIN setup P ..   with --through: the worst path through pins of the worst path, 1, 4 and 16 of them, spread over it (10 T times)
+  report_paths PIN setup K        the K worst paths, for K of 1 (20 T times), 10 (5 T times) and 100 (T times; default:
+                                  200)
+  report_through PIN setup P ..   with --through: the worst path through pins of the worst path, 1, 4 and 16 of them,
+                                  spread over it (10 T times)
 
-A round has a run of each question and one without; the first in turn is another one in each round. It prints for each question the median
-and the range of R rounds (default: 7) in milliseconds, page faults, the paths that were told, and how many times report_path of the same
-round it takes. FILE is the program to run (default: the one that the gate has proved and built); of several the questions run beside
-each other, and their answers have to be the same. Where other programs run, the numbers say little, and the ratio says more than the
-milliseconds.
+A round has a run of each question and one without; the first in turn is another one in each round. It prints for each
+question the median and the range of R rounds (default: 7) in milliseconds, page faults, the paths that were told, and
+how many times report_path of the same round it takes. FILE is the program to run (default: the one that the gate has
+proved and built); of several the questions run beside each other, and their answers have to be the same. Where other
+programs run, the numbers say little, and the ratio says more than the milliseconds.
 """
 import argparse
 import os
@@ -53,13 +56,19 @@ def deepest(cells):
 
 
 def run(program, folder, question, times, workers):
-    """The output of a run with a question so many times, its seconds of processors since its session began, its page faults and its MB."""
+    """The output of a run with a question so many times, its seconds of processors since its session began, its page
+    faults and its MB."""
     (folder / "asked.eco").write_text((question + "\n") * times)
     words = [program, "run", "bench.lib", "bench.lib", "bench.v", "bench.sdc", "bench.spef", str(workers), "asked.eco"]
     out, since = folder / "output", folder / "since"
     since.unlink(missing_ok=True)
     with open(out, "wb") as sink:
-        child = subprocess.Popen(words, cwd=folder, stdout=sink, env={**os.environ, "LD_PRELOAD": str(folder / "since_thread.so"), "SINCE_FILE": str(since)})
+        child = subprocess.Popen(
+            words,
+            cwd=folder,
+            stdout=sink,
+            env={**os.environ, "LD_PRELOAD": str(folder / "since_thread.so"), "SINCE_FILE": str(since)},
+        )
         _, status, used = os.wait4(child.pid, 0)
     if status:
         sys.exit(f"paths.py: a run of {program} ended with the wait status {status}: {out.read_bytes()[:300]}")
@@ -87,7 +96,11 @@ def questions(program, folder, pin, words):
 def name_of(question):
     """A question as it is printed."""
     name, _, _, *more = question.split(" ")
-    of = "" if name == "report_path" else f" {more[0]}" if name == "report_paths" else f", {len(more)} pin{'s' * (len(more) > 1)}"
+    of = (
+        ""
+        if name == "report_path"
+        else f" {more[0]}" if name == "report_paths" else f", {len(more)} pin{'s' * (len(more) > 1)}"
+    )
     return name + of
 
 
@@ -97,7 +110,8 @@ def told(output, times):
 
 
 def one_round(programs, folder, asked, turn, workers):
-    """What each question takes in a round, for each program: milliseconds, page faults, paths told and MB of the run."""
+    """What each question takes in a round, for each program: milliseconds, page faults, paths told and MB of the
+    run."""
     todo = [(program, question) for question in [None, *asked] for program in programs]
     todo = todo[turn % len(todo):] + todo[:turn % len(todo)]
     took, outputs = {}, {}
@@ -106,9 +120,15 @@ def one_round(programs, folder, asked, turn, workers):
         if outputs.setdefault(question, output) != output:
             sys.exit(f"paths.py: the programs answer {question or 'nothing'} in two ways")
         took[program, question] = seconds, faults, told(output, asked.get(question, 1)), memory
-    return {(program, question): (1000 * (took[program, question][0] - took[program, None][0]) / times,
-                                  (took[program, question][1] - took[program, None][1]) / times, *took[program, question][2:])
-            for program in programs for question, times in asked.items()}
+    return {
+        (program, question): (
+            1000 * (took[program, question][0] - took[program, None][0]) / times,
+            (took[program, question][1] - took[program, None][1]) / times,
+            *took[program, question][2:],
+        )
+        for program in programs
+        for question, times in asked.items()
+    }
 
 
 def printed(rounds, program, question, first, times):
@@ -116,10 +136,13 @@ def printed(rounds, program, question, first, times):
     took = [it[program, question] for it in rounds]
     spent = [it[0] for it in took]
     parts = [it[program, question][0] / it[program, first][0] for it in rounds]
-    return (f"{name_of(question):22} median {statistics.median(spent):7.3f} ms ({min(spent):.3f} to {max(spent):.3f}), "
-            f"{statistics.median(parts):5.1f} times report_path ({min(parts):.1f} to {max(parts):.1f}), "
-            f"{statistics.median(it[1] for it in took):6.1f} page faults; {took[0][2]} path{'' if took[0][2] == 1 else 's'} told; "
-            f"{times} questions in {max(it[3] for it in took):.0f} MB")
+    return (
+        f"{name_of(question):22} median {statistics.median(spent):7.3f} ms ({min(spent):.3f} to {max(spent):.3f}),"
+        f" {statistics.median(parts):5.1f} times report_path ({min(parts):.1f} to {max(parts):.1f}),"
+        f" {statistics.median(it[1] for it in took):6.1f} page faults;"
+        f" {took[0][2]} path{'' if took[0][2] == 1 else 's'} told; {times} questions in"
+        f" {max(it[3] for it in took):.0f} MB"
+    )
 
 
 def main():
@@ -129,7 +152,9 @@ def main():
     words.add_argument("--times", type=int, default=200)
     words.add_argument("--workers", type=int, default=1)
     words.add_argument("--through", action="store_true")
-    words.add_argument("--program", type=pathlib.Path, nargs="+", default=[ecos.TOP / "crates/timing_shell/out/timing_shell"])
+    words.add_argument(
+        "--program", type=pathlib.Path, nargs="+", default=[ecos.TOP / "crates/timing_shell/out/timing_shell"]
+    )
     words = words.parse_args()
     programs = [os.path.realpath(it) for it in words.program]
     for cells in words.cells:

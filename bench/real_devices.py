@@ -1,17 +1,22 @@
 #!/usr/bin/env python3
 """Runs a program on devices that fail: real_devices.py [--program FILE] [--seed S] [--short] [--only WORDS]
 
-What is tried, with the two inverters of examples/two-inverters and the status and text that docs/COMMANDS.md gives for each:
-  output     /dev/full, a pipe that is closed before or after some bytes, one that takes no more, no standard output at all, a slow reader
-  documents  each in turn missing, a directory, below a file, behind links that lead to each other, with a name of 5000 bytes, unreadable
-             (as root, the program runs as `nobody` for this), one whose reads fail (/proc/self/mem), without an end (/dev/zero), of
-             67,108,865 bytes; of 67,108,864 bytes, by a FIFO in pieces, by /dev/stdin, /dev/null, one that grows or shrinks while it is read
-  limits     address space (ulimit -v) from little to ample with 1, 4 and 32 workers and in a generated run: the normal output or status 6
-             with nothing written, once the program is loaded at all; open files, threads, stack
-It prints a line for each case, and ends with 1 at the first that deviates, which --only WORDS (its name, or a part of it) repeats.
+What is tried, with the two inverters of examples/two-inverters and the status and text that docs/COMMANDS.md gives for
+each:
+  output     /dev/full, a pipe that is closed before or after some bytes, one that takes no more, no standard output at
+             all, a slow reader
+  documents  each in turn missing, a directory, below a file, behind links that lead to each other, with a name of 5000
+             bytes, unreadable (as root, the program runs as `nobody` for this), one whose reads fail (/proc/self/mem),
+             without an end (/dev/zero), of 67,108,865 bytes; of 67,108,864 bytes, by a FIFO in pieces, by /dev/stdin,
+             /dev/null, one that grows or shrinks while it is read
+  limits     address space (ulimit -v) from little to ample with 1, 4 and 32 workers and in a generated run: the normal
+             output or status 6 with nothing written, once the program is loaded at all; open files, threads, stack
+It prints a line for each case, and ends with 1 at the first that deviates, which --only WORDS (its name, or a part of
+it) repeats.
 --short leaves out what takes long, and most limits. S (default: 1) gives where pipes are closed.
 """
 import argparse
+import functools
 import contextlib
 import fcntl
 import os
@@ -30,16 +35,32 @@ from lizdrog_dev import trials
 
 LIMIT = 67108864
 NOBODY = 65534
-FILES = {"EARLY": "early.lib", "LATE": "late.lib", "NETLIST": "chain.v", "SDC": "none.sdc", "SPEF": "chain.spef", "JOURNAL": "saved", "SCRIPT": "report.eco"}
+FILES = {
+    "EARLY": "early.lib",
+    "LATE": "late.lib",
+    "NETLIST": "chain.v",
+    "SDC": "none.sdc",
+    "SPEF": "chain.spef",
+    "JOURNAL": "saved",
+    "SCRIPT": "report.eco",
+}
 SPEF = b'*SPEF "IEEE 1481-1998"\n*DELIMITER :\n*C_UNIT 1 FF\n*R_UNIT 1 OHM\n'
 # What examples/two-inverters/README.md says, and docs/SCRIPTS.md of a run with --journal.
 NORMAL = b"journal 1 0\nsession 1 rows 1\n1 0 slew 4.000\nfinal 0 setup none 0.000 hold none 0.000\n"
 BEHIND = NORMAL.replace(b"journal 1 0\n", b"journal 2 0 0\nderates 1000000 1000000 1000000 1000000\n")
 QUESTIONS = 9000
-LONG = b"journal 1 0\nsession 1 rows %d\n" % QUESTIONS + b"".join(b"%d 0 slew 4.000\n" % n for n in range(1, QUESTIONS + 1)) + NORMAL[NORMAL.index(b"final"):]
-ALL_LIMITS = (1000, 2000, 3000, 4000, 5000, 6000, 8000, 10000, 12000, 14000, 16000, 20000, 24000, 32000, 40000, 64000, 100000, 200000, 400000, 1000000)
+LONG = (
+    b"journal 1 0\nsession 1 rows %d\n" % QUESTIONS
+    + b"".join(b"%d 0 slew 4.000\n" % n for n in range(1, QUESTIONS + 1))
+    + NORMAL[NORMAL.index(b"final") :]
+)
+ALL_LIMITS = (
+    1000, 2000, 3000, 4000, 5000, 6000, 8000, 10000, 12000, 14000, 16000, 20000, 24000, 32000, 40000, 64000, 100000,
+    200000, 400000, 1000000,
+)
 FEW_LIMITS = (3000, 6000, 8000, 400000)
-# Without memory the kernel or the loader ends a program before its first instruction; the loader says so on standard error.
+# Without memory the kernel or the loader ends a program before its first instruction; the loader says so on standard
+# error.
 NOT_LOADED = (b"error while loading shared libraries", b"cannot allocate", b"cannot apply additional memory protection")
 
 
@@ -49,13 +70,18 @@ class Wrong(Exception):
 
 def want(ran, status, out):
     if ran.status != status or ran.out != out or ran.err:
-        raise Wrong(f"wanted status {status} with {out[:80]!r}, and it ended with {ran.ended()}, {ran.out[:80]!r}, {ran.err[:80]!r}")
+        raise Wrong(
+            f"wanted status {status} with {out[:80]!r}, and it ended with {ran.ended()}, {ran.out[:80]!r},"
+            f" {ran.err[:80]!r}"
+        )
     return f"status {status}"
 
 
 def want_prefix(ran, got, whole):
     if ran.status != 5 or not whole.startswith(got) or ran.err:
-        raise Wrong(f"wanted status 5 and a prefix, and it ended with {ran.ended()}, {len(got)} bytes, {ran.err[:80]!r}")
+        raise Wrong(
+            f"wanted status 5 and a prefix, and it ended with {ran.ended()}, {len(got)} bytes, {ran.err[:80]!r}"
+        )
     return f"status 5, {len(got)} of {len(whole)} bytes"
 
 
@@ -90,15 +116,23 @@ class Devices:
         yield "output to a slow reader", self.slow_reader
 
     def output_failing(self):
-        words = {"output": self.words(), "long output": self.words("SCRIPT", "long.eco"), "fault of a document": self.words("NETLIST", "none.sdc"),
-                 "fault of the words": ["run"], "missing file": self.words("SDC", "gone"), "generated line": ["generate", "1", "4", "4"]}
+        words = {
+            "output": self.words(),
+            "long output": self.words("SCRIPT", "long.eco"),
+            "fault of a document": self.words("NETLIST", "none.sdc"),
+            "fault of the words": ["run"],
+            "missing file": self.words("SDC", "gone"),
+            "generated line": ["generate", "1", "4", "4"],
+        }
         for what, it in words.items():
             yield f"{what} to /dev/full", lambda it=it: self.into_device(it, "/dev/full")
             yield f"{what} to a closed pipe", lambda it=it: self.into_pipe(it, 0, b"")
             yield f"{what} without standard output", lambda it=it: self.closed_files(it, (1,))
         yield "output without standard input, output and errors", lambda: self.closed_files(self.words(), (0, 1, 2))
         for count in sorted(self.rand.randrange(1, 60000) for _ in range(6)):
-            yield f"long output to a pipe closed after {count} bytes", lambda count=count: self.into_pipe(self.words("SCRIPT", "long.eco"), count, LONG)
+            yield f"long output to a pipe closed after {count} bytes", lambda count=count: self.into_pipe(
+                self.words("SCRIPT", "long.eco"), count, LONG
+            )
         yield "long output to a full pipe that does not wait", self.full_pipe
         yield "long output to a file of at most 5,000 bytes (SIGXFSZ passed over)", self.limited_file
 
@@ -178,7 +212,9 @@ class Devices:
     # -------------------------------------------------------------------------------------------- documents
 
     def fails(self, role, name, how="failed", **more):
-        return want(self.run(self.words(role, name), **more), 4, b"fault shelf %s %s\n" % (os.fsencode(name), how.encode()))
+        return want(
+            self.run(self.words(role, name), **more), 4, b"fault shelf %s %s\n" % (os.fsencode(name), how.encode())
+        )
 
     def documents_failing(self):
         (self.folder / "folder").mkdir()
@@ -196,7 +232,9 @@ class Devices:
         name = FILES[role]
         os.chmod(self.folder / name, 0)
         try:
-            return self.fails(role, name, before=become_nobody) + (" (as nobody, since this is root)" if os.geteuid() == 0 else "")
+            return self.fails(role, name, before=become_nobody) + (
+                " (as nobody, since this is root)" if os.geteuid() == 0 else ""
+            )
         finally:
             os.chmod(self.folder / name, 0o644)
 
@@ -209,7 +247,9 @@ class Devices:
         yield "SCRIPT is /dev/urandom", lambda: self.fails("SCRIPT", "/dev/urandom", "too_long")
         for role in ("SDC", "SCRIPT"):
             yield f"{role} has 67,108,864 bytes", lambda role=role: self.longest(role)
-        yield "SDC has 67,108,865 bytes in a FIFO", lambda: self.by_fifo("SDC", (b"\n" * 65536 for _ in range(1025)), 4, b"fault shelf fifo too_long\n")
+        yield "SDC has 67,108,865 bytes in a FIFO", lambda: self.by_fifo(
+            "SDC", (b"\n" * 65536 for _ in range(1025)), 4, b"fault shelf fifo too_long\n"
+        )
 
     def longest(self, role):
         text = (self.folder / FILES[role]).read_bytes()
@@ -221,11 +261,14 @@ class Devices:
             text = (self.folder / FILES[role]).read_bytes()
             normal = BEHIND if role == "JOURNAL" else NORMAL
             pieces = [text[at:at + 7] for at in range(0, len(text), 7)]
-            yield f"{role} by a FIFO in pieces of 7 bytes", lambda role=role, pieces=pieces, normal=normal: self.by_fifo(role, pieces, 0, normal)
-            yield f"{role} by /dev/stdin", lambda role=role, text=text, normal=normal: self.by_stdin(role, text, normal)
+            by_fifo = functools.partial(self.by_fifo, role, pieces, 0, normal)
+            yield f"{role} by a FIFO in pieces of 7 bytes", by_fifo
+            yield f"{role} by /dev/stdin", functools.partial(self.by_stdin, role, text, normal)
         yield "SDC is /dev/null", lambda: want(self.run(self.words("SDC", "/dev/null")), 0, NORMAL)
         yield "JOURNAL is /dev/null", lambda: want(self.run(self.words("JOURNAL", "/dev/null")), 0, BEHIND)
-        yield "NETLIST is /dev/null", lambda: want(self.run(self.words("NETLIST", "/dev/null")), 3, b"fault netlist V5 0\n")
+        yield "NETLIST is /dev/null", lambda: want(
+            self.run(self.words("NETLIST", "/dev/null")), 3, b"fault netlist V5 0\n"
+        )
         for attempt in range(1, 2 if self.is_short else 6):
             yield f"SDC grows while it is read, {attempt}", self.growing_sdc
             yield f"SCRIPT grows while it is read, {attempt}", self.growing_script
@@ -302,13 +345,22 @@ class Devices:
     # -------------------------------------------------------------------------------------------- limits
 
     def limits(self):
-        runs = {"1 worker": (self.words(), NORMAL), "4 workers": (self.words(workers="4"), NORMAL), "32 workers": (self.words(workers="32"), NORMAL),
-                "9,000 rows": (self.words("SCRIPT", "long.eco"), LONG),
-                "generate 1 4 0": (["generate", "1", "4", "0"], b"generated 4 0 accepted 0 setup 953.000 0.000 hold 7.000 0.000\n")}
+        runs = {
+            "1 worker": (self.words(), NORMAL),
+            "4 workers": (self.words(workers="4"), NORMAL),
+            "32 workers": (self.words(workers="32"), NORMAL),
+            "9,000 rows": (self.words("SCRIPT", "long.eco"), LONG),
+            "generate 1 4 0": (
+                ["generate", "1", "4", "0"],
+                b"generated 4 0 accepted 0 setup 953.000 0.000 hold 7.000 0.000\n",
+            ),
+        }
         for what, (words, normal) in runs.items():
             for kilobytes in FEW_LIMITS if self.is_short else ALL_LIMITS:
-                yield f"{what}, ulimit -v {kilobytes}", lambda words=words, normal=normal, kilobytes=kilobytes: self.limited(words, normal, kilobytes)
-        yield "one open file at a time", lambda: want(self.run(self.words(), before=lambda: os.close(0), limits=[(resource.RLIMIT_NOFILE, 3)]), 0, NORMAL)
+                yield f"{what}, ulimit -v {kilobytes}", functools.partial(self.limited, words, normal, kilobytes)
+        yield "one open file at a time", lambda: want(
+            self.run(self.words(), before=lambda: os.close(0), limits=[(resource.RLIMIT_NOFILE, 3)]), 0, NORMAL
+        )
         yield "32 workers, no more threads", self.no_threads
         for kilobytes in (64, 128, 256, 1024):
             yield f"32 workers, ulimit -s {kilobytes}", lambda kilobytes=kilobytes: want(
@@ -330,8 +382,15 @@ class Devices:
 
 
 def is_not_loaded(ran, kilobytes):
-    """Whether the loader says that it could not load the program, or the kernel ended it where nothing of it can stand."""
-    return ran.status == 127 and any(it in ran.err for it in NOT_LOADED) or kilobytes < 4000 and ran.status in (-9, -11) and not ran.out
+    """Whether the loader says that it could not load the program, or the kernel ended it where nothing of it can
+    stand."""
+    return (
+        ran.status == 127
+        and any(it in ran.err for it in NOT_LOADED)
+        or kilobytes < 4000
+        and ran.status in (-9, -11)
+        and not ran.out
+    )
 
 
 def become_nobody(limits=()):

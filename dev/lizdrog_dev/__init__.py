@@ -1,1 +1,2 @@
-"""What those who prove and measure Lizdrog run: checks over kept proofs, planted bodies, the gate's seconds, made designs."""
+"""What those who prove and measure Lizdrog run: checks over kept proofs, planted bodies, the gate's seconds, made
+designs."""

@@ -1,4 +1,4 @@
-"""What must be read to know what `serve` says: dev/audit_words.py [--files | --words]
+"""What must be read to know what `serve` says: dev/audit_words.py [--files | --words | --write]
 
 Follows the words of specifications (`crates/*/specs`) from the clauses of `pub fn serve` in
 crates/shell_session/src/serving.rt: each word that a clause names, each word that the definition of such a word names,
@@ -10,6 +10,7 @@ has it, so a variable with the name of a word makes the count larger, never smal
 
   --files   a line for each file
   --words   a line for each word: crate, file, line, number of lines, name
+  --write   puts the sum into docs/GUARANTEE.md, in the place of the one that it has
 """
 import argparse
 import dataclasses
@@ -17,8 +18,10 @@ import pathlib
 import re
 import signal
 
-from lizdrog_tools.places import TOP
+from lizdrog_tools.places import DOCS, TOP
 
+# The sum, as the page has it.
+SUM = re.compile(r"\d+ words, \d+ lines in \d+ crates")
 TOP_CALL = ("shell_session", "serving.rt", "serve")
 DERIVED = {"declared", "contracts", "formers"}
 HEAD = re.compile(r"^(?:pub )?(?:abbrev|unfoldable|record|data)(?: pub)? ([^\s:(]+)")
@@ -144,23 +147,36 @@ def shown(name: str, words: list[Word]) -> str:
     return f"{name:32} {len(words):5} words {sum(it.lines for it in words):6} lines"
 
 
+def counts_of(words: list[Word], by_file: bool) -> list[str]:
+    """The lines of counts: for each crate or file, and the sum."""
+    groups: dict[str, list[Word]] = {}
+    for it in words:
+        groups.setdefault(f"{it.crate}/specs/{it.file}" if by_file else it.crate, []).append(it)
+    crates, lines = len({it.crate for it in words}), sum(it.lines for it in words)
+    return [*(shown(name, of) for name, of in groups.items()), f"{len(words)} words, {lines} lines in {crates} crates"]
+
+
+def write_page(total: str, page: pathlib.Path) -> None:
+    """Puts the sum into the page."""
+    page.write_text(SUM.sub(total, page.read_text(encoding="utf-8")), encoding="utf-8")
+
+
 def main() -> int:
     signal.signal(signal.SIGPIPE, signal.SIG_DFL)
     asked = argparse.ArgumentParser(description=__doc__, formatter_class=argparse.RawDescriptionHelpFormatter)
     form = asked.add_mutually_exclusive_group()
     form.add_argument("--files", action="store_true", help="a line for each file")
     form.add_argument("--words", action="store_true", help="a line for each word")
+    form.add_argument("--write", action="store_true", help="put the sum into the page")
     asked = asked.parse_args()
     words = words_under(*TOP_CALL)
     if asked.words:
         for it in words:
             print(f"{it.crate} {it.file} {it.line} {it.lines} {it.name}")
         return 0
-    groups: dict[str, list[Word]] = {}
-    for it in words:
-        groups.setdefault(f"{it.crate}/specs/{it.file}" if asked.files else it.crate, []).append(it)
-    for name, of in groups.items():
-        print(shown(name, of))
-    crates, lines = len({it.crate for it in words}), sum(it.lines for it in words)
-    print(f"{len(words)} words, {lines} lines in {crates} crates")
+    counts = counts_of(words, asked.files)
+    if asked.write:
+        write_page(counts[-1], DOCS / "GUARANTEE.md")
+    else:
+        print("\n".join(counts))
     return 0

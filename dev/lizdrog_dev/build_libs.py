@@ -1,37 +1,22 @@
 """Proves and builds every library for daily work, each as soon as those below it are built, N beside each other.
 
-    dev/build_libs.py [--at-once N] [--seconds FILE] [CRATE ..]
+    dev/build_libs.py [--at-once N] [--seconds FILE] [--log FILE] [CRATE ..]
 
-CRATE: only these libraries and those below them. FILE (as dev/gate_seconds.py --out writes it) lets the longest chain
-in seconds go first; without it the lines of the crates count. It calls rt's own build of a library, one job each, and
-keeps what it proves in out/, where rt check, rt test and rt must-fail find it. A run that is stopped goes on from
-there. It takes the place of `rt check` in a top crate as the first command of the day: that one first reads all crates
-below as source, then builds them in turn.
+CRATE: only these libraries and those below them. FILE of --seconds (as dev/gate_seconds.py --out writes it) lets the
+longest chain in seconds go first; without it the lines of the crates count. FILE of --log gets a line of each crate:
+whether it is built, its seconds, and the last line that the prover said of it. It calls rt's own build of a library,
+one job each, and keeps what it proves in out/, where rt check, rt test and rt must-fail find it. A run that is stopped
+goes on from there. It takes the place of `rt check` in a top crate as the first command of the day: that one first
+reads all crates below as source, then builds them in turn.
 """
 import argparse
-import importlib.machinery
 import os
 import pathlib
-import shutil
-import sys
 import time
-import types
 from concurrent.futures import FIRST_COMPLETED, ThreadPoolExecutor, wait
 
+from lizdrog_dev.toolchain import rt_library
 from lizdrog_tools.places import TOP
-
-
-def rt_library():
-    """The module of the toolchain that knows crates."""
-    rt = shutil.which("rt")
-    if rt is None:
-        sys.exit("build_libs: there is no rt on the PATH")
-    file = pathlib.Path(os.path.realpath(rt)).parent / "rtlib.py"
-    module = types.ModuleType("rtlib")
-    module.__file__ = str(file)
-    sys.modules["rtlib"] = module
-    importlib.machinery.SourceFileLoader("rtlib", str(file)).exec_module(module)
-    return module
 
 
 def chosen(crates, names):
@@ -58,16 +43,17 @@ def chains(crates, seconds):
 
 
 def build(crate):
-    """Builds one library; gives it with the status and the seconds."""
-    began = time.monotonic()
-    os.makedirs(f"{crate.folder}/out", exist_ok=True)
-    with open(f"{crate.folder}/out/build.log", "w", encoding="utf-8") as crate.out:
+    """Builds one library; gives it with the status, the seconds and the prover's last line."""
+    began, log = time.monotonic(), pathlib.Path(crate.folder, "out", "build.log")
+    log.parent.mkdir(exist_ok=True)
+    with open(log, "w", encoding="utf-8") as crate.out:
         status = crate.build_rlib(["--jobs", "1"], anew=False)
-    return crate, status, time.monotonic() - began
+    said = log.read_text(encoding="utf-8", errors="replace").strip().rsplit("\n", 1)[-1]
+    return crate, status, time.monotonic() - began, said or ("nothing was said" if status else "it was built before")
 
 
-def build_all(crates, waits, at_once):
-    """Builds each library when those below it are built; gives the names of those that failed."""
+def build_all(crates, waits, at_once, tell):
+    """Builds each library when those below it are built, and tells of it; gives the names of those that failed."""
     left, done, failed, running = sorted(crates, key=lambda it: -waits[it.name]), set(), set(), set()
     with ThreadPoolExecutor(at_once) as pool:
         while left or running:
@@ -76,26 +62,39 @@ def build_all(crates, waits, at_once):
                 if below & failed:
                     left.remove(it)
                     failed.add(it.name)
-                    print(f"{it.name}: not built, since a library below failed", flush=True)
+                    tell(f"{it.name}: not built, since a library below failed")
                 elif below <= done and len(running) < at_once:
                     left.remove(it)
                     running.add(pool.submit(build, it))
             if not running:
                 continue
             ended, running = wait(running, return_when=FIRST_COMPLETED)
-            for it, status, took in (run.result() for run in ended):
+            for it, status, took, said in (run.result() for run in ended):
                 (failed if status else done).add(it.name)
-                print(f"{it.name}: {'FAILED, see out/build.log' if status else 'built'} ({took:.0f} s)", flush=True)
+                tell(f"{it.name}: {'FAILED, see out/build.log' if status else 'built'} ({took:.0f} s)", said)
     return failed
+
+
+def teller(log):
+    """Says a line at once, and writes it to a file, where there is one, with what the prover said last."""
+    out = open(log, "a", encoding="utf-8") if log else None
+
+    def tell(line, said=""):
+        print(line, flush=True)
+        if out:
+            print(line + (f": {said}" if said else ""), file=out, flush=True)
+
+    return tell
 
 
 def main():
     parser = argparse.ArgumentParser(description=__doc__, formatter_class=argparse.RawDescriptionHelpFormatter)
     parser.add_argument("--at-once", type=int, default=os.cpu_count() or 1, metavar="N")
     parser.add_argument("--seconds", metavar="FILE")
+    parser.add_argument("--log", metavar="FILE")
     parser.add_argument("names", nargs="*", metavar="CRATE")
     given = parser.parse_args()
-    rt = rt_library()
+    tell, rt = teller(given.log), rt_library()
     crates = [it for it in rt.crates_below(str(TOP)) if it.makes_rlib()]
     unknown = sorted(set(given.names) - {it.name for it in crates})
     if unknown:
@@ -103,6 +102,6 @@ def main():
     crates = chosen(crates, given.names)
     rt.guarded()
     held = rt.lock(crates)  # what locks the crates is kept to the end
-    failed = build_all(crates, chains(crates, given.seconds), given.at_once)
+    failed = build_all(crates, chains(crates, given.seconds), given.at_once, tell)
     del held
     return 1 if failed else 0

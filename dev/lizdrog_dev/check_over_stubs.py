@@ -3,17 +3,15 @@ functions have no body.
 
     dev/check_over_stubs.py CRATE [--sources CRATE,..] [--changed COMMIT] [--alone] [FLAG..]
 
-The crates below come as libraries that `rt ci` kept, where these have the contracts and proofs of this tree, and so
-have all below them; else as sources whose functions have a hole for their proof (functions that call each other in a
-ring, those of the language's own types, and such as give a closure or a constant keep theirs). --sources names those
-that are taken so in any case. FLAGs go to `rattle check`: `--only FUNCTION` (again for more), `--only ''` for the front
-end alone, `--fix-imports`. --changed names each function whose text is not that of the commit (others whose proofs see
-them are still to be named). With --alone the functions of the crate that no `--only` names have no body either, so that
-those that are named are done in a part of the time. A line of a function that `depends on a hole` in functions of the
-crates below alone is good; one with `did not prove` is not.
-Nothing that this says counts as proved: that is for `rt ci`."""
-import os
-import pathlib
+The crates below come as libraries that are built in this clone or that `rt ci` kept, where these have the contracts and
+proofs of this tree, and so have all below them; else as sources whose functions have a hole for their proof (functions
+that call each other in a ring, those of the language's own types, and such as give a closure or a constant keep
+theirs). --sources names those that are taken so in any case. FLAGs go to `rattle check`: `--only FUNCTION` (again for
+more), `--only ''` for the front end alone, `--fix-imports`. --changed names each function whose text is not that of the
+commit (others whose proofs see them are still to be named). With --alone the functions of the crate that no `--only`
+names have no body either, so that those that are named are done in a part of the time. A line of a function that
+`depends on a hole` in functions of the crates below alone is good; one with `did not prove` is not. Nothing that this
+says counts as proved: that is for `rt ci`."""
 import re
 import shutil
 import subprocess
@@ -21,7 +19,9 @@ import sys
 
 from lizdrog_dev import check_over_kept as over
 from lizdrog_dev import try_edits as edits
-from lizdrog_tools.places import TOP, WORK
+from lizdrog_dev.crate_list import crates_below, uses_of_crates
+from lizdrog_dev.toolchain import kit_folder
+from lizdrog_tools.places import CRATES, TOP, WORK
 
 OUT = WORK / "stubs"
 # Methods of the language's own types go by names that the checker gives them.
@@ -59,7 +59,7 @@ def write_stub(crate, own, to, but=()):
 
 def stub(crate):
     """The folder of a crate without bodies, written anew where the crate was changed since."""
-    own, to = TOP / "crates" / crate, OUT / crate
+    own, to = CRATES / crate, OUT / crate
     mark = str(max(it.stat().st_mtime_ns for part in edits.PARTS for it in (own / part).rglob("*")))
     if not (to / "of").is_file() or (to / "of").read_text() != mark:
         write_stub(crate, own, to)
@@ -68,15 +68,15 @@ def stub(crate):
 
 
 def kept_libraries(uses, name, as_sources):
-    """The kept libraries below a crate that are of this tree, with all below them."""
+    """The libraries below a crate, built here or kept, that are of this tree with all below them."""
     kept = {}
-    for crate in over.below(uses, name):
-        found = over.newest_kept(crate)
-        whole = all(it in kept for it in over.below(uses, crate))
-        if found and whole and crate not in as_sources and over.is_of(found, TOP / "crates" / crate, crate):
-            to = WORK / "kept_libraries" / crate
-            if over.library(crate, to):
-                kept[crate] = to
+    for crate in crates_below(uses, name):
+        if crate in as_sources or not all(it in kept for it in crates_below(uses, crate)):
+            continue
+        here, found = over.built_here(crate), over.newest_kept(crate)
+        to = WORK / "kept_libraries" / crate
+        if here or (found and over.is_of(found, CRATES / crate, crate) and over.library(crate, to)):
+            kept[crate] = here or to
     return kept
 
 
@@ -93,7 +93,7 @@ def texts_of(text, file, homes):
 
 def changed(name, commit):
     """The functions of a crate that are new since a commit or have another text."""
-    own, found = TOP / "crates" / name, []
+    own, found = CRATES / name, []
     homes = edits.homes_of(own)
     for file in sorted((own / "src").rglob("*.rt")):
         path = str(file.relative_to(own))
@@ -117,7 +117,7 @@ def main():
     if words in (["-h"], ["--help"]):
         print(__doc__)
         return
-    uses = over.crates()
+    uses = uses_of_crates()
     if not words or words[0] not in uses:
         sys.exit(__doc__)
     name, *flags = words
@@ -132,18 +132,14 @@ def main():
         sys.exit("no function was changed" if commit else "--alone wants functions, each behind --only")
     if commit:
         print("changed:", *named, flush=True)
-    kit = pathlib.Path(os.path.realpath(shutil.which("rt"))).parent.parent
+    kit = kit_folder()
     check, sources = over.words_of(kit, uses, name, kept_libraries(uses, name, as_sources))
     for crate in sources:
         folder = stub(crate)
         check = [it.replace(f"={TOP}/crates/{crate}/src/lib.rt", f"={folder}/src/lib.rt") for it in check]
     print("without bodies:", " ".join(sources) or "none", flush=True)
-    memory = WORK / "kept_libraries" / ("stubs-" + name)
-    memory.mkdir(parents=True, exist_ok=True)
-    own = TOP / "crates" / name
+    own = CRATES / name
     if alone:
         write_stub(name, own, OUT / ("alone-" + name), named)
         own = OUT / ("alone-" + name)
-    os.chdir(own)
-    os.execv(kit / "bin" / "rattle", ["rattle", *check, *flags, "--allow-holes", "--incremental", str(memory),
-                                      "--progress"])
+    over.begin_check(kit, name, own, [*check, *flags, "--allow-holes"], "stubs")

@@ -16,7 +16,12 @@ With the word drafts, designs are those of small_design.py, and one in eight a r
 scripts are those of draft_scripts.py: drafts, advice and ECOs, of which many are refused, and now and then a fault of
 the script. Of a refusal that may name
 one of several loops or overflows (E11, E16) the code alone has to be the same."""
-import pathlib, random, re, subprocess, sys, tempfile
+import pathlib
+import random
+import re
+import subprocess
+import sys
+import tempfile
 
 from lizdrog_tools import check_sessions
 from lizdrog_dev import design
@@ -36,8 +41,10 @@ SAME = [["INV_X1", "INV_X4", "BUF_X2", "BUF_X4", "CLKBUF_X8"], ["NAND2_X1", "NAN
 class Seeded:
     def __init__(self, seed):
         self.seed = seed
+
     def Random(self, s):
         return random.Random("%d-%d" % (self.seed, s))
+
 
 def rc(r, net, driver, sinks):
     """New parasitics of a net: a lump, a star or a chain."""
@@ -59,6 +66,7 @@ def rc(r, net, driver, sinks):
             hub = s
     return " ".join(words + items)
 
+
 def walk_to(r, end, sinks, driver):
     """The pins of a walk to an endpoint from a port, drawn backwards."""
     net_of = {pin: net for net, pins in sinks.items() for pin in pins}
@@ -71,59 +79,79 @@ def walk_to(r, end, sinks, driver):
     return [net] + pins
 
 
-def script(r, n, ports):
-    """Ten ECOs with reports before, between and after."""
-    cells = {name: cell for cell, name, _ in n.instances}
-    sinks = {net: list(s) for net, s in n.sinks.items()}
-    driver = {pins[-1][1]: f"{name}:{pins[-1][0]}" for _, name, pins in n.instances}
-    regs = [name for name, cell in cells.items() if cell == "DFF_X1"]
-    lines = []
-    def reports(k):
-        for _ in range(k):
-            end = r.choice(regs) + ":D" if r.random() < 0.8 else "result[0]"
+class EcoScript:
+    """A script of ECOs with reports between them, and the design as they make it."""
+
+    def __init__(self, r, n):
+        self.r, self.lines = r, []
+        self.cells = {name: cell for cell, name, _ in n.instances}
+        self.sinks = {net: list(s) for net, s in n.sinks.items()}
+        self.driver = {pins[-1][1]: f"{name}:{pins[-1][0]}" for _, name, pins in n.instances}
+        self.registers = [name for name, cell in self.cells.items() if cell == "DFF_X1"]
+
+    def reports(self, count):
+        r, driver = self.r, list(self.driver.values())
+        for _ in range(count):
+            end = r.choice(self.registers) + ":D" if r.random() < 0.8 else "result[0]"
             kind = r.choice(["setup", "hold"])
-            pin = r.choice([p for s in sinks.values() for p in s] + list(driver.values()))
+            pin = r.choice([p for s in self.sinks.values() for p in s] + driver)
             split, tran = r.choice(["early", "late"]), r.choice(["rise", "fall"])
-            asked = small_design.path_questions(r, lambda it: walk_to(r, it, sinks, driver), [end],
-                                                list(driver.values()), 1)
-            lines.append(r.choice([*asked, *asked, f"report_path {end} {kind}", f"report_endpoint {end} {kind}",
-                                   f"report_wns {kind}", f"report_tns {kind}",
-                                   f"report_worst {kind} {r.randrange(1, 20)}", f"report_slew {pin} {split} {tran}",
-                                   f"report_at {pin} {split} {tran}"]))
-    reports(12)
-    for k in range(10):
-        c = r.random()
-        if c < 0.5:
-            name = r.choice([x for x, cell in cells.items() if cell != "DFF_X1"])
-            cells[name] = r.choice([g for g in SAME if cells[name] in g][0][:4 if not name.startswith("clock") else 5])
-            if name.startswith("clock"):
-                cells[name] = r.choice(["BUF_X2", "BUF_X4", "CLKBUF_X8"])
-            lines.append(f"repower_gate {name} {cells[name]}")
+            asked = small_design.path_questions(r, lambda it: walk_to(r, it, self.sinks, self.driver), [end], driver, 1)
+            self.lines.append(r.choice([
+                *asked, *asked, f"report_path {end} {kind}", f"report_endpoint {end} {kind}", f"report_wns {kind}",
+                f"report_tns {kind}", f"report_worst {kind} {r.randrange(1, 20)}", f"report_slew {pin} {split} {tran}",
+                f"report_at {pin} {split} {tran}"]))
+
+    def parasitics(self, net):
+        self.lines.append(rc(self.r, net, self.driver[net], self.sinks[net]))
+
+    def resize(self):
+        r, cells = self.r, self.cells
+        name = r.choice([x for x, cell in cells.items() if cell != "DFF_X1"])
+        cells[name] = r.choice([g for g in SAME if cells[name] in g][0][:4 if not name.startswith("clock") else 5])
+        if name.startswith("clock"):
+            cells[name] = r.choice(["BUF_X2", "BUF_X4", "CLKBUF_X8"])
+        self.lines.append(f"repower_gate {name} {cells[name]}")
+
+    def buffer(self, net, number):
+        """A buffer for some sinks of a net, in one case of two with the parasitics of both nets."""
+        r, sinks, new = self.r, self.sinks, f"net{number}"
+        chosen = r.sample(sinks[net], r.randrange(1, len(sinks[net]) + 1))
+        is_clock = net.startswith("clk")
+        cell = r.choice(["BUF_X4", "CLKBUF_X8"] if is_clock else ["BUF_X2", "BUF_X4", "INV_X1"])
+        is_group = r.random() < 0.5
+        self.lines += ["begin_eco"] if is_group else []
+        self.lines.append(f"insert_buffer {net} buf{number} {new} {cell} {' '.join(chosen)}")
+        sinks[net] = [s for s in sinks[net] if s not in chosen] + [f"buf{number}:A"]
+        sinks[new], self.driver[new] = chosen, f"buf{number}:Y"
+        if not is_clock:
+            self.cells[f"buf{number}"] = cell
+        if is_group:
+            self.parasitics(net)
+            self.parasitics(new)
+            self.lines.append("commit_eco")
+
+    def change(self, number):
+        share = self.r.random()
+        if share < 0.5:
+            self.resize()
+            return
+        net = self.r.choice([x for x, s in self.sinks.items() if s and x in self.driver and not x.startswith("result")])
+        if share < 0.75:
+            self.parasitics(net)
         else:
-            net = r.choice([x for x, s in sinks.items() if s and x in driver and not x.startswith("result")])
-            if c < 0.75:
-                lines.append(rc(r, net, driver[net], sinks[net]))
-            else:
-                chosen = r.sample(sinks[net], r.randrange(1, len(sinks[net]) + 1))
-                cell = r.choice(["BUF_X2", "BUF_X4", "INV_X1"] if not net.startswith("clk")
-                                else ["BUF_X4", "CLKBUF_X8"])
-                group = r.random() < 0.5
-                if group:
-                    lines.append("begin_eco")
-                lines.append(f"insert_buffer {net} buf{k} net{k} {cell} {' '.join(chosen)}")
-                sinks[net] = [s for s in sinks[net] if s not in chosen] + [f"buf{k}:A"]
-                sinks[f"net{k}"] = chosen
-                driver[f"net{k}"] = f"buf{k}:Y"
-                cells[f"buf{k}"] = cell
-                if net.startswith("clk"):
-                    cells[f"clock_buf{k}"] = cells.pop(f"buf{k}")
-                    del cells[f"clock_buf{k}"]
-                if group:
-                    lines.append(rc(r, net, driver[net], sinks[net]))
-                    lines.append(rc(r, f"net{k}", f"buf{k}:Y", chosen))
-                    lines.append("commit_eco")
-        reports(4)
-    return lines
+            self.buffer(net, number)
+
+
+def script(r, n):
+    """Ten ECOs with reports before, between and after."""
+    made = EcoScript(r, n)
+    made.reports(12)
+    for number in range(10):
+        made.change(number)
+        made.reports(4)
+    return made.lines
+
 
 def design_of(r, seed, sizes=(25, 60, 120, 300, 700, 1200)):
     """A random netlist with the number of its cells and of its blocks."""
@@ -146,7 +174,7 @@ def write_documents(d, r, n, blocks, count):
     (d / "c").write_text(sdc)
     names = ["s"] + [f"s{k}" for k in range(2, count + 1)]
     for name in names:
-        (d / name).write_text("\n".join(script(r, n, ports)) + "\n")
+        (d / name).write_text("\n".join(script(r, n)) + "\n")
     with open(d / "p", "w") as out:
         subprocess.run([sys.executable, BENCH / "spef.py", "l", "v"], cwd=d, stdout=out, check=True)
     spef = r.choice(["p", "p", "none"])
@@ -281,6 +309,7 @@ def main():
         return 0
     program, first, count = pathlib.Path(sys.argv[1]).resolve(), int(sys.argv[2]), int(sys.argv[3])
     form = sys.argv[4] if len(sys.argv) > 4 else "1"
+
     def same(seed):
         if form in FORMS:
             return of_form(program, seed, FORMS[form])

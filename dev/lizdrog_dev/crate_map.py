@@ -1,4 +1,4 @@
-"""The map of the crates, as crates.txt has it: dev/crate_map.py [CRATE ..]
+"""The map of the crates, as crates.txt has it: dev/crate_map.py [--write | CRATE ..]
 
 Without a name it prints each level of the map with its crates by groups. A crate's level is one more than the greatest
 level of the crates that it uses. Groups are the comments of crates.txt; crates of tests are left out.
@@ -6,17 +6,26 @@ level of the crates that it uses. Groups are the comments of crates.txt; crates 
 With names it prints for each crate what it uses (what follows from other uses is left out), and which crates a change
 of it proves again, with their share of all lines of sources, definitions and proofs.
 
+--write puts the table of crates and these counts into docs/ARCHITECTURE.md. What the table says of a crate stays; of a
+new one it says the first line of the crate's source.
+
 Status 1 where a crate uses one of a later group or a later line; 2 where there is no such crate.
 """
 import argparse
 import dataclasses
+import pathlib
+import re
 import signal
 import sys
 import textwrap
 
-from lizdrog_tools.places import TOP
+from lizdrog_tools.places import DOCS, TOP
 
 TESTS = "tests"
+# Of the page: the table of crates, what it says of one, and a row of what a change costs.
+TABLE = re.compile(r"(?m)^\| Group \| Level \| Crate \|.*\n(?:\|.*\n)+")
+SAID = re.compile(r"(?m)^\|[^|]*\|[^|]*\| `(\w+)` \| (.*) \|$")
+COST = re.compile(r"(?m)^\| `(\w+)` \| \d+ of \d+ \| \d+ % \|$")
 
 
 @dataclasses.dataclass(frozen=True)
@@ -99,11 +108,19 @@ def lines_in(name: str) -> int:
     return sum(len(it.read_text().splitlines()) for it in files)
 
 
-def change_lines(crates: Crates, name: str) -> list[str]:
-    """What a crate uses, and what a change of it costs."""
-    counts = {it: lines_in(it) for it in crates}
+def lines_in_all(crates: Crates) -> dict[str, int]:
+    return {it: lines_in(it) for it in crates}
+
+
+def cost(crates: Crates, counts: dict[str, int], name: str) -> tuple[list[str], float]:
+    """The crates that a change of one proves again, and their share of all lines in hundredths."""
     again = [name, *all_above(crates, name)]
-    share = 100 * sum(counts[it] for it in again) / sum(counts.values())
+    return again, 100 * sum(counts[it] for it in again) / sum(counts.values())
+
+
+def change_lines(crates: Crates, counts: dict[str, int], name: str) -> list[str]:
+    """What a crate uses, and what a change of it costs."""
+    again, share = cost(crates, counts, name)
     uses = " ".join(needed_uses(crates, name)) or "no crate of this repository"
     said = [f"{name}: level {level(crates, name)}, {crates[name].group}; uses {uses}"]
     change = f"a change proves {len(again)} of {len(crates)} crates again, {share:.0f} % of all lines: "
@@ -111,18 +128,64 @@ def change_lines(crates: Crates, name: str) -> list[str]:
     return said + textwrap.wrap(change, 120, initial_indent="  ", subsequent_indent="  ", break_on_hyphens=False)
 
 
+def first_line(name: str) -> str:
+    """What a crate's source says of it first."""
+    for file in (TOP / "crates" / name / "src" / it for it in ("lib.rt", "main.rt")):
+        if file.is_file():
+            return file.read_text(encoding="utf-8").split("\n", 1)[0].removeprefix("//!").strip().rstrip(".")
+    return ""
+
+
+def table_lines(crates: Crates, said: dict[str, str]) -> list[str]:
+    """The table of crates: each group's name at its first crate, each crate with its level."""
+    lines, last = ["| Group | Level | Crate | What it does |", "|---|---|---|---|"], ""
+    for it in crates.values():
+        if it.group != TESTS:
+            group, last = ("" if it.group == last else f" **{it.group}**"), it.group
+            lines.append(
+                f"|{group} | {level(crates, it.name)} | `{it.name}` | {said.get(it.name) or first_line(it.name)} |"
+            )
+    return lines
+
+
+def with_table(crates: Crates, text: str) -> str:
+    """A page with the table of crates in the place of the one that it has."""
+    lines = table_lines(crates, dict(SAID.findall(text)))
+    return TABLE.sub(lambda _: "\n".join(lines) + "\n", text)
+
+
+def with_costs(crates: Crates, text: str) -> str:
+    """A page with what a change of the crates costs that it names."""
+    counts = lines_in_all(crates)
+
+    def row(found: re.Match) -> str:
+        again, share = cost(crates, counts, found[1])
+        return f"| `{found[1]}` | {len(again)} of {len(crates)} | {share:.0f} % |"
+
+    return COST.sub(row, text)
+
+
+def write_page(crates: Crates, page: pathlib.Path) -> None:
+    page.write_text(with_costs(crates, with_table(crates, page.read_text(encoding="utf-8"))), encoding="utf-8")
+
+
 def main() -> int:
     signal.signal(signal.SIGPIPE, signal.SIG_DFL)
     words = argparse.ArgumentParser(description=__doc__, formatter_class=argparse.RawDescriptionHelpFormatter)
+    words.add_argument("--write", action="store_true")
     words.add_argument("names", metavar="CRATE", nargs="*")
-    names = words.parse_args().names
-    crates = read_crates((TOP / "crates.txt").read_text())
+    given = words.parse_args()
+    names, crates = given.names, read_crates((TOP / "crates.txt").read_text(encoding="utf-8"))
     unknown = [it for it in names if it not in crates]
     if unknown:
         print(f"crate_map: crates.txt has no {' '.join(unknown)}", file=sys.stderr)
         return 2
-    for line in [it for name in names for it in change_lines(crates, name)] or map_lines(crates):
-        print(line)
+    if given.write:
+        write_page(crates, DOCS / "ARCHITECTURE.md")
+    else:
+        counts = lines_in_all(crates) if names else {}
+        lines = [it for name in names for it in change_lines(crates, counts, name)] or map_lines(crates)
+        print("\n".join(lines))
     up = edges_up(crates)
     for it in up:
         print(f"crate_map: {it}", file=sys.stderr)

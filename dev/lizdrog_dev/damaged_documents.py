@@ -1,20 +1,23 @@
-"""Runs a program on damaged documents: damaged_documents.py [--program FILE] [--count N] [--seed S] [--first F | --only NUMBER]
-                                                      [--seconds T] [--keep DIR]
+"""Runs a program on damaged documents: damaged_documents.py [--program FILE] [--count N] [--seed S] [--first F | --only
+NUMBER] [--seconds T] [--keep DIR]
 
-N documents (default: 2000) are damaged, by the seed S (default: 1): of the worked rows that the gate runs, of the examples, and of generated
-designs with parasitics, in turn each document of each (both libraries, netlist, constraints, parasitics, saved journal, scripts). A damage
-is one to three changes of
-  bytes    one is changed, one bit is turned, one to three are put in, some go, the text ends early, a zero or one above 127 is put in
-  lines    one goes, comes twice, changes places with another, is joined with the next, gets a carriage return; one of another document
-  tokens   one goes, comes twice, changes places, becomes another of the document, a number out of range, a word of another language,
-           brackets and quotes; a word of thousands of bytes; brackets of up to 200,000 levels
+N documents (default: 2000) are damaged, by the seed S (default: 1): of the worked rows that the gate runs, of the
+examples, and of generated designs with parasitics, in turn each document of each (both libraries, netlist, constraints,
+parasitics, saved journal, scripts). A damage is one to three changes of
+  bytes    one is changed, one bit is turned, one to three are put in, some go, the text ends early, a zero or one
+           above 127 is put in
+  lines    one goes, comes twice, changes places with another, is joined with the next, gets a carriage return; one of
+           another document
+  tokens   one goes, comes twice, changes places, becomes another of the document, a number out of range, a word of
+           another language, brackets and quotes; a word of thousands of bytes; brackets of up to 200,000 levels
   texts    it is empty, stands twice, or is that of another role
-Each answer has to have a documented status, and to be of the form that docs/COMMANDS.md, docs/SCRIPTS.md and docs/FAULTS.md give, with a place
-inside the text, and to come within T seconds (default: 60). Where bench/reference_timer.py reads the documents, and these are a design, it has
-to give the same output, or the same fault of the script (of a refusal for one of several loops or overflows the code alone). It prints how
-many were tried and what came; at the first answer that deviates it keeps the documents and the output in DIR (default: damaged-S-NUMBER of
-the caller's folder), says which, and ends with 1. --only NUMBER repeats that one; --first F begins with the number F (default: 0). A run
-that is ended by SIGINT or SIGTERM tells what it tried, with status 130.
+Each answer has to have a documented status, and to be of the form that docs/COMMANDS.md, docs/SCRIPTS.md and
+docs/FAULTS.md give, with a place inside the text, and to come within T seconds (default: 60). Where
+bench/reference_timer.py reads the documents, and these are a design, it has to give the same output, or the same fault
+of the script (of a refusal for one of several loops or overflows the code alone). It prints how many were tried and
+what came; at the first answer that deviates it keeps the documents and the output in DIR (default: damaged-S-NUMBER of
+the caller's folder), says which, and ends with 1. --only NUMBER repeats that one; --first F begins with the number F
+(default: 0). A run that is ended by SIGINT or SIGTERM tells what it tried, with status 130.
 """
 import argparse
 import collections
@@ -29,10 +32,16 @@ import tempfile
 
 from lizdrog_dev import compare, reference_timer, trials
 
-HOSTILE_WORDS = [b"0", b"-1", b"1e30", b"-1e30", b"1e31", b"1e-31", b"1e999999999", b"99999999999999999999", b"18446744073709551616",
-                 b"1000000000001", b"1000000000000", b"0.000000000000000000000000000001", b"1234567890123456789012345678901", b"nan", b"inf", b".", b"1.", b".5", b"--",
-                 b"+1", b"0x10", b"1,5", b"200001", b"65536", b"10001", b"none", b"*", b"?", b"$x", b"[expr 1]", b"\\", b"/", b":", b"a:b:c", b"#4294967296", b"#1"]
-MARKS = [b"{", b"}", b"(", b")", b"[", b"]", b'"', b";", b",", b":", b"*", b"\\", b"/*", b"*/", b"//", b"#", b"(*", b"*)", b"`", b"'", b".", b"\\\n", b"\r\n", b"\n\n", b"\t"]
+HOSTILE_WORDS = [
+    b"0", b"-1", b"1e30", b"-1e30", b"1e31", b"1e-31", b"1e999999999", b"99999999999999999999", b"18446744073709551616",
+    b"1000000000001", b"1000000000000", b"0.000000000000000000000000000001", b"1234567890123456789012345678901", b"nan",
+    b"inf", b".", b"1.", b".5", b"--", b"+1", b"0x10", b"1,5", b"200001", b"65536", b"10001", b"none", b"*", b"?",
+    b"$x", b"[expr 1]", b"\\", b"/", b":", b"a:b:c", b"#4294967296", b"#1",
+]
+MARKS = [
+    b"{", b"}", b"(", b")", b"[", b"]", b'"', b";", b",", b":", b"*", b"\\", b"/*", b"*/", b"//", b"#", b"(*", b"*)",
+    b"`", b"'", b".", b"\\\n", b"\r\n", b"\n\n", b"\t",
+]
 TOKENS = re.compile(rb"[A-Za-z_][\w]*|[-+]?[0-9][\w.+-]*|\s+|.", re.S)
 MOST_BYTES = 3000000
 
@@ -52,7 +61,9 @@ def damage_bytes(r, text, _):
         return text[:at] + text[at + r.choice([1, 1, 2, 5, 40]):]
     if kind == "end":
         return text[:at]
-    return text[:at] + {"zero": b"\0", "high": bytes([r.randrange(128, 256)]), "mark": r.choice(MARKS)}[kind] + text[at:]
+    return (
+        text[:at] + {"zero": b"\0", "high": bytes([r.randrange(128, 256)]), "mark": r.choice(MARKS)}[kind] + text[at:]
+    )
 
 
 def damage_lines(r, text, others):
@@ -82,7 +93,9 @@ def damage_tokens(r, text, others):
     tokens = TOKENS.findall(text) or [b""]
     solid = [at for at, it in enumerate(tokens) if not it.isspace()] or [0]
     at, other = r.choice(solid), r.choice(solid)
-    kind = r.choice(["drop", "twice", "places", "other", "number", "number", "hostile", "mark", "foreign", "long", "deep"])
+    kind = r.choice(
+        ["drop", "twice", "places", "other", "number", "number", "hostile", "mark", "foreign", "long", "deep"]
+    )
     if kind == "drop":
         tokens[at] = b""
     elif kind == "twice":
@@ -93,7 +106,14 @@ def damage_tokens(r, text, others):
         tokens[at] = tokens[other]
     elif kind == "number":
         numbers = [it for it in solid if tokens[it][:1].isdigit()] or solid
-        tokens[r.choice(numbers)] = r.choice([b"%d" % r.randrange(100), b"%d.%d" % (r.randrange(9), r.randrange(1000)), b"-%d" % r.randrange(99), r.choice(HOSTILE_WORDS)])
+        tokens[r.choice(numbers)] = r.choice(
+            [
+                b"%d" % r.randrange(100),
+                b"%d.%d" % (r.randrange(9), r.randrange(1000)),
+                b"-%d" % r.randrange(99),
+                r.choice(HOSTILE_WORDS),
+            ]
+        )
     elif kind == "hostile":
         tokens[at] = r.choice(HOSTILE_WORDS)
     elif kind == "mark":
@@ -103,12 +123,24 @@ def damage_tokens(r, text, others):
     elif kind == "long":
         tokens[at] = r.choice([b"a", b"9", b"{", b"\\"]) * r.choice([64, 255, 256, 65536, 70000])
     else:
-        tokens[at] = r.choice([b"x (y) { ", b"{", b"[get_ports ", b"(", b"/* "]) * r.choice([63, 64, 65, 300, 5000, 200000])
+        tokens[at] = r.choice([b"x (y) { ", b"{", b"[get_ports ", b"(", b"/* "]) * r.choice(
+            [63, 64, 65, 300, 5000, 200000]
+        )
     return b"".join(tokens)
 
 
 def damage_text(r, text, others):
-    return r.choice([b"", text + text, r.choice(others), text + r.choice(others), text[len(text) // 2:], text.replace(b"\n", b"\r\n"), text.rstrip(b"\n")])
+    return r.choice(
+        [
+            b"",
+            text + text,
+            r.choice(others),
+            text + r.choice(others),
+            text[len(text) // 2 :],
+            text.replace(b"\n", b"\r\n"),
+            text.rstrip(b"\n"),
+        ]
+    )
 
 
 DAMAGES = {"bytes": damage_bytes, "lines": damage_lines, "tokens": damage_tokens, "texts": damage_text}
@@ -135,15 +167,26 @@ def generated(seed, scripts):
         folder = pathlib.Path(folder)
         words = compare.write_documents(folder, r, netlist, blocks, scripts)
         words[5] = "p"
-        return trials.Design("generated", {it.name: it.read_bytes() for it in folder.iterdir()}, words, plain=scripts == 1)
+        return trials.Design(
+            "generated", {it.name: it.read_bytes() for it in folder.iterdir()}, words, plain=scripts == 1
+        )
 
 
 def all_designs(seed):
-    return [*trials.gate_designs(), generated(seed, 1), trials.Design("pulse", pulse(), ["run", "a.lib", "a.lib", "netlist.v", "pulse_width.sdc", "netlist.spef", "1", "close.eco"])]
+    return [
+        *trials.gate_designs(),
+        generated(seed, 1),
+        trials.Design(
+            "pulse",
+            pulse(),
+            ["run", "a.lib", "a.lib", "netlist.v", "pulse_width.sdc", "netlist.spef", "1", "close.eco"],
+        ),
+    ]
 
 
 def pulse():
-    """The example of a real netlist, beside a library that does not have its cells: its documents are read, and the design is refused."""
+    """The example of a real netlist, beside a library that does not have its cells: its documents are read, and the
+    design is refused."""
     return {**trials.folder_of("pulse-width"), "a.lib": trials.shared_texts()["a.lib"]}
 
 
@@ -215,7 +258,9 @@ def keep(folder, trial, ran, why):
     folder.mkdir(parents=True, exist_ok=True)
     trial.write(folder)
     (folder / "got").write_bytes(ran.out + ran.err)
-    (folder / "why").write_text(f"{why}\ndamaged: {trial.role} ({trial.name}), {trial.kind}\nwords: {' '.join(trial.design.words)}\n")
+    (folder / "why").write_text(
+        f"{why}\ndamaged: {trial.role} ({trial.name}), {trial.kind}\nwords: {' '.join(trial.design.words)}\n"
+    )
 
 
 def ending(ran, text):
@@ -242,9 +287,16 @@ class Tried:
             of_kinds = [sum(n for (a, b, _), n in self.counts.items() if (a, b) == (role, kind)) for kind in DAMAGES]
             of_endings = [sum(n for (a, _, c), n in self.counts.items() if (a, c) == (role, it)) for it in endings]
             rows.append([role, *of_kinds, *of_endings, self.compared[role]])
-        trials.table(f"damaged documents (seed {seed}): what was damaged, how, and how runs ended", ["role", *DAMAGES, *endings, "as the plain timer"], rows)
-        print(f"{sum(self.counts.values())} damaged documents, each with a documented answer; {sum(self.compared.values())} compared with the plain timer; "
-              f"the slowest, number {self.slowest[1]}, took {self.slowest[0]:.2f} s")
+        trials.table(
+            f"damaged documents (seed {seed}): what was damaged, how, and how runs ended",
+            ["role", *DAMAGES, *endings, "as the plain timer"],
+            rows,
+        )
+        print(
+            f"{sum(self.counts.values())} damaged documents, each with a documented answer;"
+            f" {sum(self.compared.values())} compared with the plain timer; the slowest, number {self.slowest[1]}, took"
+            f" {self.slowest[0]:.2f} s"
+        )
 
 
 def try_all(given, numbers, tried):

@@ -66,8 +66,20 @@ def delays(base, drive):
     axis = (SLEWS, loads)
     text = ""
     for edge, factor in (("rise", 1.0), ("fall", 0.9)):
-        text += table(f"cell_{edge}", "delay_7x7", axis, index, lambda slew, load: factor * (base + 0.11 * slew + 1.2 * load / drive))
-        text += table(f"{edge}_transition", "delay_7x7", axis, index, lambda slew, load: factor * (15 + 0.06 * slew + 1.7 * load / drive))
+        text += table(
+            f"cell_{edge}",
+            "delay_7x7",
+            axis,
+            index,
+            lambda slew, load: factor * (base + 0.11 * slew + 1.2 * load / drive),
+        )
+        text += table(
+            f"{edge}_transition",
+            "delay_7x7",
+            axis,
+            index,
+            lambda slew, load: factor * (15 + 0.06 * slew + 1.7 * load / drive),
+        )
     return text
 
 
@@ -90,9 +102,18 @@ def register():
     for kind, base, factor in (("setup", 110, 0.2), ("hold", 15, -0.1)):
         text += f'      timing () {{\n      related_pin : "CK";\n      timing_type : {kind}_rising;\n'
         for edge in ("rise", "fall"):
-            text += table(f"{edge}_constraint", "constraint_3x3", axis, "", lambda clock, data: base + factor * data - 0.05 * clock)
+            text += table(
+                f"{edge}_constraint",
+                "constraint_3x3",
+                axis,
+                "",
+                lambda clock, data: base + factor * data - 0.05 * clock,
+            )
         text += "      }\n"
-    text += '    }\n    pin (Q) {\n      direction : output;\n      timing () {\n      related_pin : "CK";\n      timing_type : rising_edge;\n'
+    text += (
+        '    }\n    pin (Q) {\n      direction : output;\n      timing () {\n      related_pin : "CK";\n     '
+        ' timing_type : rising_edge;\n'
+    )
     return text + delays(160, 1) + "      }\n    }\n  }\n"
 
 
@@ -254,7 +275,13 @@ def changes(netlist, count):
 def scripts(netlist):
     """The scripts by name: none, the first worst slack, reports, and one or ten ECOs behind them."""
     path = f"{netlist.instances[-2][1]}:D"
-    reports = ["report_wns setup", "report_wns hold", "report_tns setup", "report_worst setup 10", f"report_path {path} setup"]
+    reports = [
+        "report_wns setup",
+        "report_wns hold",
+        "report_tns setup",
+        "report_worst setup 10",
+        f"report_path {path} setup",
+    ]
     asked = [line for eco in changes(netlist, 10) for line in (eco, "report_wns setup")]
     return {"load": [], "first": reports[:1], "reports": reports, "eco1": reports + asked[:2], "eco10": reports + asked}
 

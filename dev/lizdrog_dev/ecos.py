@@ -1,13 +1,15 @@
-"""Times ECOs with the report of the worst slack behind each: ecos.py [--cells N] [--gates G] [--each E] [--workers W] [--program FILE]
+"""Times ECOs with the report of the worst slack behind each: ecos.py [--cells N] [--gates G] [--each E] [--workers W]
+[--program FILE]
 
-Designs are those of bench/design.py with parasitics by bench/spef.py; --cells may come again for several sizes (default: 50000). For each
-size and each kind of ECO, G gates or nets (default 9) are drawn, and each gets a run of its own with E ECOs (default 40):
+Designs are those of bench/design.py with parasitics by bench/spef.py; --cells may come again for several sizes
+(default: 50000). For each size and each kind of ECO, G gates or nets (default 9) are drawn, and each gets a run of its
+own with E ECOs (default 40):
   resize   a gate of the data path, to the stronger cell and back
   buffer   a buffer for two sinks of a net of the data path; each run has E nets
   clock    a buffer of a clock leaf, to itself
-A run of the report alone is made beside each; the milliseconds of an ECO are the difference by E. It prints for each size and kind the median
-and the mean over the gates, the seconds of the run of the report alone, and the greatest memory of all runs. FILE is the program to run
-(default: the one that the gate has proved and built).
+A run of the report alone is made beside each; the milliseconds of an ECO are the difference by E. It prints for each
+size and kind the median and the mean over the gates, the seconds of the run of the report alone, and the greatest
+memory of all runs. FILE is the program to run (default: the one that the gate has proved and built).
 """
 import argparse
 import os
@@ -30,7 +32,9 @@ def made(folder, cells):
     """A design of so many cells in a folder, and its netlist's text."""
     subprocess.run([sys.executable, TOP / "bench/design.py", folder, str(cells)], check=True)
     with open(folder / "bench.spef", "w") as out:
-        subprocess.run([sys.executable, TOP / "bench/spef.py", "bench.lib", "bench.v"], cwd=folder, stdout=out, check=True)
+        subprocess.run(
+            [sys.executable, TOP / "bench/spef.py", "bench.lib", "bench.v"], cwd=folder, stdout=out, check=True
+        )
     return (folder / "bench.v").read_text()
 
 
@@ -55,7 +59,10 @@ def scripts(kind, text, gates, each):
         return [[f"repower_gate {name} CLKBUF_X8\n" for _ in range(each)] for name in names]
     nets = sinks_of(text)
     drawn = rand.sample(sorted(nets), gates * each)
-    lines = [f"insert_buffer {net} eco_buffer_{at} eco_net_{at} BUF_X4 {' '.join(nets[net][2:4])}\n" for at, net in enumerate(drawn)]
+    lines = [
+        f"insert_buffer {net} eco_buffer_{at} eco_net_{at} BUF_X4 {' '.join(nets[net][2:4])}\n"
+        for at, net in enumerate(drawn)
+    ]
     return [lines[at * each:(at + 1) * each] for at in range(gates)]
 
 
@@ -90,6 +97,11 @@ def main():
                     alone.append(spent(program, folder, REPORT, words.workers))
                     whole = spent(program, folder, REPORT + "".join(line + REPORT for line in lines), words.workers)
                     times.append(1000 * (whole - alone[-1]) / len(lines))
-                print(f"{cells} cells, {kind:6}: median {statistics.median(times):7.2f} ms, mean {statistics.mean(times):7.2f} ms; "
-                      f"the report alone {statistics.median(alone):.2f} s", flush=True)
+                print(
+                    (
+                        f"{cells} cells, {kind:6}: median {statistics.median(times):7.2f} ms, mean"
+                        f" {statistics.mean(times):7.2f} ms; the report alone {statistics.median(alone):.2f} s"
+                    ),
+                    flush=True,
+                )
     print(f"greatest memory: {resource.getrusage(resource.RUSAGE_CHILDREN).ru_maxrss // 1000} MB")

@@ -16,27 +16,19 @@ import dataclasses
 import os
 import pathlib
 import re
-import shutil
 import subprocess
 import sys
 import tempfile
 import time
 
 from lizdrog_dev.crate_list import crates_below, uses_of_crates
+from lizdrog_dev.toolchain import kit_folder
 from lizdrog_tools.places import CRATES
 
 TICK = os.sysconf("SC_CLK_TCK")
 DERIVED = re.compile(r"(Clone|PartialEq|Eq|PartialOrd|Ord|Hash|Debug|Default|Drop|Again|Copy)::\w+$")
 CHECKED = re.compile(r"checked (\S+), \d+ of \d+")
 VERDICT = re.compile(r"logic=|only=|holes=|no verdict")
-
-
-def kit_folder() -> pathlib.Path:
-    """The folder of the toolchain."""
-    rt = shutil.which("rt")
-    if rt is None:
-        sys.exit("fn_seconds: there is no rt on the PATH")
-    return pathlib.Path(os.path.realpath(rt)).parent.parent
 
 
 def processor_seconds(pid: int | str) -> float | None:

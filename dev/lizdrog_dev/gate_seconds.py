@@ -1,11 +1,15 @@
-"""What the gate costs: processor seconds by crate, by proof, tests and edits, and the longest chain of crates.
+"""What the gate costs: processor seconds by crate, by proof, tests, edits and code, and the longest chain of crates.
 
     dev/gate_seconds.py [--out FILE] [--under FOLDER]   beside `rt ci` in this repository (`.ci/run` starts it so):
                                                         samples the provers
                                                         until it is ended (SIGTERM, Ctrl-C) or saw none for five
                                                         minutes, then prints the summary; FILE has a line for each
-                                                        check: crate, proof | tests | edit, processor s, wall s, MB,
-                                                        when it was first and last seen
+                                                        check: crate, proof | tests | edit | code, processor s, wall
+                                                        s, MB, when it was first and last seen; code is what the
+                                                        compilers take for a program that is proved
+    dev/gate_seconds.py --checks-at-once                prints how many checks a gate shall make beside each other
+                                                        here: one for each processor, where each has 3 GB of the
+                                                        memory that is free, and at least two
     dev/gate_seconds.py --table FILE                    prints the summary of such a file again
     dev/gate_seconds.py --functions CRATE..             proves these crates from nothing over the built libraries below
                                                         them (which are
@@ -33,10 +37,12 @@ import time
 
 from lizdrog_dev import fn_seconds
 from lizdrog_dev.crate_list import uses_of_crates
+from lizdrog_dev.toolchain import kit_folder
 from lizdrog_tools.places import CRATES, TOP
 
-KINDS = ("proof", "tests", "edit")
+KINDS = ("proof", "tests", "edit", "code")
 IDLE_SECONDS = 300
+CHECK_KB = 3 << 20
 EVERY_SECONDS = 1
 BUDGET, READER_BUDGET, TEST_BUDGET, FUNCTION_BUDGET = 150, 250, 300, 8
 READERS = ("script_reader", "liberty_syntax", "liberty_cells", "verilog_netlist", "spef_reader", "sdc_reader")
@@ -71,17 +77,31 @@ def is_prover(words: list[str]) -> bool:
     return words[0].rsplit("/", 1)[-1] == "rattle" and len(words) > 3 and words[1] in ("check", "build")
 
 
+def is_under(pid: int | str, under: str) -> bool:
+    """Whether a process works below a folder, or in it."""
+    return (os.readlink(f"/proc/{pid}/cwd") + "/").startswith(under)
+
+
+def kind_of(words: list[str], folder: str) -> str:
+    """What a prover's words and its folder say that it does: the edits are tried in copies of a crate."""
+    if "rt-edit-" in folder:
+        return "edit"
+    if "--crate-checked" in words:
+        return "code"
+    return "tests" if "--test" in words else "proof"
+
+
 def check_of(pid: str, under: str, now: float, boot: float) -> tuple[float, Check] | None:
     """The check that a process makes, with when the process began: none for others, and for a prover's own helpers."""
     try:
         words = words_of_process(pid)
         if not is_prover(words):
             return None
-        folder = os.readlink(f"/proc/{pid}/cwd")
-        is_edit = "rt-edit-" in folder
-        if not (folder + "/").startswith(under) and not (is_edit and any(f"={under}" in it for it in words)):
-            return None
+        kind = kind_of(words, os.readlink(f"/proc/{pid}/cwd"))
         stat = pathlib.Path(f"/proc/{pid}/stat").read_text(encoding="latin-1").rsplit(")", 1)[1].split()
+        # A crate that uses no other has no word of the repository where its edits are tried; `rt` works there.
+        if not is_under(pid, under) and not (kind == "edit" and is_under(stat[1], under)):
+            return None
         if words_of_process(stat[1])[0].rsplit("/", 1)[-1] == "rattle":
             return None
         status = pathlib.Path(f"/proc/{pid}/status").read_text(encoding="latin-1")
@@ -90,7 +110,6 @@ def check_of(pid: str, under: str, now: float, boot: float) -> tuple[float, Chec
     except (OSError, IndexError, TypeError, ValueError):
         return None
     seconds, began = fn_seconds.processor_seconds(pid), boot + int(stat[19]) / fn_seconds.TICK
-    kind = "edit" if is_edit else "tests" if "--test" in words else "proof"
     return None if seconds is None else (began, Check(crate, kind, seconds, most, began, now))
 
 
@@ -190,7 +209,7 @@ def functions_of_logs(logs: list[str]) -> list[tuple[float, str]]:
 def summary(checks: list[Check], logs: list[str] = ()) -> list[str]:
     """The lines for a page: the table, the sums, the longest chain, and what is dearer than it shall be."""
     sums = sums_of(checks)
-    lines = ["| Crate | Proof | Tests | Edits | Sum |", "|---|---|---|---|---|"]
+    lines = ["| Crate | Proof | Tests | Edits | Code | Sum |", "|---|---|---|---|---|---|"]
     for crate, by in sorted(sums.items(), key=lambda it: -sum(it[1].values())):
         lines.append(f"| `{crate}` | " + " | ".join(f"{by[kind]:.0f}" for kind in KINDS)
                      + f" | {sum(by.values()):.0f} |")
@@ -210,13 +229,32 @@ def summary(checks: list[Check], logs: list[str] = ()) -> list[str]:
     return lines
 
 
+# ------------------------------------------------------------------------------------------------ how many at once
+
+def checks_at_once(processors: int, free_kb: int) -> int:
+    """How many checks a gate shall make beside each other."""
+    return max(2, min(processors, free_kb // CHECK_KB))
+
+
+def free_memory(folder: str = "/") -> int:
+    """The memory in kB that is free here, by the machine and by the limit of its group of processes."""
+    found = re.search(r"MemAvailable:\s+(\d+)", pathlib.Path(folder, "proc/meminfo").read_text(encoding="ascii"))
+    free, group = int(found[1]) if found else 0, pathlib.Path(folder, "sys/fs/cgroup")
+    try:
+        limit = int((group / "memory.max").read_text(encoding="ascii"))
+        held = re.search(r"(?m)^anon (\d+)", (group / "memory.stat").read_text(encoding="ascii"))
+        return min(free, (limit - int(held[1])) // 1024)
+    except (OSError, ValueError, TypeError):
+        return free
+
+
 # ------------------------------------------------------------------------------------------------ functions
 
 def functions(crate: str, above: float) -> bool:
     """Proves a crate from nothing and prints its dear functions; whether it was proved."""
     if crate not in uses_of_crates():
         sys.exit(f"gate_seconds: {crate} is no crate of crates.txt")
-    kit, folder = fn_seconds.kit_folder(), CRATES / crate
+    kit, folder = kit_folder(), CRATES / crate
     log = pathlib.Path(tempfile.gettempdir(), f"gate_seconds-{crate}.log")
     proof = fn_seconds.measure([f"{kit}/bin/rattle", "check", *fn_seconds.words_of(crate, folder, kit)], folder, log)
     first = proof.functions[0][0] if proof.functions else proof.seconds
@@ -236,7 +274,11 @@ def main():
     parser.add_argument("--log", nargs="+", default=[], metavar="LOG")
     parser.add_argument("--functions", nargs="+", metavar="CRATE")
     parser.add_argument("--above", type=float, default=20.0)
+    parser.add_argument("--checks-at-once", action="store_true")
     given = parser.parse_args()
+    if given.checks_at_once:
+        print(checks_at_once(len(os.sched_getaffinity(0)), free_memory()))
+        return 0
     for file in [*([given.table] if given.table else []), *given.log]:
         if not os.path.isfile(file):
             parser.error(f"there is no file {file}")

@@ -9,6 +9,7 @@ processors, the peak memory; with two programs also the median and the range of 
 first's in the same pair. The outputs of both have to be the same. Where other programs run, the numbers say little.
 """
 import argparse
+import dataclasses
 import os
 import pathlib
 import statistics
@@ -17,49 +18,63 @@ import sys
 import tempfile
 import time
 
-from lizdrog_tools.places import TOP
+from lizdrog_tools.places import BENCH
 
 SCRIPTS = ("load", "first", "reports")
 
 
-def made(folder, cells):
+@dataclasses.dataclass(frozen=True)
+class Spent:
+    """What a run took: seconds, seconds of all processors, MB at most; and its output."""
+
+    seconds: float
+    processors: float
+    megabytes: float
+    output: bytes
+
+
+def made(folder: pathlib.Path, cells: int) -> None:
     """A design of so many cells with its parasitics and scripts in a folder."""
-    subprocess.run([sys.executable, TOP / "bench/design.py", folder, str(cells)], check=True)
-    with open(folder / "bench.spef", "w") as out:
-        subprocess.run([sys.executable, TOP / "bench/spef.py", "bench.lib", "bench.v"], cwd=folder, stdout=out,
-                       check=True)
+    subprocess.run([sys.executable, BENCH / "design.py", folder, str(cells)], check=True)
+    with open(folder / "bench.spef", "w", encoding="ascii") as out:
+        subprocess.run([sys.executable, BENCH / "spef.py", "bench.lib", "bench.v"], cwd=folder, stdout=out, check=True)
 
 
-def spent(program, folder, script, workers):
-    """Seconds, seconds of processors and MB of a run, and its output."""
-    words = [program, "run", "bench.lib", "bench.lib", "bench.v", "bench.sdc", "bench.spef", str(workers), script
-             + ".eco"]
-    out = folder / "output"
-    with open(out, "wb") as sink:
+def words_of(program: str | pathlib.Path, script: str, workers: int) -> list[str]:
+    """The words of a run on such a design."""
+    return [str(program), "run", "bench.lib", "bench.lib", "bench.v", "bench.sdc", "bench.spef", str(workers),
+            f"{script}.eco"]
+
+
+def run(words: list, folder: pathlib.Path) -> Spent:
+    """Runs a program in a folder; a run of which a row is no answer ends this one."""
+    with tempfile.TemporaryFile() as sink:
         began = time.monotonic()
-        child = subprocess.Popen(words, cwd=folder, stdout=sink)
+        child = subprocess.Popen([str(it) for it in words], cwd=folder, stdout=sink)
         _, status, used = os.wait4(child.pid, 0)
         seconds = time.monotonic() - began
-    if status:
-        sys.exit(f"pairs.py: a run of {program} ended with the wait status {status}")
-    return seconds, used.ru_utime + used.ru_stime, used.ru_maxrss / 1000, out.read_bytes()
+        child.returncode = os.waitstatus_to_exitcode(status)
+        if status:
+            sys.exit(f"a run of {words[0]} ended with status {child.returncode}")
+        sink.seek(0)
+        return Spent(seconds, used.ru_utime + used.ru_stime, used.ru_maxrss / 1000, sink.read())
 
 
-def line(runs):
+def line(runs: list[Spent]) -> str:
     """The figures of some runs as words."""
-    seconds, processors, memory = zip(*(run[:3] for run in runs))
+    seconds, processors = [it.seconds for it in runs], [it.processors for it in runs]
     return (f"{statistics.median(seconds):6.2f} s ({min(seconds):.2f} to {max(seconds):.2f}), "
-            f"{statistics.median(processors):6.2f} s of processors, {max(memory):4.0f} MB")
+            f"{statistics.median(processors):6.2f} s of processors, {max(it.megabytes for it in runs):4.0f} MB")
 
 
-def timed(programs, folder, script, workers, pairs):
+def timed(programs: list[str], folder: pathlib.Path, script: str, workers: int, pairs: int) -> list[list[Spent]]:
     """The runs of each program, in turn."""
     runs = [[] for _ in programs]
     for at in range(pairs):
         order = range(len(programs)) if at % 2 == 0 else reversed(range(len(programs)))
         for which in order:
-            runs[which].append(spent(programs[which], folder, script, workers))
-        if len({run[at][3] for run in runs}) > 1:
+            runs[which].append(run(words_of(programs[which], script, workers), folder))
+        if len({of[at].output for of in runs}) > 1:
             sys.exit(f"pairs.py: the outputs of {script} differ")
     return runs
 
@@ -84,6 +99,6 @@ def main():
                 for program, own in zip(words.program, runs):
                     print(f"{script:7} {workers} workers  {line(own)}  {program}", flush=True)
                 if len(runs) == 2:
-                    parts = [new[0] / old[0] for old, new in zip(*runs)]
+                    parts = [new.seconds / old.seconds for old, new in zip(*runs, strict=True)]
                     print(f"{script:7} {workers} workers  the second in {statistics.median(parts):.2f} of the first's "
                           f"seconds ({min(parts):.2f} to {max(parts):.2f})", flush=True)

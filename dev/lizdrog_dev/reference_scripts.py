@@ -1,19 +1,27 @@
-"""Reads a script for the plain timer of reference_timer.py, written from the definitions and not from the program: its commands, or the
-fault of its lowest line. A command is a tuple that begins with its sort:
+"""Reads a script for the plain timer of reference_timer.py, written from the definitions and not from the program: its
+commands, or the fault of its lowest line. A command is a tuple that begins with its sort:
 
   ('take',), ('await', N, L), ('ask', WORDS), ('change', EDITS), ('what_if', TRIALS), ('advise', KIND, PAIRS)
 
-where a trial of a draft is ('try', EDITS), ('drop',) or ('ask', WORDS), an edit is its words, and a pair is an instance and a cell."""
+where a trial of a draft is ('try', EDITS), ('drop',) or ('ask', WORDS), an edit is its words, and a pair is an instance
+and a cell."""
 import re
 
 COMMANDS, EDITS_OF_GROUP, TRIALS, LONGEST = 10000, 1000, 100, 65536
 LIMIT = 10 ** 12
-PLAIN = [r'report_(slew|at|rat|slack) \S+ (early|late) (rise|fall)', r'report_(endpoint|path) \S+ (setup|hold)', r'report_(wns|tns) (setup|hold)']
+PLAIN = [
+    r'report_(slew|at|rat|slack) \S+ (early|late) (rise|fall)',
+    r'report_(endpoint|path) \S+ (setup|hold)',
+    r'report_(wns|tns) (setup|hold)',
+]
 COUNTED = r'report_worst (?:setup|hold) (\d{1,20})'
 FURTHER = [r'report_through \S+ (setup|hold)( \S+){1,16}', r'advise (setup|hold)( \S+ \S+){1,100}']
 RANKED = r'report_paths \S+ (?:setup|hold) (\d{1,20})'
 AWAITED = r'await (\d{1,20}) (\d{1,20})'
-EDIT = r'(repower_gate|insert_gate|connect_pin) \S+ \S+|(remove_gate|insert_net|remove_net|disconnect_pin) \S+|insert_buffer( \S+){4,} \S+'
+EDIT = (
+    r'(repower_gate|insert_gate|connect_pin) \S+ \S+|(remove_gate|insert_net|remove_net|disconnect_pin)'
+    r' \S+|insert_buffer( \S+){4,} \S+'
+)
 MARKS = ('begin_eco', 'commit_eco', 'begin_what_if', 'end_what_if', 'drop_last')
 
 

@@ -1,7 +1,8 @@
-"""What the hostile trials share: designs, runs of a program with limits, whether an answer is of the documented form, and a table.
+"""What the hostile trials share: designs, runs of a program with limits, whether an answer is of the documented form,
+and a table.
 
-The form is that of docs/COMMANDS.md (statuses), docs/SCRIPTS.md (the output) and docs/FAULTS.md (codes and places). Nothing here looks at what
-the program does to learn what it should do.
+The form is that of docs/COMMANDS.md (statuses), docs/SCRIPTS.md (the output) and docs/FAULTS.md (codes and places).
+Nothing here looks at what the program does to learn what it should do.
 """
 import dataclasses
 import os
@@ -23,11 +24,21 @@ NAME = rb"[^ \n]+"
 CODES = {b"early": b"L", b"late": b"L", b"netlist": b"V", b"sdc": b"S", b"spef": b"P", b"journal": b"J"}
 LASTS = {b"L": 10, b"V": 6, b"S": 6, b"P": 5, b"C": 2, b"J": 5}
 ONE_NAME = {b"E%d" % n for n in [*range(1, 11), 12, 13, 14, 15]}
-PATH = re.compile(rb"path (?:setup|hold) %s slack %s credit %s from %s (?:rise|fall) to %s (?:rise|fall) nodes ([0-9]+)" % (NAME, TIME, TIME, NAME, NAME))
+PATH = re.compile(
+    rb"path (?:setup|hold) %s slack %s credit %s from %s (?:rise|fall) to %s (?:rise|fall) nodes ([0-9]+)"
+    % (NAME, TIME, TIME, NAME, NAME)
+)
 LAUNCHES = rb"((?: %s (?:rise|fall) -?[0-9]+\.[0-9]{3})*)" % NAME
 ANSWERS = [
-    rb"slew %s" % TIME, rb"slack %s" % TIME, rb"endpoint %s" % TIME, rb"wns %s" % TIME, rb"tns -?[0-9]+\.[0-9]{3}", rb"path none",
-    rb"advice none", rb"advice %s %s -?[0-9]+\.[0-9]{3}" % (NAME, NAME)]
+    rb"slew %s" % TIME,
+    rb"slack %s" % TIME,
+    rb"endpoint %s" % TIME,
+    rb"wns %s" % TIME,
+    rb"tns -?[0-9]+\.[0-9]{3}",
+    rb"path none",
+    rb"advice none",
+    rb"advice %s %s -?[0-9]+\.[0-9]{3}" % (NAME, NAME),
+]
 DONE = [rb"accepted", rb"taken", rb"reached", rb"not_yet [0-9]+"]
 TRIED = [rb"tried", rb"dropped", rb"no_draft"]
 NO_ANSWER = rb"no Q[123] %s" % NAME
@@ -162,7 +173,9 @@ def is_told(lines, text):
         part = lines.take("part of an answer", rb".*")[0]
         is_part = is_tried(lines, part) if several[1] == b"what_if" else PATH.fullmatch(part) and is_told(lines, part)
         if not is_part:
-            raise Deviates(f"line {lines.at} of the output is no part of an answer of the documented form: {part[:120]!r}")
+            raise Deviates(
+                f"line {lines.at} of the output is no part of an answer of the documented form: {part[:120]!r}"
+            )
     path, worst = PATH.fullmatch(text), re.fullmatch(rb"worst ([0-9]+)", text)
     if path:
         lines.many(path[1], "node of a path", rb"%s (?:rise|fall) -?[0-9]+\.[0-9]{3}" % NAME)
@@ -217,7 +230,9 @@ def check_output(status, text, sessions, saved):
             good = good and is_answer
             if last > first + count:
                 raise Deviates(f"line {lines.at} of the output: design {last}, and the last one is {first + count}")
-    lines.take("last line", rb"final %d setup %s -?[0-9]+\.[0-9]{3} hold %s -?[0-9]+\.[0-9]{3}" % (first + count, TIME, TIME))
+    lines.take(
+        "last line", rb"final %d setup %s -?[0-9]+\.[0-9]{3} hold %s -?[0-9]+\.[0-9]{3}" % (first + count, TIME, TIME)
+    )
     if lines.at != len(lines.lines):
         raise Deviates("the output goes on behind its last line")
     if (status == 0) != good:
@@ -231,14 +246,25 @@ def check_fault(text, documents):
     head, role, *rest = text[:-1].split(b" ")
     if head == b"fault" and role == b"design" and is_fault_of_design(b" ".join(rest)):
         return "design"
-    if head == b"fault" and role == b"journal" and len(rest) > 2 and rest[0] == b"J4" and is_fault_of_design(b" ".join(rest[2:])):
+    if (
+        head == b"fault"
+        and role == b"journal"
+        and len(rest) > 2
+        and rest[0] == b"J4"
+        and is_fault_of_design(b" ".join(rest[2:]))
+    ):
         entries = len(re.findall(rb"(?m)^entry ", documents.get("journal", b"")))
         if re.fullmatch(rb"[0-9]+", rest[1]) and 1 <= int(rest[1]) <= entries:
             return "journal"
         raise Deviates(f"the journal has {entries} entries: {text[:120]!r}")
     name = role.decode("latin-1")
     letter = b"C" if name.startswith("script") else CODES.get(role, b"none")
-    fits = head == b"fault" and len(rest) == 2 and re.fullmatch(letter + rb"([1-9][0-9]?)", rest[0]) and re.fullmatch(rb"[0-9]+", rest[1])
+    fits = (
+        head == b"fault"
+        and len(rest) == 2
+        and re.fullmatch(letter + rb"([1-9][0-9]?)", rest[0])
+        and re.fullmatch(rb"[0-9]+", rest[1])
+    )
     if not fits or int(rest[0][1:]) > LASTS[letter] or rest[0] == b"J4" or name not in documents:
         raise Deviates(f"status 3 with a line that is no documented fault: {text[:120]!r}")
     text_of, place = documents[name], int(rest[1])
@@ -272,7 +298,8 @@ def check_answer(ran, documents, sessions, saved):
 # ------------------------------------------------------------------------------------------------ designs
 
 def shared_texts():
-    """The texts of the documents that the rows of crates/shell_rows share, by their names: those before the first case."""
+    """The texts of the documents that the rows of crates/shell_rows share, by their names: those before the first
+    case."""
     head = re.split(r"(?m)^case ", (TOP / "crates/shell_rows/stdin").read_text())[0]
     parts = re.split(r"(?m)^document (.*)\n", head)
     lines = {name: re.findall(r"(?m)^\| ?(.*)$", rows) for name, rows in zip(parts[1::2], parts[2::2])}
@@ -283,19 +310,74 @@ def one_script(*lines):
     return "".join(f"{it}\n" for it in lines).encode()
 
 
-ROW_9 = one_script("report_path r2:D setup", "repower_gate g2 BUF_X4", "report_at g1:Z late rise", "report_endpoint o setup",
-                   "report_endpoint r2:D setup", "report_endpoint r2:D hold")
-ROW_15 = one_script("begin_eco", "repower_gate g2 BUF_X4", "insert_net x", "insert_gate y NOCELL", "commit_eco", "begin_eco", "disconnect_pin g1:A",
-                    "connect_pin g1:A n3", "commit_eco", "report_endpoint r2:D setup", "report_slew nopin early rise", "report_endpoint g1:A setup")
+ROW_9 = one_script(
+    "report_path r2:D setup",
+    "repower_gate g2 BUF_X4",
+    "report_at g1:Z late rise",
+    "report_endpoint o setup",
+    "report_endpoint r2:D setup",
+    "report_endpoint r2:D hold",
+)
+ROW_15 = one_script(
+    "begin_eco",
+    "repower_gate g2 BUF_X4",
+    "insert_net x",
+    "insert_gate y NOCELL",
+    "commit_eco",
+    "begin_eco",
+    "disconnect_pin g1:A",
+    "connect_pin g1:A n3",
+    "commit_eco",
+    "report_endpoint r2:D setup",
+    "report_slew nopin early rise",
+    "report_endpoint g1:A setup",
+)
 ALL_COMMANDS = one_script(
-    "# each command once", "report_slew g1:Z early fall", "report_at r2:D late rise", "report_rat r2:D late rise", "report_slack r2:D early fall",
-    "report_endpoint o hold", "report_path o setup", "report_wns hold", "report_tns setup", "report_worst setup 3", "take", "await 0 3",
-    "repower_gate g1 BUF_T", "insert_buffer c1 cb2 c2 BUF_X1 r2:CK", "set_parasitics n2 r g1:Z #1 1000 r #1 g2:A 500 r g2:A g3:A 2000 c #1 9000",
-    "set_parasitics n2 none", "begin_eco", "insert_gate r3 DFF", "insert_net z", "connect_pin r3:CK g", "connect_pin r3:Q z", "commit_eco",
-    "begin_eco", "disconnect_pin r3:CK", "disconnect_pin r3:Q", "remove_gate r3", "remove_net z", "commit_eco", "report_worst hold 2",
-    "report_through r2:D setup g1:Z", "report_paths o setup 3", "advise setup cb BUF_X4 g2 BUF_X4", "begin_what_if", "repower_gate g2 BUF_X4",
-    "report_path r2:D setup", "begin_eco", "repower_gate g1 BUF_X4", "repower_gate cb BUF_X4", "commit_eco", "report_worst setup 2", "drop_last",
-    "report_rat g1:Z late rise", "end_what_if", "report_wns setup")
+    "# each command once",
+    "report_slew g1:Z early fall",
+    "report_at r2:D late rise",
+    "report_rat r2:D late rise",
+    "report_slack r2:D early fall",
+    "report_endpoint o hold",
+    "report_path o setup",
+    "report_wns hold",
+    "report_tns setup",
+    "report_worst setup 3",
+    "take",
+    "await 0 3",
+    "repower_gate g1 BUF_T",
+    "insert_buffer c1 cb2 c2 BUF_X1 r2:CK",
+    "set_parasitics n2 r g1:Z #1 1000 r #1 g2:A 500 r g2:A g3:A 2000 c #1 9000",
+    "set_parasitics n2 none",
+    "begin_eco",
+    "insert_gate r3 DFF",
+    "insert_net z",
+    "connect_pin r3:CK g",
+    "connect_pin r3:Q z",
+    "commit_eco",
+    "begin_eco",
+    "disconnect_pin r3:CK",
+    "disconnect_pin r3:Q",
+    "remove_gate r3",
+    "remove_net z",
+    "commit_eco",
+    "report_worst hold 2",
+    "report_through r2:D setup g1:Z",
+    "report_paths o setup 3",
+    "advise setup cb BUF_X4 g2 BUF_X4",
+    "begin_what_if",
+    "repower_gate g2 BUF_X4",
+    "report_path r2:D setup",
+    "begin_eco",
+    "repower_gate g1 BUF_X4",
+    "repower_gate cb BUF_X4",
+    "commit_eco",
+    "report_worst setup 2",
+    "drop_last",
+    "report_rat g1:Z late rise",
+    "end_what_if",
+    "report_wns setup",
+)
 JOURNAL = b"""journal 1 1
 entry 1 session 1 edits 1
 repower_gate g2 BUF_X4
@@ -310,7 +392,11 @@ repower_gate g2 BUF_X1
 
 
 def folder_of(name):
-    return {it.name: it.read_bytes() for it in (TOP / "examples" / name).iterdir() if it.suffix in (".lib", ".v", ".sdc", ".eco", ".spef")}
+    return {
+        it.name: it.read_bytes()
+        for it in (TOP / "examples" / name).iterdir()
+        if it.suffix in (".lib", ".v", ".sdc", ".eco", ".spef")
+    }
 
 
 def gate_designs():
@@ -318,8 +404,12 @@ def gate_designs():
     texts = shared_texts()
     base = {it: texts[it] for it in ("early.lib", "late.lib", "b.v", "b.sdc")}
     words = ["run", "early.lib", "late.lib", "b.v", "b.sdc", "none", "2", "s1"]
-    contest = {**{it: texts[it] for it in ("e.lib", "e.v", "e.sdc", "e.spef")},
-               "s1": one_script("report_endpoint r1:D setup", "report_slew r1:D late rise", "report_path y hold", "report_wns hold")}
+    contest = {
+        **{it: texts[it] for it in ("e.lib", "e.v", "e.sdc", "e.spef")},
+        "s1": one_script(
+            "report_endpoint r1:D setup", "report_slew r1:D late rise", "report_path y hold", "report_wns hold"
+        ),
+    }
     inverters = {**{it: texts[it] for it in ("a.lib", "a.v", "empty")}, "s1": one_script("report_slew u2:Z late rise")}
     ann, ben = ["run", "early.lib", "late.lib", "design.v", "design.sdc", "none", "2"], ["ann.eco", "ben.eco"]
     return [

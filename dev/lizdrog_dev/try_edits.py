@@ -5,19 +5,19 @@ try_edits.py CRATE..
     CRATE..
 
 Each edit of bench/must-fail/CRATE and crates/CRATE/must-fail makes a body wrong, and the check has to refuse it. `rt
-must-fail` and bench/must_fail.sh prove a crate for that; this checks the changed functions alone, over the libraries
-that `rt ci` kept (as check_over_kept.py does). The functions of the crate that they call are taken by their contracts,
-which is all that a proof sees of them, and have no body there (--callees proves them too); with a log of `rt ci`
-(--names) also those that no source writes are taken so. Edits of different functions are tried in one check, at most N
-(40). Each half minute a line says how far a check is, and how much of a processor it had (on a busy machine that is
-what it waits for). --seconds ends a check that had so many seconds of a processor; its edits are then tried in two
-halves, down to one.
+must-fail` and bench/must_fail.py prove a crate for that; this checks the changed functions alone, over the libraries
+that are built here or that `rt ci` kept (as check_over_kept.py does). The functions of the crate that they call are
+taken by their contracts, which is all that a proof sees of them, and have no body there (--callees proves them too);
+with a log of `rt ci` (--names) also those that no source writes are taken so. Edits of different functions are tried in
+one check, at most N (40). Each half minute a line says how far a check is, and how much of a processor it had (on a
+busy machine that is what it waits for). --seconds ends a check that had so many seconds of a processor; its edits are
+then tried in two halves, down to one.
 
 First the unchanged functions are checked in the same way: where one does not pass, nothing is said of its edits.
 --proved leaves that out, for a crate that `rt ci` has proved of these very sources. Then a line for each edit says
   refused            a goal of the function is open with this body, or its proof does not fit it
   refused by names   the proof only names what the edit took away: that says little of the contract
-  PASSES             the function meets its contract with this body: check the whole crate (bench/must_fail.sh), as a
+  PASSES             the function meets its contract with this body: check the whole crate (bench/must_fail.py), as a
                      law of a type may refuse it elsewhere
   does not compile   it never came to the prover
   not tried          with the reason: it does not apply, changes no function, or the prover gave up or was ended
@@ -36,6 +36,8 @@ import tempfile
 import time
 
 from lizdrog_dev import check_over_kept as over
+from lizdrog_dev.crate_list import uses_of_crates
+from lizdrog_dev.toolchain import kit_folder
 from lizdrog_tools.places import TOP, WORK
 
 PARTS = ("src", "specs", "proofs")
@@ -226,13 +228,8 @@ class Room:
         for part in PARTS:
             if (self.own / part).is_dir():
                 shutil.copytree(self.own / part, folder / part)
-        kit = pathlib.Path(os.path.realpath(shutil.which("rt"))).parent.parent
-        uses, kept = over.crates(), {}
-        for name in over.below(uses, crate):
-            to = WORK / "kept_libraries" / name
-            if over.library(name, to):
-                kept[name] = to
-        words, self.sources = over.words_of(kit, uses, crate, kept)
+        kit, uses = kit_folder(), uses_of_crates()
+        words, self.sources = over.words_of(kit, uses, crate, over.libraries_below(uses, crate))
         memory = WORK / "kept_libraries" / f"memory-{crate}"
         memory.mkdir(parents=True, exist_ok=True)
         self.words = [str(kit / "bin" / "rattle"), *words, "--incremental", str(memory)]
@@ -472,7 +469,7 @@ def main():
     # Checks run in another folder.
     given.log = given.log.resolve()
     given.log.mkdir(parents=True, exist_ok=True)
-    unknown = [it for it in given.crates if it not in over.crates()]
+    unknown = [it for it in given.crates if it not in uses_of_crates()]
     if unknown:
         parser.error(f"{unknown[0]} is no crate")
     status = 0

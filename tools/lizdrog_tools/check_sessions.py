@@ -1,10 +1,12 @@
-"""Checks what several sessions wrote by a run of one: check_sessions.py [--program FILE] OUTPUT run [--journal NAME] EARLY LATE NETLIST SDC SPEF WORKERS SCRIPT ..
+"""Checks what several sessions wrote by a run of one: check_sessions.py [--program FILE] OUTPUT run [--journal NAME]
+EARLY LATE NETLIST SDC SPEF WORKERS SCRIPT ..
 
-OUTPUT is the output of that run. The order in which sessions publish is free, so two runs of the same words may differ; but each row
-has the number of a design, and the journal says which ECOs made it. This tool writes one script of its own: the ECOs of the journal, and
-between them each question and each refused ECO at its number. It runs that script alone and compares the answers. It looks, too,
-whether the numbers of a session never fall, whether each accepted ECO is its session's entry of the journal, and whether the journal has
-no other. The status is 0 where all agrees, else 1. FILE is the program to run (default: lizdrog of this repository).
+OUTPUT is the output of that run. The order in which sessions publish is free, so two runs of the same words may differ;
+but each row has the number of a design, and the journal says which ECOs made it. This tool writes one script of its
+own: the ECOs of the journal, and between them each question and each refused ECO at its number. It runs that script
+alone and compares the answers. It looks, too, whether the numbers of a session never fall, whether each accepted ECO is
+its session's entry of the journal, and whether the journal has no other. The status is 0 where all agrees, else 1. FILE
+is the program to run (default: lizdrog of this repository).
 """
 import argparse
 import subprocess
@@ -61,7 +63,8 @@ def answer(row):
 
 
 class Sessions:
-    """Scripts with the rows of their sessions, and what is wrong with these; refusals can be left out of the run of one session."""
+    """Scripts with the rows of their sessions, and what is wrong with these; refusals can be left out of the run of one
+    session."""
 
     def __init__(self, scripts, output, refusals=True):
         self.scripts, self.output, self.faults = scripts, output, []
@@ -111,11 +114,15 @@ class Sessions:
         elif not edits:
             fits = row.sort in (sort_of(name), "no") and last in (None, row.design)
         elif row.sort == "accepted":
-            fits = self.output.first < row.design <= self.newest and self.eco(row.design) == edits and row.design != last
+            fits = (
+                self.output.first < row.design <= self.newest and self.eco(row.design) == edits and row.design != last
+            )
         else:
             fits = row.sort == "refused"
         if not fits:
-            self.say(session, row, f"{command.text()} has the answer {row.sort} {' '.join(row.words)} (design {row.design})")
+            self.say(
+                session, row, f"{command.text()} has the answer {row.sort} {' '.join(row.words)} (design {row.design})"
+            )
 
     def asked(self):
         """The questions and refused ECOs of each design, each once, with the rows that have them."""
@@ -141,13 +148,23 @@ class Sessions:
             sys.exit(f"check_sessions: {len(script)} commands are needed, and a script has at most {MOST}")
         alone = run("".join(f"{line}\n" for lines in script for line in lines))
         if alone.final != self.output.final:
-            self.faults.append(f"the last line is final {' '.join(self.output.final)}, and of one session final {' '.join(alone.final)}")
+            self.faults.append(
+                f"the last line is final {' '.join(self.output.final)}, and of one session final"
+                f" {' '.join(alone.final)}"
+            )
         for lines, rows, told in zip(script, places, alone.sessions[0]):
             if rows is None and told.sort != "accepted":
                 self.faults.append(f"an entry of the journal is {told.sort} {' '.join(told.words)}: {lines[0]}")
             for session, row in rows or []:
                 if answer(row) != answer(told):
-                    self.say(session, row, f"{' '.join(answer(row)[0])}, and one session says {' '.join(answer(told)[0])} at design {row.design}")
+                    self.say(
+                        session,
+                        row,
+                        (
+                            f"{' '.join(answer(row)[0])}, and one session says {' '.join(answer(told)[0])} at design"
+                            f" {row.design}"
+                        ),
+                    )
         return len(script)
 
 
@@ -159,9 +176,13 @@ def runner(program, words, journal):
         with tempfile.NamedTemporaryFile("w", suffix=".eco") as script:
             script.write(text)
             script.flush()
-            ran = subprocess.run([program, "run", *option, *words[1:7], script.name], stdout=subprocess.PIPE, text=True, check=False)
+            ran = subprocess.run(
+                [program, "run", *option, *words[1:7], script.name], stdout=subprocess.PIPE, text=True, check=False
+            )
         if ran.returncode not in (0, 1):
-            sys.exit(f"check_sessions: the run of one session ended with status {ran.returncode}: {ran.stdout.strip()[:200]}")
+            sys.exit(
+                f"check_sessions: the run of one session ended with status {ran.returncode}: {ran.stdout.strip()[:200]}"
+            )
         return read_answers.Output(ran.stdout)
     return run
 
@@ -175,7 +196,9 @@ def main():
     given = parser.parse_args()
     words, journal = explain_fault.without_journal(given.words)
     if len(words) < 8 or words[0] != "run":
-        parser.error("the words of the run are missing: run [--journal NAME] EARLY LATE NETLIST SDC SPEF WORKERS SCRIPT ..")
+        parser.error(
+            "the words of the run are missing: run [--journal NAME] EARLY LATE NETLIST SDC SPEF WORKERS SCRIPT .."
+        )
     output = read_answers.read_output(given.output)
     if output.final is None:
         raise InputFault(given.output, None, "it has no last line")
@@ -188,5 +211,8 @@ def main():
     if sessions.faults:
         return 1
     rows = sum(map(len, output.sessions))
-    print(f"check_sessions: {rows} rows of {len(output.sessions)} sessions, {len(output.ecos)} ECOs: each answer is that of one session alone")
+    print(
+        f"check_sessions: {rows} rows of {len(output.sessions)} sessions, {len(output.ecos)} ECOs: each answer is that"
+        " of one session alone"
+    )
     return 0

@@ -1,4 +1,5 @@
-"""Looks over the documents of a design for what is accepted but probably not meant: check_setup.py EARLY LATE NETLIST SDC SPEF [options]
+"""Looks over the documents of a design for what is accepted but probably not meant: check_setup.py EARLY LATE NETLIST
+SDC SPEF [options]
 
 It lists, each with a count and some names: commands of the SDC that are not read, all in one run; clocks without
 registers; registers without a clock; inputs without a delay; endpoints without a test; undriven nets and open inputs;
@@ -7,7 +8,8 @@ that are crossed; exceptions that match nothing; options that come twice; timing
 of the SPEF that are; libraries exchanged, numbers in another unit, attributes that look mistyped. Exit status 1 where
 it finds something, 0 where it does not, 2 where a file cannot be read; lines that begin with `note` are no findings.
 
-  --program FILE   ask this program (./lizdrog, say) for the slack of each endpoint, and list those without a tested path
+  --program FILE   ask this program (./lizdrog, say) for the slack of each endpoint, and list those without a tested
+                   path
   --all            list all names, not the first ten
 It reads the documents itself, in a plain way, and proves nothing.
 """
@@ -41,18 +43,22 @@ READ = {
 PASSED_OVER = {"current_design", "group_path", "set_propagated_clock", "set_operating_conditions", "set_wire_load_mode",
                "set_wire_load_model", "set_max_area", "set_max_fanout", "set_max_transition", "set_max_capacitance"}
 UNCHECKED = {"set_max_fanout", "set_max_transition", "set_max_capacitance", "set_max_area"}
-LEFT_OUT = {"create_generated_clock", "set_clock_latency", "set_case_analysis", "set_clock_transition", "set_max_delay", "set_min_delay",
-            "set_driving_cell", "set_disable_timing"}
+LEFT_OUT = {
+    "create_generated_clock", "set_clock_latency", "set_case_analysis", "set_clock_transition", "set_max_delay",
+    "set_min_delay", "set_driving_cell", "set_disable_timing",
+}
 BETWEEN = {it: 1 for it in ("-through", "-from", "-to", "-rise_from", "-fall_from", "-rise_to", "-fall_to")}
 LEFT_OUT_OPTIONS = {"-through", "-clock_fall", "-add_delay"}
 GETTERS = {"get_ports", "get_clocks", "get_pins", "get_cells"}
 UNITS = {"-time": r"(10|100|1|1\.0)?ps|(1|1\.0)?ns", "-capacitance": r"(1|1\.0)?(fF|pF)"}
-KNOWN_TYPES = {"recovery_rising", "recovery_falling", "removal_rising", "removal_falling", "preset", "clear", "three_state_enable",
-               "three_state_disable", "three_state_enable_rise", "three_state_enable_fall", "three_state_disable_rise",
-               "three_state_disable_fall", "skew_rising", "skew_falling", "min_pulse_width", "minimum_period", "max_clock_tree_path",
-               "min_clock_tree_path", "retaining_time", "nochange_high_high", "nochange_high_low", "nochange_low_high", "nochange_low_low",
-               "non_seq_setup_rising", "non_seq_setup_falling", "non_seq_hold_rising", "non_seq_hold_falling", "combinational_rise",
-               "combinational_fall"}
+KNOWN_TYPES = {
+    "recovery_rising", "recovery_falling", "removal_rising", "removal_falling", "preset", "clear", "three_state_enable",
+    "three_state_disable", "three_state_enable_rise", "three_state_enable_fall", "three_state_disable_rise",
+    "three_state_disable_fall", "skew_rising", "skew_falling", "min_pulse_width", "minimum_period",
+    "max_clock_tree_path", "min_clock_tree_path", "retaining_time", "nochange_high_high", "nochange_high_low",
+    "nochange_low_high", "nochange_low_low", "non_seq_setup_rising", "non_seq_setup_falling", "non_seq_hold_rising",
+    "non_seq_hold_falling", "combinational_rise", "combinational_fall",
+}
 
 
 class Findings:
@@ -79,7 +85,12 @@ def option_faults(command):
     """What is not read of a command that is: its options and its forms."""
     options, takes, plain = READ[command.name], 0, []
     for word in command.words:
-        is_option = word.sort == "plain" and word.text.startswith("-") and not word.text[1:2].isdigit() and word.text[1:2] != "."
+        is_option = (
+            word.sort == "plain"
+            and word.text.startswith("-")
+            and not word.text[1:2].isdigit()
+            and word.text[1:2] != "."
+        )
         if takes:
             takes -= 1
         elif is_option and word.text in LEFT_OUT_OPTIONS:
@@ -115,41 +126,68 @@ def plain_words(command):
             takes -= 1
         elif word.sort == "plain" and word.text in options:
             takes = options[word.text]
-        elif not (word.sort == "plain" and word.text.startswith("-") and not (word.text[1:2].isdigit() or word.text[1:2] == ".")):
+        elif not (
+            word.sort == "plain"
+            and word.text.startswith("-")
+            and not (word.text[1:2].isdigit() or word.text[1:2] == ".")
+        ):
             found.append(word)
     return found
 
 
 # What the plain words of a command are, and the least and greatest number.
-FORMS = {"create_clock": (["objects"], None, None), "set_input_delay": (["number", "objects"], None, None),
-         "set_output_delay": (["number", "objects"], None, None), "set_input_transition": (["number", "objects"], 0, None),
-         "set_load": (["number", "objects"], 0, None), "set_clock_uncertainty": (["number", "objects"], None, None), "set_false_path": ([], None, None),
-         "set_multicycle_path": (["number"], 0, 1000), "set_timing_derate": (["number"], 0, 10)}
+FORMS = {
+    "create_clock": (["objects"], None, None),
+    "set_input_delay": (["number", "objects"], None, None),
+    "set_output_delay": (["number", "objects"], None, None),
+    "set_input_transition": (["number", "objects"], 0, None),
+    "set_load": (["number", "objects"], 0, None),
+    "set_clock_uncertainty": (["number", "objects"], None, None),
+    "set_false_path": ([], None, None),
+    "set_multicycle_path": (["number"], 0, 1000),
+    "set_timing_derate": (["number"], 0, 10),
+}
 
 
 def number_faults(word, least, most):
     if word.text.startswith("$"):
         return
     value = numbers([word.text], 1) if word.sort == "plain" else []
-    if not value or not word.text.strip() or least is not None and value[0] < least or most is not None and value[0] > most:
+    if (
+        not value
+        or not word.text.strip()
+        or least is not None
+        and value[0] < least
+        or most is not None
+        and value[0] > most
+    ):
         yield word.text, "S4"
 
 
 def form_faults(command, clocks):
-    """What is wrong with the plain words of a command, and with the clocks that it names; `clocks` are those before it, with their ports."""
+    """What is wrong with the plain words of a command, and with the clocks that it names; `clocks` are those before it,
+    with their ports."""
     plain, (form, least, most) = plain_words(command), FORMS[command.name]
     if command.name == "set_multicycle_path" and not command.has("-hold"):
         least = 1
     for kind, word in zip(form, plain):
         if kind == "number":
             yield from number_faults(word, least, most)
-        elif word.sort in ("get_pins", "get_cells") or (word.sort == "get_ports") == (command.name == "set_clock_uncertainty") and word.sort in GETTERS:
+        elif (
+            word.sort in ("get_pins", "get_cells")
+            or (word.sort == "get_ports") == (command.name == "set_clock_uncertainty")
+            and word.sort in GETTERS
+        ):
             yield word.text, "S1"
     for word in plain[len(form):]:
         yield word.text, "S3" if command.name == "set_timing_derate" else "S1"
     if len(plain) < len(form) and command.name != "create_clock":
         yield "a word is missing", "S1"
-    asked = [command.after("-clock")] if command.has("-clock") else plain[1:2] if command.name == "set_clock_uncertainty" else []
+    asked = (
+        [command.after("-clock")]
+        if command.has("-clock")
+        else plain[1:2] if command.name == "set_clock_uncertainty" else []
+    )
     for name in (it for word in asked if word for it in word.names):
         if name not in clocks and command.name != "create_clock":
             yield f"{name}: no such clock before", "S5"
@@ -288,36 +326,47 @@ def clock_network(joined, ports):
 
 
 def registers(joined):
-    """Each instance with clock pins, with its cell."""
+    """Each instance with clock pins, with these."""
+    clock_pins = {name: cell.clock_pins() for name, cell in joined.library.cells.items()}
     for instance in joined.netlist.instances.values():
-        cell = joined.library.cells.get(instance.cell)
-        if cell and cell.clock_pins():
-            yield instance, cell
+        if clock_pins.get(instance.cell):
+            yield instance, clock_pins[instance.cell]
 
 
 def check_clocks(findings, joined, constraints, network):
     findings.add("design without a clock: nothing is tested", [] if constraints.clocks else ["no create_clock is read"])
-    reached = {f"{instance.name}:{pin}" for instance, cell in registers(joined) for pin in cell.clock_pins()}
+    reached = {f"{instance.name}:{pin}" for instance, pins in registers(joined) for pin in pins}
     idle = [f"{name} on {port}" for name, port in constraints.clocks.items()
             if port is not None and not reached & clock_network(joined, [port])]
     findings.add("clocks that reach no register", idle)
-    unclocked = [f"{instance.name} ({instance.cell})" for instance, cell in registers(joined)
-                 if not any(f"{instance.name}:{pin}" in network for pin in cell.clock_pins())]
+    unclocked = [f"{instance.name} ({instance.cell})" for instance, pins in registers(joined)
+                 if not any(f"{instance.name}:{pin}" in network for pin in pins)]
     findings.add("registers without a clock: their data pins are not tested", unclocked)
 
 
 def check_ports(findings, joined, constraints):
     ports, clock_ports = joined.netlist.ports, set(constraints.clocks.values())
-    for way, table, what in (("input", constraints.inputs, "have no arrival there"), ("output", constraints.outputs, "are not tested there")):
-        lacking = [f"{port}: {' and '.join(sorted({'early', 'late'} - table.get(port, set())))}" for port in sorted(ports)
-                   if ports[port] == way and port not in clock_ports and table.get(port, set()) != {"early", "late"}]
+    for way, table, what in (
+        ("input", constraints.inputs, "have no arrival there"),
+        ("output", constraints.outputs, "are not tested there"),
+    ):
+        lacking = [
+            f"{port}: {' and '.join(sorted({'early', 'late'} - table.get(port, set())))}"
+            for port in sorted(ports)
+            if ports[port] == way and port not in clock_ports and table.get(port, set()) != {"early", "late"}
+        ]
         findings.add(f"{way}s without a set_{way}_delay, which {what}", lacking)
 
 
 def check_nets(findings, joined):
-    undriven = [f"{net.name} ({', '.join(net.sinks[:3])})" for net in joined.nets.values() if not net.drivers and net.sinks]
+    undriven = [
+        f"{net.name} ({', '.join(net.sinks[:3])})" for net in joined.nets.values() if not net.drivers and net.sinks
+    ]
     findings.add("nets without a driver", sorted(undriven))
-    findings.add("nets with several drivers (E10)", sorted(f"{it.name} ({', '.join(it.drivers[:3])})" for it in joined.nets.values() if len(it.drivers) > 1))
+    findings.add(
+        "nets with several drivers (E10)",
+        sorted(f"{it.name} ({', '.join(it.drivers[:3])})" for it in joined.nets.values() if len(it.drivers) > 1),
+    )
     missing, unknown, open_inputs = {}, [], []
     for instance in joined.netlist.instances.values():
         cell = joined.library.cells.get(instance.cell)
@@ -327,7 +376,10 @@ def check_nets(findings, joined):
         unknown += [f"{instance.name}:{pin} ({instance.cell})" for pin in instance.nets if pin not in cell.pins]
         open_inputs += [f"{instance.name}:{pin}" for pin, (way, _) in cell.pins.items()
                         if way == "input" and instance.nets.get(pin) is None and pin not in instance.tied]
-    findings.add("cells that the late library lacks (E3)", sorted(f"{cell} ({len(names)} instances, first {names[0]})" for cell, names in missing.items()))
+    findings.add(
+        "cells that the late library lacks (E3)",
+        sorted(f"{cell} ({len(names)} instances, first {names[0]})" for cell, names in missing.items()),
+    )
     findings.add("connections to pins that the cell lacks (E4)", unknown)
     findings.add("inputs of instances that are left open", open_inputs)
 
@@ -336,21 +388,33 @@ def check_parasitics(findings, joined, name):
     spef = read_spef(name)
     bare = sorted(net.name for net in joined.nets.values() if net.drivers and net.sinks and net.name not in spef.nets)
     findings.add("nets without parasitics", bare)
-    findings.add("nets of the SPEF that the netlist lacks (E2)", sorted(it for it in spef.nets if it not in joined.nets))
-    findings.add("nets whose parasitics do not fit (E14, E15)", sorted(filter(None, (misfit(joined, it) for it in spef.nets.values()))))
-    odd = [f"{name}:{line_and_column(spef.text, offset)[0]}: {word} after {section}" for word, offset, section in spef.odd_words]
+    lacking = sorted(it for it in spef.nets if it not in joined.nets)
+    findings.add("nets of the SPEF that the netlist lacks (E2)", lacking)
+    misfits = (misfit(joined, spef, it) for it in spef.nets)
+    findings.add("nets whose parasitics do not fit (E14, E15)", sorted(filter(None, misfits)))
+    odd = [
+        f"{name}:{line_and_column(spef.text, offset)[0]}: {word} after {section}"
+        for word, offset, section in spef.odd_words
+    ]
     findings.add("words of the SPEF that begin with * and fit no section (P1)", odd)
-    findings.add("sections of the SPEF that are passed over", [f"{section}, {count} words" for section, count in spef.passed_over.items()], True)
+    findings.add(
+        "sections of the SPEF that are passed over",
+        [f"{section}, {count} words" for section, count in spef.passed_over.items()],
+        True,
+    )
 
 
-def misfit(joined, parasitics):
+def misfit(joined, spef, name):
     """Why the parasitics of a net do not fit, or none."""
-    net = joined.nets.get(parasitics.name)
+    net = joined.nets.get(name)
     if net is None:
         return None
     if not net.drivers:
         return f"{net.name}: no driver"
     pins = {*net.drivers, *net.sinks}
+    if spef.surely_fits(name, pins):
+        return None
+    parasitics = spef.nets[name]
     strange = parasitics.named_pins() - pins
     if strange:
         return f"{net.name}: {', '.join(sorted(strange)[:3])} not on the net"
@@ -359,36 +423,52 @@ def misfit(joined, parasitics):
     return f"{net.name}: {parasitics.misshape()}" if parasitics.misshape() else None
 
 
+def check_types(findings, library, role, used):
+    """Timing types that are passed over, those apart that Liberty does not have."""
+    types = {}
+    for cell in used:
+        for kind in library.cells[cell].passed_over if cell in library.cells else ():
+            types.setdefault(kind, []).append(cell)
+    told = [(kind in KNOWN_TYPES, f"{kind} in {len(cells)} cells, first {cells[0]}")
+            for kind, cells in sorted(types.items())]
+    what = f"timing types of used cells of the {role} library that"
+    findings.add(f"{what} Liberty does not have, passed over", [line for is_known, line in told if not is_known])
+    findings.add(f"{what} are passed over", [line for is_known, line in told if is_known], True)
+
+
+def check_cells(findings, early, late, used, factors):
+    """Cells that differ between two libraries, or whose early delays exceed their late ones."""
+    both = [it for it in used if it in early.cells and it in late.cells]
+    found = {it: differences(early.cells[it], late.cells[it]) for it in both}
+    differing = [f"{cell}: {'; '.join(found[cell])}" for cell in both if found[cell]]
+    findings.add("cells that differ between the libraries (E3)", differing)
+    lacking = [it for it in used if it not in early.cells and it in late.cells]
+    findings.add("cells that the early library lacks (E3)", lacking)
+    crossed = [f"{cell} {' '.join(arc[:4])}" for cell in both for arc in sorted(late.cells[cell].arcs)
+               if is_crossed(early.cells[cell], late.cells[cell], arc, factors)]
+    findings.add("arcs whose early delay exceeds the late one at some entry", crossed)
+
+
 def check_libraries(findings, early, late, netlist, derates, same):
     used = sorted({it.cell for it in netlist.instances.values()})
-    for library, role in ((early, "early"), (late, "late")):
-        types = {}
-        for cell in used:
-            for kind, count in (library.cells[cell].passed_over if cell in library.cells else {}).items():
-                types.setdefault(kind, []).append(cell)
-        strange = [f"{kind} in {len(cells)} cells, first {cells[0]}" for kind, cells in sorted(types.items()) if kind not in KNOWN_TYPES]
-        findings.add(f"timing types of used cells of the {role} library that Liberty does not have, passed over", strange)
-        findings.add(f"timing types of used cells of the {role} library that are passed over",
-                     [f"{kind} in {len(cells)} cells, first {cells[0]}" for kind, cells in sorted(types.items()) if kind in KNOWN_TYPES], True)
-    factors = {(split, kind): derates.get((split, kind), 1.0) for split in ("early", "late") for kind in ("cell", "net")}
-    findings.add("derates that are crossed: early above late", [f"{kind} delays: early {factors['early', kind]:g}, late {factors['late', kind]:g}"
-                                                                 for kind in ("cell", "net") if factors["early", kind] > factors["late", kind]])
-    if same:
-        return
-    differing = [f"{cell}: {'; '.join(differences(early.cells[cell], late.cells[cell]))}" for cell in used
-                 if cell in early.cells and cell in late.cells and differences(early.cells[cell], late.cells[cell])]
-    findings.add("cells that differ between the libraries (E3)", differing)
-    findings.add("cells that the early library lacks (E3)", [it for it in used if it not in early.cells and it in late.cells])
-    crossed = [f"{cell} {' '.join(arc[:4])}" for cell in used if cell in early.cells and cell in late.cells
-               for arc in sorted(late.cells[cell].arcs) if is_crossed(early.cells[cell], late.cells[cell], arc, factors)]
-    findings.add("arcs whose early delay exceeds the late one at some entry", crossed)
+    check_types(findings, early, "early", used)
+    check_types(findings, late, "late", used)
+    kinds = ("cell", "net")
+    factors = {(split, kind): derates.get((split, kind), 1.0) for split in ("early", "late") for kind in kinds}
+    findings.add("derates that are crossed: early above late", [
+        f"{kind} delays: early {factors['early', kind]:g}, late {factors['late', kind]:g}" for kind in kinds
+        if factors["early", kind] > factors["late", kind]])
+    if not same:
+        check_cells(findings, early, late, used, factors)
 
 
 def check_proportions(findings, early, late, joined, commands, given):
     """What is hardly meant: libraries exchanged, units wrong by a thousand, mistyped attributes."""
     used = sorted({it.cell for it in joined.netlist.instances.values()})
     findings.add("libraries that seem to be exchanged", exchanged(early, late, used) if early is not late else [])
-    findings.add("numbers of the SDC out of all proportion: is a unit wrong?", list(out_of_proportion(commands, late, used)))
+    findings.add(
+        "numbers of the SDC out of all proportion: is a unit wrong?", list(out_of_proportion(commands, late, used))
+    )
     for file in dict.fromkeys((given.early, given.late)):
         findings.add(f"attributes of {file} that look mistyped, passed over", mistyped(read_text(file)))
 
@@ -407,12 +487,17 @@ def is_crossed(early, late, arc, factors):
             for y in table.ys:
                 values = [it for it in (late_table.at(x, y) for late_table in latest) if it is not None]
                 value = table.at(x, y)
-                if values and value is not None and value * factors["early", "cell"] > max(values) * factors["late", "cell"] + 1:
+                if (
+                    values
+                    and value is not None
+                    and value * factors["early", "cell"] > max(values) * factors["late", "cell"] + 1
+                ):
                     return True
     return False
 
 
-# ------------------------------------------------------------------------------------------------ exceptions and endpoints
+# ------------------------------------------------------------------------------------------------ exceptions and
+# endpoints
 
 def has_pin(joined, pin):
     """Whether there is this pin of an instance, connected or not; a cell that is not known may have any."""
@@ -425,8 +510,12 @@ def kind_of(joined, constraints, word, name):
     """What a name stands for: by its word, else the first of these that is there; none where nothing is."""
     if word.sort in GETTERS:
         return word.sort[4:-1]
-    there = {"clock": name in constraints.clocks, "port": name in joined.netlist.ports, "pin": has_pin(joined, pin_word(name)),
-             "cell": name in joined.netlist.instances}
+    there = {
+        "clock": name in constraints.clocks,
+        "port": name in joined.netlist.ports,
+        "pin": has_pin(joined, pin_word(name)),
+        "cell": name in joined.netlist.instances,
+    }
     return next((kind for kind, is_there in there.items() if is_there), None)
 
 
@@ -439,7 +528,11 @@ def why_unmatched(joined, network, kind, name, option):
     if not {"port": name in ports, "pin": has_pin(joined, pin), "cell": made is not None}.get(kind, False):
         return "not there (E13)"
     if kind == "port":
-        return None if ports[name] == ("input" if option == "-from" else "output") else "a port of the wrong direction (E13)"
+        return (
+            None
+            if ports[name] == ("input" if option == "-from" else "output")
+            else "a port of the wrong direction (E13)"
+        )
     if kind == "pin" and option == "-from":
         return None if pin in network else "no path is launched there; name the register's clock pin"
     if kind == "pin":
@@ -454,7 +547,11 @@ def unmatched(joined, constraints, network, command, option):
     word = command.after(option)
     for name in names_of(word):
         kind = kind_of(joined, constraints, word, name)
-        why = why_unmatched(joined, network, kind, name, option) if kind != "clock" else None if name in constraints.clocks else "no such clock"
+        why = (
+            why_unmatched(joined, network, kind, name, option)
+            if kind != "clock"
+            else None if name in constraints.clocks else "no such clock"
+        )
         if why:
             yield f"{command.name} {option} {name}: {why}"
 
@@ -481,8 +578,15 @@ def check_exceptions(findings, joined, constraints, network, text, file):
         elif command.name in READ and command.name not in ("set_timing_derate", "set_clock_uncertainty"):
             words = plain_words(command)[0 if command.name == "create_clock" else 1:]
             way = "output" if command.name in ("set_output_delay", "set_load") else "input"
-            gone += [f"{file}:{line}: {command.name}: {name}" for word in words if word.sort in ("plain", "list", "get_ports") for name in names_of(word)
-                     if joined.netlist.ports.get(name) is None or command.name != "set_load" and joined.netlist.ports[name] != way]
+            gone += [
+                f"{file}:{line}: {command.name}: {name}"
+                for word in words
+                if word.sort in ("plain", "list", "get_ports")
+                for name in names_of(word)
+                if joined.netlist.ports.get(name) is None
+                or command.name != "set_load"
+                and joined.netlist.ports[name] != way
+            ]
     findings.add("objects of exceptions that match no path", empty)
     findings.add("ports of constraints that are not there or have the wrong direction (E13)", gone)
 
@@ -496,7 +600,9 @@ def ask_endpoints(program, files, endpoints):
         with tempfile.NamedTemporaryFile("w", suffix=".eco") as script:
             script.writelines(f"report_endpoint {pin} {kind}\n" for pin, kind in part)
             script.flush()
-            ran = subprocess.run([program, "run", *files, "1", script.name], capture_output=True, text=True, check=False)
+            ran = subprocess.run(
+                [program, "run", *files, "1", script.name], capture_output=True, text=True, check=False
+            )
         if ran.returncode not in (0, 1):
             print(f"note: the program refuses the documents: {ran.stdout.strip()}")
             sys.stdout.write(ran.stderr)

@@ -1,8 +1,9 @@
-"""Says where a refused document is at fault and why: explain_fault.py STATUS OUTPUT run [--journal NAME] EARLY LATE NETLIST SDC SPEF WORKERS SCRIPT [SCRIPT ..]
+"""Says where a refused document is at fault and why: explain_fault.py STATUS OUTPUT run [--journal NAME] EARLY LATE
+NETLIST SDC SPEF WORKERS SCRIPT [SCRIPT ..]
 
 STATUS is the exit status of the run, OUTPUT the file with what it wrote, and the words are those of the run. It prints
-FILE:LINE:COLUMN: CODE: the sentence of docs/FAULTS.md, the line with a caret, and what it finds of the cause. `./lizdrog` does this
-by itself after a run that ends with 2 to 6.
+FILE:LINE:COLUMN: CODE: the sentence of docs/FAULTS.md, the line with a caret, and what it finds of the cause.
+`./lizdrog` does this by itself after a run that ends with 2 to 6.
 """
 import os
 import re
@@ -22,10 +23,14 @@ ROLES = {"early": 1, "late": 2, "netlist": 3, "sdc": 4, "spef": 5}
 WIDTH = 150
 ORDER = "EARLY LATE NETLIST SDC SPEF WORKERS SCRIPT.."
 COMMENTS = re.compile(r"^\s*[#`][^\n]*|//[^\n]*|/\*.*?\*/|\(\*.*?\*\)", re.S | re.M)
-KINDS = [(r"\s*library\b", "a library (Liberty)", ("early", "late")), (r"\s*module\b", "a netlist (Verilog)", ("netlist",)),
-         (r"\s*\*SPEF", "parasitics (SPEF)", ("spef",)), (r"\s*(create_clock|set_units|set_input|set_output|set sdc_version)", "constraints (SDC)", ("sdc",)),
-         (r"\s*(report_|repower_|insert_|begin_eco|take\b|await\b)", "a script", ("script",)),
-         (r"journal [0-9]", "a journal, or an output", ("journal", "script"))]
+KINDS = [
+    (r"\s*library\b", "a library (Liberty)", ("early", "late")),
+    (r"\s*module\b", "a netlist (Verilog)", ("netlist",)),
+    (r"\s*\*SPEF", "parasitics (SPEF)", ("spef",)),
+    (r"\s*(create_clock|set_units|set_input|set_output|set sdc_version)", "constraints (SDC)", ("sdc",)),
+    (r"\s*(report_|repower_|insert_|begin_eco|take\b|await\b)", "a script", ("script",)),
+    (r"journal [0-9]", "a journal, or an output", ("journal", "script")),
+]
 
 
 def rows_of_faults():
@@ -34,7 +39,9 @@ def rows_of_faults():
         text = FAULTS.read_text()
     except OSError:
         return {}
-    return {code: [it.strip() for it in row.split("|")] for code, row in re.findall(r"^\| ([A-Z]\d+) \|(.*)\|$", text, re.M)}
+    return {
+        code: [it.strip() for it in row.split("|")] for code, row in re.findall(r"^\| ([A-Z]\d+) \|(.*)\|$", text, re.M)
+    }
 
 
 def sentence(code):
@@ -73,7 +80,10 @@ def caret(line, column):
 
 # ------------------------------------------------------------------------------------------------ a document's fault
 
-ANEW = ["to go on under the derates of today, run its script (tools/convert_journal.py) once, with --journal and an empty file"]
+ANEW = [
+    "to go on under the derates of today, run its script (tools/convert_journal.py) once, with --journal and an empty"
+    " file"
+]
 
 
 def explain_document(role, code, place, words, journal=None):
@@ -81,7 +91,10 @@ def explain_document(role, code, place, words, journal=None):
     name = words[at] if at and at < len(words) else journal if role == "journal" and journal else role
     if not can_be_read_again(name):
         where = "line" if role.startswith("script") else "byte"
-        return [f"{name}: {where} {place}: {code}: {sentence(code)}", f"  ({name} is no file that can be read again, so its line is not shown)"]
+        return [
+            f"{name}: {where} {place}: {code}: {sentence(code)}",
+            f"  ({name} is no file that can be read again, so its line is not shown)",
+        ]
     text = raw_text(name)
     if role.startswith("script"):
         line, column = place, 1
@@ -91,7 +104,9 @@ def explain_document(role, code, place, words, journal=None):
     told = [f"{name}:{line}:{column}: {code}: {sentence(code)}"]
     if line <= len(lines) and text:
         told += caret(lines[line - 1], column)
-    ends = [f"  the text ends here, at byte {place}"] if not role.startswith("script") and place >= len(text) > 0 else []
+    ends = (
+        [f"  the text ends here, at byte {place}"] if not role.startswith("script") and place >= len(text) > 0 else []
+    )
     return told + ends + hints(role, code, place, text, lines[line - 1] if line <= len(lines) else "")
 
 
@@ -113,7 +128,10 @@ def hints(role, code, place, text, line):
     if role == "sdc":
         return [f"  {it}" for it in sdc_hints(code, text, place)]
     if role == "journal":
-        return [f"  {it}" for it in journal_hints(code, line, text[place:].split("\n", 2)[1] if "\n" in text[place:] else "")]
+        return [
+            f"  {it}"
+            for it in journal_hints(code, line, text[place:].split("\n", 2)[1] if "\n" in text[place:] else "")
+        ]
     if code in ("L6", "L8"):
         return [f"  {it}" for it in (table_hints if code == "L6" else axis_hints)(text, place)]
     if code == "L1" and place >= len(text):
@@ -132,18 +150,40 @@ def journal_hints(code, line, behind):
     if code == "J5" and line.startswith("journal 1 "):
         return ["a block of a run without --journal keeps no derates, and counts as written without any", *ANEW]
     if code == "J5":
-        return [f"the block was written under `{shown(behind)[:WIDTH]}`, in millionths: early and late cells, early and late nets", *ANEW]
+        return [
+            (
+                f"the block was written under `{shown(behind)[:WIDTH]}`, in millionths: early and late cells, early and"
+                " late nets"
+            ),
+            *ANEW,
+        ]
     if code == "J1" and line.startswith(("session ", "final ")):
-        return ["here the rows of an output begin: a saved journal has the lines before them, sed '/^session 1 rows /,$d' OUTPUT"]
+        return [
+            "here the rows of an output begin: a saved journal has the lines before them, sed '/^session 1 rows /,$d'"
+            " OUTPUT"
+        ]
     if code == "J1" and line.startswith("journal "):
-        return ["the number after the form counts the entries before the block: a block is missing, comes twice, or is of form 1 after entries"]
+        return [
+            "the number after the form counts the entries before the block: a block is missing, comes twice, or is of"
+            " form 1 after entries"
+        ]
     return []
 
 
 FLAT = "flatten the design into one module first (yosys: synth -flatten)"
-UNREAD = {"assign": "take assign out, such as by opt_clean -purge and insbuf of yosys (examples/README.md, \"A design of your own\")", "module": FLAT,
-          "{": "a concatenation: name each bit at a pin of its own", "#": FLAT, "inout": "a port is an input or an output",
-          "supply0": "a pin is tied by 1'b0", "supply1": "a pin is tied by 1'b1", "(": "connections are by name: .PIN(net)"}
+UNREAD = {
+    "assign": (
+        "take assign out, such as by opt_clean -purge and insbuf of yosys (examples/README.md, \"A design of your"
+        " own\")"
+    ),
+    "module": FLAT,
+    "{": "a concatenation: name each bit at a pin of its own",
+    "#": FLAT,
+    "inout": "a port is an input or an output",
+    "supply0": "a pin is tied by 1'b0",
+    "supply1": "a pin is tied by 1'b1",
+    "(": "connections are by name: .PIN(net)",
+}
 
 
 def netlist_hints(code, text, place):
@@ -157,7 +197,8 @@ def netlist_hints(code, text, place):
 
 
 def row_hints(text, place):
-    """What is wrong with the units, whether an *END is missing, or whether the row of a SPEF before the fault ends with a word that is no number."""
+    """What is wrong with the units, whether an *END is missing, or whether the row of a SPEF before the fault ends with
+    a word that is no number."""
     line = text[text.rfind("\n", 0, place) + 1:].split("\n")[0]
     if line.lstrip().startswith(("*C_UNIT", "*R_UNIT")):
         return ["*C_UNIT is in PF or FF and *R_UNIT in OHM or KOHM, in capitals, after a power of ten"]
@@ -166,7 +207,10 @@ def row_hints(text, place):
     lines = text[:place].split("\n")
     before = lines[-2].split() if len(lines) > 1 else []
     if before and before[0].isdigit() and not SPEF_VALUE.fullmatch(before[-1]):
-        return [f"the row before ends with {before[-1]}, which is no number and was taken for a node, so that its value was looked for here"]
+        return [
+            f"the row before ends with {before[-1]}, which is no number and was taken for a node, so that its value was"
+            " looked for here"
+        ]
     return []
 
 
@@ -183,19 +227,39 @@ def bracket_hints(text):
             if group.name in ("cell", "pin", "timing") and inner.name in ("cell", group.name):
                 (line, _), (other, _) = (line_and_column(text, it.offset) for it in (group, inner))
                 outer, begun = (f"{it.name} ({' '.join(it.args)})" for it in (group, inner))
-                return [f"a closing bracket is missing: {outer} of line {line} goes on at line {other}, where {begun} begins"]
+                return [
+                    f"a closing bracket is missing: {outer} of line {line} goes on at line {other}, where"
+                    f" {begun} begins"
+                ]
     return []
 
 
 PINS = {"report_slew", "report_at", "report_rat", "report_slack"}
-KIND_WORDS = {"report_wns": 1, "report_tns": 1, "report_endpoint": 2, "report_path": 2, "report_worst": 2, "report_paths": 3}
+KIND_WORDS = {
+    "report_wns": 1,
+    "report_tns": 1,
+    "report_endpoint": 2,
+    "report_path": 2,
+    "report_worst": 2,
+    "report_paths": 3,
+}
 BEHIND_PIN = ("report_endpoint", "report_path", "report_paths", "report_through")
 COUNTED = ("report_worst", "report_paths")
 MOST_PINS, MOST_PAIRS, MOST_TRIALS = 16, 100, 100
-EDITS = {"repower_gate": 2, "insert_gate": 2, "remove_gate": 1, "insert_net": 1, "remove_net": 1, "connect_pin": 2, "disconnect_pin": 1}
+EDITS = {
+    "repower_gate": 2,
+    "insert_gate": 2,
+    "remove_gate": 1,
+    "insert_net": 1,
+    "remove_net": 1,
+    "connect_pin": 2,
+    "disconnect_pin": 1,
+}
 DRAFTS = ("begin_what_if", "end_what_if", "drop_last")
 NOT_IN_DRAFTS = ("take", "await", "report_through", "report_paths", "advise")
 OTHERS = {"take": 0, "await": 2, "begin_eco": 0, "commit_eco": 0, **{it: 0 for it in DRAFTS}}
+# How many words each command takes that takes a fixed number.
+COUNTS = {**{it: 3 for it in PINS}, **KIND_WORDS, **EDITS, **OTHERS}
 LONGEST_LINE = 65536
 
 
@@ -222,8 +286,62 @@ def draft_hints(name, is_draft, is_group):
         return [f"{name} may not be in a draft, which has edits, groups of edits, drop_last, and questions other than "
                 "report_through, report_paths and advise"]
     if name == "begin_what_if":
-        return [f"a draft has 1 to {MOST_TRIALS} trials and its end, and so has each group in it: begin_what_if, trials, end_what_if"]
+        return [
+            f"a draft has 1 to {MOST_TRIALS} trials and its end, and so has each group in it: begin_what_if, trials,"
+            " end_what_if"
+        ]
     return [f"{name} may only be in a draft: begin_what_if, trials, end_what_if"] if name in DRAFTS else []
+
+
+def mark_hints(name, words, line):
+    """Marks that no line of a script may have."""
+    if "\r" in line:
+        return ["the line ends with CR LF; lines of a script end with a line feed alone: tr -d '\\r' <SCRIPT"]
+    if any(it > "~" for it in line):
+        return ["the line has a byte above 127: a script is ASCII, comments too"]
+    if any(it.startswith("#") and not (name == "set_parasitics" and it[1:].isdigit()) for it in words[1:]):
+        return ["write a comment in a line of its own: after a command # begins none"]
+    return ["a line has one command: ; ends none"] if any(it.endswith(";") for it in words) else []
+
+
+def word_hints(name, words):
+    """Words of a command that are too many or too few, or that it does not take in their place."""
+    if name in COUNTS and len(words) - 1 != COUNTS[name]:
+        here = "is 1" if len(words) == 2 else f"are {len(words) - 1}"
+        several = "" if COUNTS[name] == 1 else "s"
+        return [f"{name} takes {COUNTS[name]} word{several}, and here {here}: see docs/SCRIPTS.md"]
+    if name in PINS and (words[2] not in ("early", "late") or words[3] not in ("rise", "fall")):
+        return [f"{name} takes a pin, then early or late, then rise or fall"]
+    if name == "report_through" and not 1 <= len(words) - 3 <= MOST_PINS:
+        return [f"report_through takes a pin, then setup or hold, then 1 to {MOST_PINS} pins that the path passes"]
+    has_kind = name in KIND_WORDS or name == "report_through"
+    if has_kind and words[2 if name in BEHIND_PIN else 1] not in ("setup", "hold"):
+        return [f"{name} takes setup or hold, in small letters, in this place"]
+    is_even, is_short = len(words) % 2 == 0, 4 <= len(words) <= 2 + 2 * MOST_PAIRS
+    if name == "advise" and not (is_even and is_short and words[1] in ("setup", "hold")):
+        return [f"advise takes setup or hold, then 1 to {MOST_PAIRS} pairs of an instance and a cell"]
+    if name in COUNTED and not (words[-1].isdigit() and 1 <= int(words[-1]) <= 100):
+        return [f"{name} takes a number from 1 to 100"]
+    if name == "await" and not (words[2].isdigit() and 1 <= int(words[2]) <= 1000):
+        return ["await takes a number of a design, then a number of looks from 1 to 1000"]
+    return []
+
+
+def command_hints(name):
+    """What a command is, where nothing else is known to be wrong."""
+    if name in ("begin_eco", "commit_eco"):
+        return ["a group has edits alone, at least one, and its end: begin_eco, edits, commit_eco"]
+    if name in ("journal", "entry", "session", "final"):
+        return ["this is the output of a run, not a script: tools/convert_journal.py makes a script of its journal"]
+    if name == "set_parasitics":
+        return ["set_parasitics takes a net, and then none, or items `c NODE AF` and `r NODE NODE MO`: AF and MO are "
+                "whole numbers up to 10^12"]
+    if name == "insert_buffer":
+        return ["insert_buffer takes a net, a new instance, a new net, a cell, and the sinks that move, at least one"]
+    if name in COUNTS or name == "report_through":
+        return [f"the words of {name} do not fit, or it is in a group of edits that allows no report: see "
+                "docs/SCRIPTS.md"]
+    return [f"there is no command {name[:60]}: docs/SCRIPTS.md has all"] if name else []
 
 
 def script_hints(code, line, before):
@@ -234,54 +352,29 @@ def script_hints(code, line, before):
     if code == "C2":
         if len(line) > LONGEST_LINE:
             return [f"this line has {len(line)} bytes"]
-        return [f"{MOST_TRIALS} trials of the draft are before it, and a draft has at most {MOST_TRIALS}"] if is_draft and trials >= MOST_TRIALS else []
-    if "\r" in line:
-        return ["the line ends with CR LF; lines of a script end with a line feed alone: tr -d '\\r' <SCRIPT"]
-    if any(it > "~" for it in line):
-        return ["the line has a byte above 127: a script is ASCII, comments too"]
-    if any(it.startswith("#") and not (name == "set_parasitics" and it[1:].isdigit()) for it in words[1:]):
-        return ["write a comment in a line of its own: after a command # begins none"]
-    if any(it.endswith(";") for it in words):
-        return ["a line has one command: ; ends none"]
-    counts = {**{it: 3 for it in PINS}, **KIND_WORDS, **EDITS, **OTHERS}
-    if name in counts and len(words) - 1 != counts[name]:
-        here = "is 1" if len(words) == 2 else f"are {len(words) - 1}"
-        return [f"{name} takes {counts[name]} word{'' if counts[name] == 1 else 's'}, and here {here}: see docs/SCRIPTS.md"]
-    if name in PINS and (words[2] not in ("early", "late") or words[3] not in ("rise", "fall")):
-        return [f"{name} takes a pin, then early or late, then rise or fall"]
-    if name == "report_through" and not 1 <= len(words) - 3 <= MOST_PINS:
-        return [f"report_through takes a pin, then setup or hold, then 1 to {MOST_PINS} pins that the path passes"]
-    if (name in KIND_WORDS or name == "report_through") and words[2 if name in BEHIND_PIN else 1] not in ("setup", "hold"):
-        return [f"{name} takes setup or hold, in small letters, in this place"]
-    if name == "advise" and not (len(words) % 2 == 0 and 4 <= len(words) <= 2 + 2 * MOST_PAIRS and words[1] in ("setup", "hold")):
-        return [f"advise takes setup or hold, then 1 to {MOST_PAIRS} pairs of an instance and a cell"]
-    if name in COUNTED and not (words[-1].isdigit() and 1 <= int(words[-1]) <= 100):
-        return [f"{name} takes a number from 1 to 100"]
-    if name == "await" and not (words[2].isdigit() and 1 <= int(words[2]) <= 1000):
-        return ["await takes a number of a design, then a number of looks from 1 to 1000"]
-    if draft_hints(name, is_draft, is_group):
-        return draft_hints(name, is_draft, is_group)
-    if name in ("begin_eco", "commit_eco"):
-        return ["a group has edits alone, at least one, and its end: begin_eco, edits, commit_eco"]
-    if name in ("journal", "entry", "session", "final"):
-        return ["this is the output of a run, not a script: tools/convert_journal.py makes a script of its journal"]
-    if name == "set_parasitics":
-        return ["set_parasitics takes a net, and then none, or items `c NODE AF` and `r NODE NODE MO`: AF and MO are whole numbers up to 10^12"]
-    if name == "insert_buffer":
-        return ["insert_buffer takes a net, a new instance, a new net, a cell, and the sinks that move, at least one"]
-    if name in counts or name == "report_through":
-        return [f"the words of {name} do not fit, or it is in a group of edits that allows no report: see docs/SCRIPTS.md"]
-    return [f"there is no command {name[:60]}: docs/SCRIPTS.md has all"] if name else []
+        most = f"{MOST_TRIALS} trials of the draft are before it, and a draft has at most {MOST_TRIALS}"
+        return [most] if is_draft and trials >= MOST_TRIALS else []
+    return (mark_hints(name, words, line) or word_hints(name, words) or draft_hints(name, is_draft, is_group)
+            or command_hints(name))
 
 
-INSTEAD = {"set_clock_groups": "there are no clock groups: write set_false_path -from [get_clocks A] -to [get_clocks B], and the reverse",
-           "set_driving_cell": "give the port a slew by set_input_transition, and what the cell delays by set_input_delay",
-           "set_clock_latency": "clocks are propagated always, so that there is no latency of an ideal network",
-           "set_clock_transition": "clocks are propagated always: set_input_transition gives the clock's port its slew",
-           "create_generated_clock": "there are no generated clocks: registers after a divider are not tested (docs/DIFFERENCES.md)",
-           "all_inputs": "name the ports: [get_ports {a b}]", "all_outputs": "name the ports: [get_ports {a b}]",
-           "all_clocks": "name the clocks: [get_clocks {a b}]", "all_registers": "name the instances: [get_cells {a b}]",
-           "-through": "an exception names its paths by -from and -to alone", "-add_delay": "a port has one clock for each split and transition"}
+INSTEAD = {
+    "set_clock_groups": (
+        "there are no clock groups: write set_false_path -from [get_clocks A] -to [get_clocks B], and the reverse"
+    ),
+    "set_driving_cell": "give the port a slew by set_input_transition, and what the cell delays by set_input_delay",
+    "set_clock_latency": "clocks are propagated always, so that there is no latency of an ideal network",
+    "set_clock_transition": "clocks are propagated always: set_input_transition gives the clock's port its slew",
+    "create_generated_clock": (
+        "there are no generated clocks: registers after a divider are not tested (docs/DIFFERENCES.md)"
+    ),
+    "all_inputs": "name the ports: [get_ports {a b}]",
+    "all_outputs": "name the ports: [get_ports {a b}]",
+    "all_clocks": "name the clocks: [get_clocks {a b}]",
+    "all_registers": "name the instances: [get_cells {a b}]",
+    "-through": "an exception names its paths by -from and -to alone",
+    "-add_delay": "a port has one clock for each split and transition",
+}
 DELAY = "a delay needs -clock"
 SDC_PAGES = "docs/INPUT.md has what is read of SDC; tools/check_setup.py lists all lines that are not, in one run"
 FORMS = {"set_input_delay": DELAY, "set_output_delay": DELAY,
@@ -291,8 +384,13 @@ FORMS = {"set_input_delay": DELAY, "set_output_delay": DELAY,
 def sdc_hints(code, text, place):
     word = re.match(r"[^\s;]*", text[place:]).group()
     line = text[text.rfind("\n", 0, place) + 1:].split("\n")[0]
-    if code in ("S1", "S3") and ("$" in line or "[expr" in line or re.match(r"\s*(set\s|if\b|foreach\b|proc\b|source\b)", line)):
-        return ["Tcl is not run: no variables, [expr ..] or control. Write the values, or have the tool that wrote the file write them (write_sdc)"]
+    if code in ("S1", "S3") and (
+        "$" in line or "[expr" in line or re.match(r"\s*(set\s|if\b|foreach\b|proc\b|source\b)", line)
+    ):
+        return [
+            "Tcl is not run: no variables, [expr ..] or control. Write the values, or have the tool that wrote the file"
+            " write them (write_sdc)"
+        ]
     if code == "S2" and re.match(r"(puts|if|foreach|for|while|proc|source|expr|lappend|global)$", word):
         return ["Tcl is not run: this is a command of Tcl"]
     plain = word.strip("[]{}")
@@ -303,14 +401,23 @@ def sdc_hints(code, text, place):
     if code == "S3" and word in FORMS:
         return [FORMS[word]]
     if code == "S5":
-        before = [it.after("-name") or it.words[-1] for it in read_commands(text[:place]) if it.name == "create_clock" and it.words]
+        before = [
+            it.after("-name") or it.words[-1]
+            for it in read_commands(text[:place])
+            if it.name == "create_clock" and it.words
+        ]
         names = [name for word in before for name in word.names[:1]]
         return [f"the clocks before this place: {', '.join(names[:8]) or 'none'}"
                 + (' (a " is a part of a name, not around it)' if any('"' in it for it in names) else "")]
     return [SDC_PAGES] if code in ("S1", "S2", "S3") else []
 
 
-VARIABLES = {"input_net_transition", "total_output_net_capacitance", "related_pin_transition", "constrained_pin_transition"}
+VARIABLES = {
+    "input_net_transition",
+    "total_output_net_capacitance",
+    "related_pin_transition",
+    "constrained_pin_transition",
+}
 MOST_ENTRIES = 64
 
 
@@ -359,7 +466,9 @@ def table_hints(text, place):
     told += number_hints("values", values)
     if len(values) != asked and not told:
         told.append(f"the table has {len(values)} values, and its template {name} with the indexes asks for {asked}")
-    return told or [f"the variables of its template {name} are not those of such a table, or a number is out of range in its unit"]
+    return told or [
+        f"the variables of its template {name} are not those of such a table, or a number is out of range in its unit"
+    ]
 
 
 def axis_hints(text, place):
@@ -372,8 +481,14 @@ def axis_hints(text, place):
         owner = group if index in group.complex else template
         entries = [float(it) for it in split_numbers(owner.complex.get(index, [])) if not number_hints(index, [it])]
         if any(one >= other for one, other in zip(entries, entries[1:])):
-            whose = "" if owner is group and group is not template else f" of the template {name}, line {line_and_column(text, template.offset)[0]},"
-            return [f"{index}{whose} is {', '.join(f'{it:g}' for it in entries[:8])}{' ..' if len(entries) > 8 else ''}"]
+            whose = (
+                ""
+                if owner is group and group is not template
+                else f" of the template {name}, line {line_and_column(text, template.offset)[0]},"
+            )
+            return [
+                f"{index}{whose} is {', '.join(f'{it:g}' for it in entries[:8])}{' ..' if len(entries) > 8 else ''}"
+            ]
     return []
 
 
@@ -395,7 +510,9 @@ def explain_cell(cell, words):
     for role, at in (("early", 1), ("late", 2)):
         library = libraries[role] = library_of(words, at)
         if cell in library.left_out:
-            told.append(f"{words[at]}, the {role} library, has {cell}, which is passed over: {library.left_out[cell].left_out}")
+            told.append(
+                f"{words[at]}, the {role} library, has {cell}, which is passed over: {library.left_out[cell].left_out}"
+            )
         elif cell not in library.cells:
             told.append(f"{words[at]}, the {role} library, has no cell {cell}")
     pair = [libraries[it].cells.get(cell) for it in ("early", "late")]
@@ -416,7 +533,10 @@ def differences(early, late):
         for here, there, only in (("early", "late", one - other), ("late", "early", other - one)):
             if only:
                 some = ", ".join(" ".join(it) for it in sorted(only)[:3]) + (" .." if len(only) > 3 else "")
-                told.append(f"the {here} library alone has the {what}{'s' if len(only) > 1 else ''} {some} of {early.name}, the {there} one not")
+                told.append(
+                    f"the {here} library alone has the {what}{'s' if len(only) > 1 else ''} {some} of {early.name}, the"
+                    f" {there} one not"
+                )
     return told
 
 
@@ -425,8 +545,14 @@ def explain_net(code, net, words):
     netlist = Netlist(raw_text(words[3]))
     joined = Joined(netlist, library_of(words, 2))
     found = joined.nets.get(net)
-    told = [f"the netlist's net {net} is driven by {', '.join(found.drivers) or 'nothing'} and leads to {', '.join(found.sinks[:6]) or 'nothing'}"
-            f"{' ..' if len(found.sinks) > 6 else ''}"] if found else []
+    told = (
+        [
+            f"the netlist's net {net} is driven by {', '.join(found.drivers) or 'nothing'} and leads to"
+            f" {', '.join(found.sinks[:6]) or 'nothing'}{' ..' if len(found.sinks) > 6 else ''}"
+        ]
+        if found
+        else []
+    )
     if words[5] != "none" and can_be_read_again(words[5]):
         text = raw_text(words[5])
         parasitics = Spef(text).nets.get(net)
@@ -434,9 +560,15 @@ def explain_net(code, net, words):
             pins, named = {*found.drivers, *found.sinks}, parasitics.named_pins()
             ends = parasitics.ends()
             if named - pins:
-                told.append(f"its parasitics name {', '.join(sorted(named - pins)[:6])}, which {'is' if len(named - pins) == 1 else 'are'} not on the net")
+                told.append(
+                    f"its parasitics name {', '.join(sorted(named - pins)[:6])}, which"
+                    f" {'is' if len(named - pins) == 1 else 'are'} not on the net"
+                )
             if parasitics.ress and pins - ends:
-                told.append(f"no resistor ends at {', '.join(sorted(pins - ends)[:6])}, which {'is' if len(pins - ends) == 1 else 'are'} on the net")
+                told.append(
+                    f"no resistor ends at {', '.join(sorted(pins - ends)[:6])}, which"
+                    f" {'is' if len(pins - ends) == 1 else 'are'} on the net"
+                )
             if code == "E14" and parasitics.misshape():
                 told.append(parasitics.misshape())
     return told
@@ -447,18 +579,27 @@ def explain_range(words):
     told = []
     for role, at in (("early", 1), ("late", 2)):
         library = library_of(words, at)
-        told.append(f"{words[at]} has the capacitance unit {' '.join(library.load_words or ['?'])} and a time unit of {library.time_unit / 1000:g} ps")
+        told.append(
+            f"{words[at]} has the capacitance unit {' '.join(library.load_words or ['?'])} and a time unit of"
+            f" {library.time_unit / 1000:g} ps"
+        )
     if words[5] != "none" and can_be_read_again(words[5]):
         units = re.findall(r"^\s*(\*[CR]_UNIT\s+\S+\s+\S+)", raw_text(words[5])[:100000], re.M)
         told.append(f"{words[5]} has {', '.join(' '.join(it.split()) for it in units)}")
     return told
 
 
-PORT_WAYS = {"create_clock": "input", "set_input_delay": "input", "set_input_transition": "input", "set_output_delay": "output"}
+PORT_WAYS = {
+    "create_clock": "input",
+    "set_input_delay": "input",
+    "set_input_transition": "input",
+    "set_output_delay": "output",
+}
 
 
 def word_of_constraints(name, file, ways):
-    """The text of the constraints, and the place of the first object of that name whose way, where it is a port, is not the one asked."""
+    """The text of the constraints, and the place of the first object of that name whose way, where it is a port, is not
+    the one asked."""
     text = raw_text(file)
     for command in read_commands(text):
         option = before = ""
@@ -587,12 +728,19 @@ def explain(status, output, words):
             return explain_document(line[1], line[2], int(line[3]), words, journal)
         if status == 4:
             return explain_shelf(" ".join(line[2:-1]), line[-1], journal)
-    except Exception as why:  # what is explained is faulty, so whatever goes wrong here must not hide the program's own answer
+    except (
+        Exception
+    ) as why:  # what is explained is faulty, so whatever goes wrong here must not hide the program's own answer
         return [f"lizdrog: the cause could not be looked up ({type(why).__name__}: {why}); docs/FAULTS.md has the code"]
     if status == 5:
-        return ["lizdrog: the output could not be written to its end (a full disk, or a reader that has closed the pipe); what is there is its beginning"]
+        return [
+            "lizdrog: the output could not be written to its end (a full disk, or a reader that has closed the pipe);"
+            " what is there is its beginning"
+        ]
     if status == 6:
-        return ["lizdrog: there was not enough memory, and nothing was written; `ulimit -v` says whether a limit is set"]
+        return [
+            "lizdrog: there was not enough memory, and nothing was written; `ulimit -v` says whether a limit is set"
+        ]
     return []
 
 

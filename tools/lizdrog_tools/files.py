@@ -23,7 +23,8 @@ GZIP, XZ, ZSTD = b"\x1f\x8b", b"\xfd7zXZ\x00", b"\x28\xb5\x2f\xfd"
 UTF_16 = (b"\xff\xfe", b"\xfe\xff")
 BYTE_ORDER_MARK = b"\xef\xbb\xbf"
 # Bytes that no text has: control characters but for tab, line feed, vertical tab, form feed and carriage return.
-NO_TEXT = re.compile(rb"[\x00-\x08\x0e-\x1f\x7f]")
+CONTROLS = bytes([*range(9), *range(14, 32), 127])
+NO_TEXT = re.compile(b"[" + re.escape(CONTROLS) + b"]")
 
 
 class InputFault(Exception):
@@ -83,7 +84,7 @@ def read_text(name: str | os.PathLike, *, may_be_empty: bool = False) -> str:
         data = unpacked(name, file.read())
     if data.startswith(UTF_16):
         raise InputFault(name, 1, "the file is UTF-16, which is not read: iconv -f UTF-16 -t ASCII FILE")
-    strange = NO_TEXT.search(data)
+    strange = NO_TEXT.search(data) if len(data.translate(None, CONTROLS)) < len(data) else None
     if strange:
         line = data.count(b"\n", 0, strange.start()) + 1
         raise InputFault(name, line, f"the file is no text: it has a byte {data[strange.start()]} here")

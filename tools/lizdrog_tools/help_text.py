@@ -16,6 +16,7 @@ USAGE = """Lizdrog, a static timing server.
   lizdrog --build    build the program without proof now, in minutes (`rt ci` proves it and builds it, in hours)
   lizdrog --version  the commit, the toolchain, and whether the program that would run is proved    --help  this, and the commands"""
 MORE = """  lizdrog corners | report | summary FILE.toml ..    several corners of a design, a page of their answers, sums; each has --help
+  lizdrog serve DESIGN --listen ADDRESS | connect ADDRESS    a design that several work on at prompts, and such a prompt; each has --help
   --proved           refuse to run a program that is not proved    --program FILE   run this program, whatever it is
 Status: 0 all rows are answers, 1 some row is refused, no or not yet, 2 wrong words, 3 a document or the design has a fault or a saved
 edit is refused, 4 a document cannot be fetched, 5 the output cannot be written, 6 no memory. What the codes mean: docs/FAULTS.md.

@@ -31,6 +31,8 @@ def copy_to(home: pathlib.Path, program: str) -> None:
             shutil.copy(TOP / name, part / name)
     (part / "program").mkdir()
     shutil.copy(program, part / "program" / "timing_shell")
+    if programs.is_program(programs.LIVE_BESIDE[program]):
+        shutil.copy(programs.LIVE_BESIDE[program], part / "program" / "timing_live")
     text = programs.about_installed() + "\n" if program == programs.INSTALLED else about(program)
     (part / "program" / "about").write_text(text, encoding="utf-8")
     old = home.with_name(f"{home.name}.{os.getpid()}.old")

@@ -1,7 +1,8 @@
-"""Writes the parasitics of a net of a SPEF as a line of a script: net_parasitics.py SPEF NET [--as NET] [--rename PIN=PIN ..] [--inner PIN ..]
+"""Writes the parasitics of nets of a SPEF as lines of a script: net_parasitics.py SPEF NET .. [--as NET]
+[--rename PIN=PIN ..] [--inner PIN ..]
 
-It prints `set_parasitics NET c .. r ..`. An edit that changes a net's connections drops the net's parasitics; put this line after it, into
-the same group, and the wires stay.
+It prints `set_parasitics NET c .. r ..` for each net; the options are for a single one. An edit that changes a net's
+connections drops the net's parasitics; put this line after it, into the same group, and the wires stay.
 
   --as NET          the line is for this net, such as the new net of a buffer
   --rename OLD=NEW  the wires that led to the pin OLD lead to the pin NEW
@@ -43,26 +44,34 @@ def line_of_net(net, name, node):
     return " ".join(words)
 
 
-@tool("net_parasitics")
-def main():
-    parser = argparse.ArgumentParser(description=__doc__, formatter_class=argparse.RawDescriptionHelpFormatter)
-    parser.add_argument("spef")
-    parser.add_argument("net")
-    parser.add_argument("--as", dest="name")
-    parser.add_argument("--rename", action="append", default=[], metavar="OLD=NEW")
-    parser.add_argument("--inner", action="append", default=[], metavar="PIN")
-    given = parser.parse_args()
-    spef = read_spef(given.spef)
-    net = spef.nets.get(given.net)
+def edit_of(given, spef, name):
+    """The line of one net."""
+    net = spef.nets.get(name)
     if net is None:
-        raise InputFault(given.spef, None, f"it has no net {given.net}")
+        raise InputFault(given.spef, None, f"it has no net {name}")
     line = line_of(spef.text, net.offset)
     pairs = [it.partition("=") for it in given.rename]
     unknown = [it for it in [*(pair[0] for pair in pairs), *given.inner] if net.ress and it not in net.named_pins()]
     if unknown:
         named = ', '.join(sorted(net.named_pins()))
-        raise InputFault(given.spef, line, f"the parasitics of {given.net} name {named} and not {', '.join(unknown)}")
-    edit = line_of_net(net, given.name or given.net, renamed(net, {one: other for one, _, other in pairs}, given.inner))
+        raise InputFault(given.spef, line, f"the parasitics of {name} name {named} and not {', '.join(unknown)}")
+    edit = line_of_net(net, given.name or name, renamed(net, {one: other for one, _, other in pairs}, given.inner))
     if len(edit) > LONGEST:
-        raise InputFault(given.spef, line, f"the line has {len(edit)} bytes, and a script's line at most {LONGEST}: this net cannot be given in a script")
-    print(edit)
+        said = f"the line has {len(edit)} bytes, and a script's line at most {LONGEST}"
+        raise InputFault(given.spef, line, f"{said}: this net cannot be given in a script")
+    return edit
+
+
+@tool("net_parasitics")
+def main():
+    parser = argparse.ArgumentParser(description=__doc__, formatter_class=argparse.RawDescriptionHelpFormatter)
+    parser.add_argument("spef")
+    parser.add_argument("nets", nargs="+", metavar="NET")
+    parser.add_argument("--as", dest="name")
+    parser.add_argument("--rename", action="append", default=[], metavar="OLD=NEW")
+    parser.add_argument("--inner", action="append", default=[], metavar="PIN")
+    given = parser.parse_args()
+    if len(given.nets) > 1 and (given.name or given.rename or given.inner):
+        parser.error("--as, --rename and --inner are for one net")
+    spef = read_spef(given.spef)
+    print("\n".join([edit_of(given, spef, name) for name in given.nets]))

@@ -11,6 +11,11 @@ PROVED = f"{TOP}/crates/timing_shell/out/timing_shell"
 FOLDER = f"{TOP}/out/quick_build"
 QUICK = f"{FOLDER}/timing_shell"
 INSTALLED = f"{TOP}/program/timing_shell"
+# The live server is a program of its own; one build makes both.
+LIVE_PROVED = f"{TOP}/crates/timing_live/out/timing_live"
+LIVE_QUICK = f"{FOLDER}/timing_live"
+LIVE_INSTALLED = f"{TOP}/program/timing_live"
+LIVE_BESIDE = {PROVED: LIVE_PROVED, QUICK: LIVE_QUICK, INSTALLED: LIVE_INSTALLED}
 ABOUT_INSTALLED = f"{TOP}/program/about"
 # What a program is made of; and what it was proved to do, which is all that a proof is about. (Another proof of the
 # same is no change.)
@@ -108,17 +113,18 @@ def is_of(kept: Kept, name: str, files: list[tuple[str, int, int]], head: str = 
     return kept.verdict == "current"
 
 
-def proved_is_current() -> bool:
-    """Whether the gate's program is newer than all sources, or these are still those that it was seen to be made of."""
-    if not is_program(PROVED):
+def proved_is_current(program: str = PROVED, name: str = "proved") -> bool:
+    """Whether a program of the gate is newer than all sources, or these are still those that it was seen to be made
+    of."""
+    if not is_program(program):
         return False
-    files, built, kept = sources(PROVED_OF), os.stat(PROVED), Kept.read("proved")
+    files, built, kept = sources(PROVED_OF), os.stat(program), Kept.read(name)
     head = f"{built.st_size} {built.st_mtime_ns}\n"
     if kept.stamps.startswith(head):
-        return is_of(kept, "proved", files, head)
+        return is_of(kept, name, files, head)
     if any(time > built.st_mtime_ns for _, _, time in files):
         return False
-    Kept("current", sum_of(files), "", head + stamps_of(files)).write("proved")
+    Kept("current", sum_of(files), "", head + stamps_of(files)).write(name)
     return True
 
 
@@ -182,6 +188,25 @@ def choose(wants_proved: bool, may_build: bool, say) -> str:
                        "anew (hours at worst), `lizdrog --build` builds it without proof (minutes); nothing was run")
         build(say)
     return QUICK
+
+
+def choose_live(wants_proved: bool) -> str:
+    """The live server to run, which is never built here."""
+    if is_program(INSTALLED):
+        if not is_program(LIVE_INSTALLED):
+            raise Stop("this installed copy has no live server: install it anew from a clone where that is built")
+        if wants_proved and not about_installed().startswith("proved"):
+            raise Stop("the programs that are installed here were built without proof")
+        return LIVE_INSTALLED
+    if proved_is_current(LIVE_PROVED, "proved_live"):
+        return LIVE_PROVED
+    if not wants_proved and is_program(LIVE_QUICK) and quick_is_current():
+        return LIVE_QUICK
+    found = next(filter(is_program, [LIVE_PROVED, *([] if wants_proved else [LIVE_QUICK])]), None)
+    none = f"there is no {'proved ' if wants_proved else ''}live server here"
+    more = "" if wants_proved else f", and `lizdrog --build` builds {LIVE_QUICK} without proof"
+    why = f"the sources are newer than {found}" if found else none
+    raise Stop(f"{why}: `rt ci` in {TOP} proves and builds {LIVE_PROVED}{more}")
 
 
 def about_installed() -> str:

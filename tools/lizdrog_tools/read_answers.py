@@ -1,22 +1,24 @@
 """Joins a script with the output of its run: read_answers.py SCRIPT OUTPUT [options]
 
-It prints a line for each row with its question, as `report_endpoint r2:D setup -> 936.500 ps (design 1)`, and paths and lists below it.
+It prints a line for each row with its question, as `report_endpoint r2:D setup -> 936.500 ps (design 1)`, and paths and
+lists below it.
 
-  --netlist NETLIST --library LIBRARY   beside each pin of a path its cell, the net that it drives and its number of sinks, as they are in
-                                        the design of the row (ECOs of the journal included)
+  --netlist NETLIST --library LIBRARY   beside each pin of a path its cell, the net that it drives and its number of
+                                        sinks, as they are in the design of the row (ECOs of the journal included)
   --journal SAVED                       for these: the saved journal that the run went on from
   --json, --csv                         the rows for programs, in place of the lines
   --failing                             the endpoints of negative slack, counted and listed, worst first
   --histogram                           how many endpoints have which slack, as text
   --svg FILE                            the same as a picture
-  --design N                            for the three above: the design whose rows count (default: the last one with endpoints)
+  --design N                            for the three above: the design whose rows count (default: the last one with
+                                        endpoints)
   --session N                           the session whose script it is; an output of several sessions asks for it
 
-Endpoints are those of the script's report_endpoint and report_worst; tools/endpoint_questions.py writes a script that asks all. The paths
-of a report_paths are one below the other, worst first; below a draft is each of its trials with its answer.
+Endpoints are those of the script's report_endpoint and report_worst; tools/endpoint_questions.py writes a script that
+asks all. The paths of a report_paths are one below the other, worst first; below a draft is each of its trials with its
+answer.
 """
 import argparse
-import copy
 import csv
 import json
 import os
@@ -28,10 +30,15 @@ from lizdrog_tools.liberty import read_library
 from lizdrog_tools.reporting.histogram import bins_of, histograms, picoseconds
 from lizdrog_tools.verilog import Instance, Joined, read_netlist
 
-QUESTIONS = {"Q1": "there is no such pin", "Q2": "it is no endpoint", "Q3": "the register has no test of this kind that a clock reaches"}
+QUESTIONS = {
+    "Q1": "there is no such pin",
+    "Q2": "it is no endpoint",
+    "Q3": "the register has no test of this kind that a clock reaches",
+}
 
 
-# ------------------------------------------------------------------------------------------------ the script and the output
+# ------------------------------------------------------------------------------------------------ the script and the
+# output
 
 class Command:
     """A command of a script: its number, its lines with their numbers, where it begins, and its words."""
@@ -44,7 +51,11 @@ class Command:
     def text(self):
         if len(self.lines) == 1:
             return " ".join(self.words)
-        return f"begin_eco ({len(self.lines) - 2} edits)" if self.words[0] == "begin_eco" else f"begin_what_if ({len(self.trials())} trials)"
+        return (
+            f"begin_eco ({len(self.lines) - 2} edits)"
+            if self.words[0] == "begin_eco"
+            else f"begin_what_if ({len(self.trials())} trials)"
+        )
 
     def trials(self):
         """The trials of a draft, groups of edits as one."""
@@ -82,13 +93,22 @@ def read_script(text):
     return commands_of(enumerate(text.split("\n"), 1), *ENDS)
 
 
-ANSWERS = {"take": ("taken",), "await": ("reached", "not_yet"), "advise": ("advice",), "begin_what_if": ("what_if",), "report_through": ("path", "no")}
+ANSWERS = {
+    "take": ("taken",),
+    "await": ("reached", "not_yet"),
+    "advise": ("advice",),
+    "begin_what_if": ("what_if",),
+    "report_through": ("path", "no"),
+}
 
 
 def may_answer(words, row):
-    """Whether a row may answer a command: its first word fits, and where it is a path it is one of that kind to that pin."""
+    """Whether a row may answer a command: its first word fits, and where it is a path it is one of that kind to that
+    pin."""
     name = words[0]
-    sorts = ANSWERS.get(name) or ((name[len("report_"):], "no") if name.startswith("report_") else ("accepted", "refused"))
+    sorts = ANSWERS.get(name) or (
+        (name[len("report_") :], "no") if name.startswith("report_") else ("accepted", "refused")
+    )
     if row.sort == "path" and row.words[:1] != ["none"]:
         return row.sort in sorts and row.words[:2] == [words[2], words[1]]
     return row.sort in sorts
@@ -113,7 +133,8 @@ class Row:
 
 
 def lines_below(answer, lines, at):
-    """How many lines of paths, of a list of endpoints or of the answers of a draft belong to an answer; they begin at this line."""
+    """How many lines of paths, of a list of endpoints or of the answers of a draft belong to an answer; they begin at
+    this line."""
     if answer[0] == "worst":
         return int(answer[1])
     if answer[0] in ("paths", "what_if"):
@@ -125,8 +146,8 @@ def lines_below(answer, lines, at):
 
 
 class Output:
-    """The output of a run: how many saved entries stand before, the ECOs of its journal with the sessions that made them, the rows of its
-    sessions, and its last line."""
+    """The output of a run: how many saved entries stand before, the ECOs of its journal with the sessions that made
+    them, the rows of its sessions, and its last line."""
 
     def __init__(self, text: str):
         self.first, self.ecos, self.makers, self.sessions, self.final, self.rows = 0, [], [], [], None, []
@@ -139,7 +160,9 @@ class Output:
                 self.step(self.lines[line])
             except (ValueError, IndexError) as why:
                 said = " ".join(self.lines[line])[:60]
-                raise TextFault(line + 1, f"this is no line of an output, or what belongs to it is cut short: {said}") from why
+                raise TextFault(
+                    line + 1, f"this is no line of an output, or what belongs to it is cut short: {said}"
+                ) from why
 
     def step(self, words: list[str]) -> None:
         """Reads what begins at this line."""
@@ -181,28 +204,51 @@ def read_script_file(name: str | os.PathLike) -> list[Command]:
 # ------------------------------------------------------------------------------------------------ the design of a row
 
 class Edited:
-    """A netlist with its library, taken through the ECOs of a journal one after the other."""
+    """A netlist with its library, taken through the ECOs of a journal one after the other, and through those of a draft
+    and back."""
 
     def __init__(self, netlist, library, ecos):
         self.netlist, self.library, self.ecos, self.number, self.joined = netlist, library, ecos, 0, None
+        self.tried: list[str] = []
+        self.before: list[tuple[str, Instance | None]] = []
 
-    def at(self, number):
-        """The design of this number; numbers may not fall."""
+    def at(self, number: int, tried: list[str] | None = None) -> Joined:
+        """The design of this number, with the edits of a draft; numbers may not fall. It stands until the next one is
+        asked for."""
+        if self.tried != (tried or []) or self.number < number:
+            self.go_back()
         while self.number < min(number, len(self.ecos)):
             for edit in self.ecos[self.number]:
                 self.edit_of(edit)
-            self.number, self.joined = self.number + 1, None
+            self.number, self.before = self.number + 1, []
         if self.joined is None:
             self.joined = Joined(self.netlist, self.library)
+        if tried and not self.tried:
+            self.tried, self.before = tried, []
+            for edit in tried:
+                self.edit_of(edit)
         return self.joined
 
-    def drafted(self, number, edits):
-        """The design of this number after edits that are tried, as one of its own."""
-        self.at(number)
-        other = Edited(copy.deepcopy(self.netlist), self.library, [])
-        for edit in edits:
-            other.edit_of(edit)
-        return other
+    def go_back(self) -> None:
+        """Undoes the edits of a draft."""
+        for name, made in reversed(self.before if self.tried else []):
+            self.put(name, made)
+        self.tried, self.before = [], []
+
+    def drafted(self, edits: list[str]) -> "Drafted":
+        """The designs after edits that are tried."""
+        return Drafted(self, edits)
+
+    def put(self, name: str, made: Instance | None) -> None:
+        """Puts an instance in the place of the one of its name, or takes that away."""
+        old = self.netlist.instances.get(name)
+        self.before.append((name, old))
+        if made is None:
+            self.netlist.instances.pop(name, None)
+        else:
+            self.netlist.instances[name] = made
+        if self.joined is not None:
+            self.joined.exchange(old, made)
 
     def pin(self, word):
         instance, _, pin = word.rpartition(":")
@@ -213,27 +259,55 @@ class Edited:
         try:
             self.edit(edit.split())
         except (KeyError, IndexError) as why:
-            raise TextFault(None, f"the edit `{edit[:80]}` of the journal names what neither the netlist nor the library has") from why
+            raise TextFault(
+                None, f"the edit `{edit[:80]}` of the journal names what neither the netlist nor the library has"
+            ) from why
+
+    def connect(self, word: str, net: str | None) -> None:
+        """Connects a pin with a net, or opens it."""
+        instance, pin = self.pin(word)
+        made = instance.copied()
+        made.nets[pin] = net
+        self.put(made.name, made)
+
+    def connect(self, word: str, net: str | None) -> None:
+        """Connects a pin with a net, or opens it."""
+        instance, pin = self.pin(word)
+        made = instance.copied()
+        made.nets[pin] = net
+        self.put(made.name, made)
 
     def edit(self, words):
-        name, made = words[0], self.netlist.instances
+        name, instances = words[0], self.netlist.instances
         if name == "repower_gate":
-            made[words[1]].cell = words[2]
+            made = instances[words[1]].copied()
+            made.cell = words[2]
+            self.put(made.name, made)
         elif name == "insert_gate":
-            made[words[1]] = Instance(words[1], words[2], 0)
+            self.put(words[1], Instance(words[1], words[2], 0))
         elif name == "remove_gate":
-            del made[words[1]]
+            self.put(instances[words[1]].name, None)
         elif name in ("connect_pin", "disconnect_pin"):
-            instance, pin = self.pin(words[1])
-            instance.nets[pin] = words[2] if name == "connect_pin" else None
+            self.connect(words[1], words[2] if name == "connect_pin" else None)
         elif name == "insert_buffer":
             net, inst, fresh, cell = words[1:5]
-            buffer = made[inst] = Instance(inst, cell, 0)
+            buffer = Instance(inst, cell, 0)
             for pin, (way, _) in self.library.cells[cell].pins.items():
                 buffer.nets[pin] = net if way == "input" else fresh
+            self.put(inst, buffer)
             for sink in words[5:]:
-                instance, pin = self.pin(sink)
-                instance.nets[pin] = fresh
+                self.connect(sink, fresh)
+
+
+class Drafted:
+    """The designs of a journal with the edits of a draft."""
+
+    def __init__(self, edited: Edited, edits: list[str]):
+        self.edited, self.edits = edited, edits
+
+    def at(self, number: int) -> Joined:
+        """The design of this number with these edits; it stands until the next one is asked for."""
+        return self.edited.at(number, self.edits)
 
 
 def beside(design, pin, direction):
@@ -254,7 +328,7 @@ def draft_rows(command, row, edited):
         elif answer.sort == "dropped":
             tried.pop()
         if edited and answer.sort in ("tried", "dropped"):
-            shown = edited.drafted(row.design, [edit for edits in tried for edit in edits]) if tried else edited
+            shown = edited.drafted([edit for edits in tried for edit in edits]) if tried else edited
 
 
 def path_lines(row, edited):
@@ -262,7 +336,12 @@ def path_lines(row, edited):
     design, before, found = edited.at(row.design) if edited else None, None, []
     for pin, edge, time in row.below:
         value = thousandths(time)
-        line = {"pin": pin, "edge": edge, "time": time, "stage": None if before is None else picoseconds(value - before)}
+        line = {
+            "pin": pin,
+            "edge": edge,
+            "time": time,
+            "stage": None if before is None else picoseconds(value - before),
+        }
         if design:
             line.update(beside(design, pin, "input" if before is None else "output"))
         found.append(line)
@@ -302,7 +381,11 @@ def answer_text(row):
     if row.sort == "paths":
         return f"{words[0]} path{'' if words[0] == '1' else 's'}"
     if row.sort == "path":
-        return "no tested path" if words[0] == "none" else f"slack {words[3]} ps, credit {words[5]} ps, from {words[7]} {words[8]} to {words[10]} {words[11]}"
+        return (
+            "no tested path"
+            if words[0] == "none"
+            else f"slack {words[3]} ps, credit {words[5]} ps, from {words[7]} {words[8]} to {words[10]} {words[11]}"
+        )
     return words[0] if words[0] == "none" else f"{words[0]} ps"
 
 
@@ -318,11 +401,15 @@ def path_text(row, edited):
     """The lines of a path in columns."""
     lines = path_lines(row, edited)
     width = max(len(it["pin"]) for it in lines)
-    yield f"  {'time':>11} {'stage':>10} edge {'pin':{width}}" + ("  cell, and the net that the pin drives" if edited else "")
+    yield f"  {'time':>11} {'stage':>10} edge {'pin':{width}}" + (
+        "  cell, and the net that the pin drives" if edited else ""
+    )
     for line in lines:
         text = f"  {line['time']:>11} {line['stage'] or '':>10} {line['edge']:4} {line['pin']:{width}}"
         if edited:
-            net = f"  net {line['net']}, {line['fanout']} sink{'' if line['fanout'] == 1 else 's'}" if line["net"] else ""
+            net = (
+                f"  net {line['net']}, {line['fanout']} sink{'' if line['fanout'] == 1 else 's'}" if line["net"] else ""
+            )
             text += f"  {line['cell']}{net}"
         yield text.rstrip()
     yield bound_text(row)
@@ -353,7 +440,10 @@ def print_lines(commands, output, edited):
         for line in lines_of_row(command, row, edited):
             print(line)
     number, *totals = output.final
-    kinds = [f"{kind} worst {worst if worst == 'none' else worst + ' ps'}, total {total} ps" for kind, worst, total in (totals[:3], totals[3:])]
+    kinds = [
+        f"{kind} worst {worst if worst == 'none' else worst + ' ps'}, total {total} ps"
+        for kind, worst, total in (totals[:3], totals[3:])
+    ]
     print(f"at the end, design {number}: {'; '.join(kinds)}")
 
 
@@ -363,20 +453,34 @@ def row_value(command, row, edited):
     """The answer of a row as data; times are texts in picoseconds."""
     words = row.words
     if row.sort == "what_if":
-        return {"answers": [{"line": trial.line, "question": trial.lines, "answer": answer.sort, **row_value(trial, answer, shown)}
-                            for trial, answer, shown in draft_rows(command, row, edited)]}
+        return {
+            "answers": [
+                {"line": trial.line, "question": trial.lines, "answer": answer.sort, **row_value(trial, answer, shown)}
+                for trial, answer, shown in draft_rows(command, row, edited)
+            ]
+        }
     if row.sort == "advice":
         return {"advice": None if words[0] == "none" else {"instance": words[0], "cell": words[1], "wns": words[2]}}
     if row.sort in ("refused", "no"):
         return {"code": words[0], "names": words[1:]}
     if row.sort in ("at", "rat"):
-        return {"edges": [{"clock": words[i], "edge": words[i + 1], "time": words[i + 2]} for i in range(1, len(words) - 2, 3)]}
+        return {
+            "edges": [
+                {"clock": words[i], "edge": words[i + 1], "time": words[i + 2]} for i in range(1, len(words) - 2, 3)
+            ]
+        }
     if row.sort == "worst":
         return {"endpoints": [{"pin": pin, "slack": time} for pin, time in row.below]}
     if row.sort == "path":
         if words[0] == "none":
             return {"path": None}
-        return {"slack": words[3], "credit": words[5], "launch": words[7:9], "capture": words[10:12], "path": path_lines(row, edited)}
+        return {
+            "slack": words[3],
+            "credit": words[5],
+            "launch": words[7:9],
+            "capture": words[10:12],
+            "path": path_lines(row, edited),
+        }
     if row.sort == "paths":
         return {"paths": [row_value(command, path, edited) for path in row.parts()]}
     if row.sort == "not_yet":
@@ -385,16 +489,29 @@ def row_value(command, row, edited):
 
 
 def as_data(commands, output, edited):
-    rows = [{"command": row.command, "line": commands[row.command - 1].line, "question": commands[row.command - 1].lines,
-             "design": row.design, "answer": row.sort, **row_value(commands[row.command - 1], row, edited)} for row in output.rows]
+    rows = [
+        {
+            "command": row.command,
+            "line": commands[row.command - 1].line,
+            "question": commands[row.command - 1].lines,
+            "design": row.design,
+            "answer": row.sort,
+            **row_value(commands[row.command - 1], row, edited),
+        }
+        for row in output.rows
+    ]
     number, _, setup, setup_total, _, hold, hold_total = output.final
-    final = {"design": int(number), "setup": {"wns": setup, "tns": setup_total}, "hold": {"wns": hold, "tns": hold_total}}
+    final = {
+        "design": int(number),
+        "setup": {"wns": setup, "tns": setup_total},
+        "hold": {"wns": hold, "tns": hold_total},
+    }
     return {"first": output.first, "journal": output.ecos, "rows": rows, "final": final}
 
 
 def print_csv(commands, output):
-    """One line for each row and each trial of a draft, or for each edge or line below it: command, design, question, answer, pin or clock,
-    edge, time. Trials of a draft are marked by a > before them."""
+    """One line for each row and each trial of a draft, or for each edge or line below it: command, design, question,
+    answer, pin or clock, edge, time. Trials of a draft are marked by a > before them."""
     out = csv.writer(sys.stdout, lineterminator="\n")
     out.writerow(["command", "design", "question", "answer", "pin", "edge", "time"])
     for row in output.rows:
@@ -486,16 +603,26 @@ def rows_of_session(given, commands, output):
     """The rows that answer the commands of the script."""
     count, name = len(output.sessions), given.output
     if given.session is None and count > 1:
-        raise InputFault(name, None, f"it has {count} sessions: --session N says whose script {given.script} is, from 1")
+        raise InputFault(
+            name, None, f"it has {count} sessions: --session N says whose script {given.script} is, from 1"
+        )
     session = given.session or 1
     rows = output.sessions[session - 1] if 1 <= session <= count else []
     if output.final is None or [row.command for row in rows] != [command.number for command in commands]:
         of = f" of session {session} of {count}" if count > 1 else ""
-        raise InputFault(name, None, f"it is no whole output of {given.script}: {len(commands)} commands, {len(rows)} rows{of}")
+        raise InputFault(
+            name, None, f"it is no whole output of {given.script}: {len(commands)} commands, {len(rows)} rows{of}"
+        )
     for command, row in zip(commands, rows):
         if not may_answer(command.lines[0].split(), row):
-            raise InputFault(name, None, f"it is of another script: `{' '.join([row.sort, *row.words])[:80]}` is no answer to "
-                                         f"`{command.lines[0][:80]}`, command {row.command} of {given.script}")
+            raise InputFault(
+                name,
+                None,
+                (
+                    f"it is of another script: `{' '.join([row.sort, *row.words])[:80]}` is no answer to "
+                    f"`{command.lines[0][:80]}`, command {row.command} of {given.script}"
+                ),
+            )
     return rows
 
 
@@ -505,7 +632,11 @@ def edited_design(given, output):
         return None
     saved = parsed(given.journal, convert_journal.read_journal, may_be_empty=True) if given.journal else {}
     if any(number not in saved for number in range(1, output.first + 1)):
-        raise InputFault(given.output, None, f"it goes on from {output.first} saved entries: --journal names the journal that has them")
+        raise InputFault(
+            given.output,
+            None,
+            f"it goes on from {output.first} saved entries: --journal names the journal that has them",
+        )
     ecos = [saved[number] for number in range(1, output.first + 1)] + output.ecos
     return Edited(read_netlist(given.netlist), read_library(given.library), ecos)
 

@@ -1,9 +1,10 @@
 """The command `lizdrog`: chooses the program, runs it, and explains what it refused.
 
-What each call needs is imported here, and all else where it is needed: a call of a short run is over in some hundredths of a second.
+What each call needs is imported here, and all else where it is needed: a call of a short run is over in some hundredths
+of a second. Of `signal` that is its part in C; the rest of it would take a third of the start.
 """
+import _signal as signal
 import os
-import signal
 import sys
 
 from lizdrog_tools import command_line, programs
@@ -11,7 +12,8 @@ from lizdrog_tools.programs import Stop
 
 NO_PROGRAM = 70
 # Commands that are tools by themselves, each with a --help of its own.
-BESIDE = {"corners": "corners.py", "import": "import_design.py", "report": "report.py", "summary": "summary.py"}
+BESIDE = {"connect": "connect_live.py", "corners": "corners.py", "import": "import_design.py", "report": "report.py",
+          "serve": "serve_live.py", "summary": "summary.py"}
 FIRST_BYTES = 65536
 # What the C library does with memory, where nobody has said it. Large pages: the kernel gives them to those that ask (docs/SPEED.md).
 # One arena: where each thread has its own, the others do not use what is freed in it. Of 16 sessions with 40 ECOs each on 7,000 cells,
@@ -95,6 +97,35 @@ def explain(status: int, first: bytes, words: list[str]) -> None:
         print(line, file=sys.stderr)
 
 
+def doubt(words: list[str]) -> None:
+    """Says what the documents of a run hardly mean, though the program reads them."""
+    from lizdrog_tools import sanity_words
+    documents = [it for it in command_line.without_journal(words)[0] if it != "--"][1:6]
+    for line in sanity_words.doubts(documents) if len(documents) == 5 else ():
+        say(f"note: {line} (tools/check_setup.py looks closer)")
+
+
+def lacks_line_end(name: str) -> bool:
+    """Whether a file has bytes of which the last is no line feed."""
+    try:
+        if not os.path.isfile(name):
+            return False
+        with open(name, "rb") as file:
+            size = file.seek(0, os.SEEK_END)
+            file.seek(max(0, size - 1))
+            return file.read(1) not in (b"", b"\n")
+    except OSError:
+        return False
+
+
+def warn_of_journal(words: list[str]) -> None:
+    """Warns of a saved journal that may be cut short in its last line: a part of `BUF_X16` is read as `BUF_X1`."""
+    _, journal = command_line.without_journal(words) if words[:1] == ["run"] else (words, None)
+    if journal is not None and lacks_line_end(journal):
+        say(f"warning: {journal} does not end with a line feed: its last line may be cut short, and is read as it "
+            f"stands; `tools/mend_journal.py {journal}` tells more")
+
+
 def serve(given: dict, words: list[str]) -> int:
     """Chooses the program, runs it, and explains what it refused."""
     program = given["program"]
@@ -103,7 +134,10 @@ def serve(given: dict, words: list[str]) -> int:
     program = program or programs.choose(given["proved"], given["build"], say)
     if not words:
         return 0
+    warn_of_journal(words)
     status, first = run(program, words)
+    if words[0] == "run" and status in (0, 1):
+        doubt(words)
     if status:
         explain(status, first, words)
     return status
@@ -138,6 +172,9 @@ def answer(words: list[str]) -> int:
     given, words = command_line.options_of(words)
     if words == [] and given["version"]:
         return 0 if write_all("\n".join([*programs.version(), ""]).encode()) else 5
+    if words and words[0] in BESIDE:
+        usage(f"the options of {words[0]} stand behind it: `lizdrog {words[0]} --help` lists them")
+        return 2 if write_all(b"fault words\n") else 5
     status = other_command(words or [], given["proved"])
     if status is not None:
         return status

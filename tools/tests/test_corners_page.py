@@ -1,4 +1,5 @@
-"""docs/CORNERS.md, tried as a reader tries it: its commands print what it shows, and its wires by corner are accepted."""
+"""docs/CORNERS.md, tried as a reader tries it: its commands print what it shows, and its wires by corner are
+accepted."""
 import importlib.util
 import os
 import pathlib

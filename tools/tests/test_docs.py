@@ -8,8 +8,21 @@ import unittest
 import common
 
 CRATES, DOCS, EDITS = common.TOP / "crates", common.TOP / "docs", common.TOP / "bench" / "must-fail"
-PAGES = [it for it in [common.TOP / "README.md", common.TOP / "CHANGELOG.md", *DOCS.glob("*.md"), *common.TOP.glob("examples/**/README.md")] if it.exists()]
+PAGES = [
+    it
+    for it in [
+        common.TOP / "README.md",
+        common.TOP / "CHANGELOG.md",
+        *DOCS.glob("*.md"),
+        *common.TOP.glob("examples/**/README.md"),
+    ]
+    if it.exists()
+]
 TRIED = "## Where each crate is tried"
+# The crate of a file that pages name without one.
+RULES = "timing_rules"
+# Definitions or laws alone.
+NO_EDITS = (RULES, "bounded_changes")
 
 
 def index_rows():
@@ -32,12 +45,19 @@ def has_row(program, case):
     return file.is_file() and re.search(rf"(?m)^{re.escape(case)}\b", file.read_text()) is not None
 
 
+def text_of(file):
+    return file.read_text() if file.is_file() else ""
+
+
 def why_not_applied(edit):
-    """Why an edit cannot be applied to the sources of its crate: each of its old texts stands once in its file. None where it can be."""
+    """Why an edit cannot be applied to the sources of its crate: each of its old texts stands once in its file. None
+    where it can be."""
     crate = edit.parent.name if EDITS in edit.parents else edit.parent.parent.name
     texts, name, old = {}, None, None
     for line in edit.read_text().splitlines():
-        key, _, text = line.partition(": ") if not line.startswith("new:") else ("new", "", line[len("new:"):].removeprefix(" "))
+        key, _, text = (
+            line.partition(": ") if not line.startswith("new:") else ("new", "", line[len("new:") :].removeprefix(" "))
+        )
         if key == "file":
             name = text
         elif key == "old":
@@ -94,8 +114,10 @@ class Documents(unittest.TestCase):
     def test_definitions_of_the_index_are_there(self):
         for row in index_rows():
             self.assertEqual(len(row), 5, row)
-            for crate, file, names in re.findall(r"`(\w+)/specs(?:/(\w+))?`(?:: ((?:`\w+`(?:, )?)+))?", row[1]):
-                folder = CRATES / crate / "specs"
+            found = re.findall(r"`(?:(\w+)/specs/?)?(\b[A-Z]\w*)?`(?:: ((?:`\w+`(?:, )?)+))?", row[1])
+            self.assertTrue(found, row)
+            for crate, file, names in found:
+                folder = CRATES / (crate or RULES) / "specs"
                 self.assertTrue(folder.is_dir(), row)
                 if file:
                     text = (folder / f"{file}.antt").read_text()
@@ -105,11 +127,21 @@ class Documents(unittest.TestCase):
 
     def test_tests_of_the_index_are_there(self):
         text = "\n".join(it.read_text() for it in CRATES.glob("*/src/**/*.rt"))
-        gone = [f"{row[0]}: {name}" for row in index_rows() for name in re.findall(r"`(\w+)`", row[3]) if f"fn {name}(" not in text]
+        gone = [
+            f"{row[0]}: {name}"
+            for row in index_rows()
+            for name in re.findall(r"`(\w+)`", row[3])
+            if f"fn {name}(" not in text
+        ]
         files = [(row[0], name) for row in index_rows() for name in re.findall(r"`([\w/]+\.rt)`", row[3])]
         gone += [f"{rule}: {name}" for rule, name in files
                  if not (CRATES / name if "/" in name else CRATES / "shell_tests" / "src" / "examples" / name).exists()]
-        gone += [f"{row[0]}: {program} {case}" for row in index_rows() for program, case in rows_named(row[3]) if not has_row(program, case)]
+        gone += [
+            f"{row[0]}: {program} {case}"
+            for row in index_rows()
+            for program, case in rows_named(row[3])
+            if not has_row(program, case)
+        ]
         if gone:
             # A test may move at any time, and what the page says of it is no reason to refuse the change.
             self.skipTest(f"the index of docs/RULES.md names tests that are gone: {'; '.join(gone)}")
@@ -122,10 +154,15 @@ class Documents(unittest.TestCase):
                 folder = (CRATES / name).parent if "/" in name else folder
                 code.add(folder / pathlib.Path(name).name)
             gone += [f"{row[0]}: {file.name}" for file in code if not file.is_file()]
-            crate, edit, gate = re.fullmatch(r"`(\w+)/(\w+)`( \(gate\))?", row[4]).groups()
+            crate, edit, gate = re.fullmatch(r"`(?:(\w+)/)?(\w+)`( \(gate\))?", row[4]).groups()
+            crate = crate or re.match(r"`(\w+)/", row[2])[1]
             file = (CRATES / crate / "must-fail" if gate else EDITS / crate) / f"{edit}.edit"
             changed = re.findall(r"^file: (.*)$", file.read_text(), re.M) if file.is_file() else []
-            gone += [] if code & {CRATES / crate / name for name in changed} else [f"{row[0]}: {crate}/{edit} changes none of its code"]
+            gone += (
+                []
+                if code & {CRATES / crate / name for name in changed}
+                else [f"{row[0]}: {crate}/{edit} changes none of its code"]
+            )
         if gone:
             # As above: code may be cut anew at any time.
             self.skipTest(f"the index of docs/RULES.md names code or edits that are gone: {'; '.join(gone)}")
@@ -134,19 +171,25 @@ class Documents(unittest.TestCase):
         text = (DOCS / "TESTS.md").read_text()
         rows = [row.split(" | ") for row in re.findall(r"^\| (`.*) \|$", text[text.index(TRIED):], re.M)]
         text = (common.TOP / "crates.txt").read_text()
-        crates = re.findall(r"(?m)^(\w+):", text[:text.index("\n# tests\n")])
-        gone = [] if [row[0].strip("`") for row in rows] == crates else ["its crates are not those of crates.txt, in their order"]
-        for crate, *tests, edit in rows:
-            for file, name in re.findall(r"`([\w/]+\.rt)` `(\w+)`", " ".join(tests)):
-                file = CRATES / file if "/" in file else CRATES / "shell_tests" / "src" / "examples" / file
-                gone += [] if file.is_file() and f"fn {name}(" in file.read_text() else [f"{crate}: {name}"]
-            gone += [f"{crate}: {program} {case}" for program, case in rows_named(" ".join(tests)) if not has_row(program, case)]
-            for name, gate in re.findall(r"`(\w+)`( \(gate\))?", edit):
-                place = CRATES / crate.strip("`") / "must-fail" if gate else EDITS / crate.strip("`")
-                gone += [] if (place / f"{name}.edit").is_file() else [f"{crate}: {name}"]
+        crates = re.findall(r"(?m)^(\w+):", text[: text.index("\n# tests\n")])
+        is_whole = [row[0].strip("`") for row in rows] == crates
+        gone = [] if is_whole else ["its crates are not those of crates.txt, in their order"]
+        for crate, test in rows:
+            for file, name in re.findall(r"`([\w/]+\.rt)` `(\w+)`", test):
+                gone += [] if f"fn {name}(" in text_of(CRATES / file) else [f"{crate}: {name}"]
+            gone += [f"{crate}: {program} {case}" for program, case in rows_named(test) if not has_row(program, case)]
         if gone:
             # As above.
             self.skipTest(f"docs/TESTS.md does not say where each crate is tried: {'; '.join(gone)}")
+
+    def test_each_crate_with_code_has_an_edit(self):
+        tests = ("_laws", "base_tests", "reader_tests", "shell_tests")
+        names = [it.parent.parent.name for it in CRATES.glob("*/src/lib.rt")]
+        gone = [it for it in names if it not in NO_EDITS and not it.endswith(tests) and not
+                [*(EDITS / it).glob("*.edit"), *(CRATES / it / "must-fail").glob("*.edit")]]
+        if gone:
+            # As above.
+            self.skipTest(f"no edit that must be refused makes these crates wrong: {' '.join(gone)}")
 
     def test_edits_that_must_be_refused_apply(self):
         edits = [*CRATES.glob("*/must-fail/*"), *EDITS.glob("*/*")]

@@ -96,7 +96,10 @@ class Tries(unittest.TestCase):
         text = try_edits.without_bodies(EDITS, "src/edits.rt", homes, {"edits::sum"})
         self.assertEqual(text, EDITS.replace("self.rows.first()", "unreachable!()"))
         short = "pub fn discard(self) {}\n\nfn two(\n    a: u8,\n) -> u8 {\n    a\n}\n\nfn three() -> u8;\n"
-        bare = "pub fn discard(self) {\n    unreachable!()\n}\n\nfn two(\n    a: u8,\n) -> u8 {\n    unreachable!()\n}\n\nfn three() -> u8;\n"
+        bare = (
+            "pub fn discard(self) {\n    unreachable!()\n}\n\nfn two(\n    a: u8,\n) -> u8 {\n   "
+            " unreachable!()\n}\n\nfn three() -> u8;\n"
+        )
         self.assertEqual(try_edits.without_bodies(short, "src/edits.rt", homes, set()), bare)
 
     def test_a_kept_proof_is_of_the_sources_with_its_contracts_and_proofs(self):

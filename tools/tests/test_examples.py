@@ -30,8 +30,15 @@ class Pages(unittest.TestCase):
 
     def run_blocks(self, commands, folder):
         """What a shell prints for these blocks of commands, one after the other."""
-        ran = subprocess.run(["bash", "-c", "\n".join(commands)], cwd=self.top / folder, stdin=subprocess.DEVNULL, capture_output=True, text=True,
-                             check=False, env={**os.environ, "PYTHONDONTWRITEBYTECODE": "1"})
+        ran = subprocess.run(
+            ["bash", "-c", "\n".join(commands)],
+            cwd=self.top / folder,
+            stdin=subprocess.DEVNULL,
+            capture_output=True,
+            text=True,
+            check=False,
+            env={**os.environ, "PYTHONDONTWRITEBYTECODE": "1"},
+        )
         self.assertEqual(ran.stderr, "")
         return ran.stdout
 
@@ -96,18 +103,24 @@ class Pages(unittest.TestCase):
                 self.assertIn(block + "\n", out)
         self.assertIn("1 1 accepted\n2 1 endpoint 88.058\n", out)
         self.assertIn("\nreplace_cell _140_ INVX2\n", out)
-        self.assertEqual(blocks(EXAMPLES / "README.md")[3], (EXAMPLES / "pulse-width" / "report.eco").read_text().split("\n", 1)[1].strip())
+        self.assertEqual(
+            blocks(EXAMPLES / "README.md")[3],
+            (EXAMPLES / "pulse-width" / "report.eco").read_text().split("\n", 1)[1].strip(),
+        )
 
     @unittest.skipUnless(LIBRARY.exists(), "no library for examples/pulse-width: apt-get install qflow-tech-osu018")
     def test_scripts_page(self):
         shutil.copy(LIBRARY, self.top / "examples" / "pulse-width")
-        self.check_scripts_page("pulse-width", "osu018_stdcells.lib osu018_stdcells.lib netlist.v pulse_width.sdc netlist.spef")
+        self.check_scripts_page(
+            "pulse-width", "osu018_stdcells.lib osu018_stdcells.lib netlist.v pulse_width.sdc netlist.spef"
+        )
 
     def test_scripts_page_of_drafts(self):
         self.check_scripts_page("closing-setup", "sizes.lib sizes.lib accumulator.v accumulator.sdc accumulator.spef")
 
     def check_scripts_page(self, name, documents):
-        """The rows of docs/SCRIPTS.md are those of its commands, behind "Of `examples/NAME`" on the documents of that example."""
+        """The rows of docs/SCRIPTS.md are those of its commands, behind "Of `examples/NAME`" on the documents of that
+        example."""
         parts = re.split(r"(?m)^Of `examples/([\w-]+)`:\n", (common.TOP / "docs" / "SCRIPTS.md").read_text())
         for example, text in zip(parts[1::2], parts[2::2]):
             for block in re.findall(r"^```\n(.*?)\n```", text, re.S | re.M):

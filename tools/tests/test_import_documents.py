@@ -37,6 +37,47 @@ def cell_of(text, name):
     return re.sub(r"\s+", " ", text.partition(f'cell ("{name}")')[2].partition("  cell (")[0])
 
 
+# What a library has in the place of other words, and what the import says of it.
+BAD_LIBRARIES = (
+    ('"1ps";', '"1ps"; slew_derate_from_library : x;', "cells.lib:1: slew_derate_from_library is no number: x"),
+    ("(1, ff)", "(1, xx)", "cells.lib:1: the library has no capacitive_load_unit"),
+    ('"1ps"', '"1 hour"', "cells.lib:1: the time unit 1 hour is not read"),
+    (
+        'values ("10, 30"); } cell_fall',
+        'values ("10"); } cell_fall',
+        "cells.lib:5: cell_rise of Z has 1 values, and its template asks for 2",
+    ),
+    (
+        'values ("10, 30"); } cell_fall',
+        'values ("10, x"); } cell_fall',
+        "cells.lib:5: an entry of cell_rise of Z is no number: x",
+    ),
+    ("cell_rise (ld)", "cell_rise (lx)", "cells.lib:5: the table template lx is not there"),
+    (
+        "direction : output; timing",
+        "direction : inout; timing",
+        "cells.lib:7: the cell DFF cannot be read: its pin Q is an inout",
+    ),
+    ("library (small)", "libraries (small)", "cells.lib:1: this is no library (Liberty)"),
+    (
+        " cell (BUF) {",
+        " cell (BUF) { {",
+        "cells.lib:7: cell (DFF) begins inside the group cell (BUF) of line 3: a closing bracket is missing",
+    ),
+    (
+        "} } } }\n cell (DFF)",
+        "} } }\n cell (DFF)",
+        "cells.lib:7: cell (DFF) begins inside the group cell (BUF) of line 3",
+    ),
+    ('values ("10"); } } } } }', 'values ("10"); } } } } } }', "cells.lib:13: the library ends before"),
+    (
+        "library (small) {",
+        "library (small) { delay_model : polynomial;",
+        "the delay model polynomial is not read",
+    ),
+)
+
+
 class Libraries(Project):
     def test_two_libraries_in_two_units(self):
         self.write({"nano.lib": NANO, "top.v": common.NETLIST.replace("DFF r2", "REG r2")})
@@ -162,44 +203,7 @@ class Libraries(Project):
                 self.assertIn(said, errors)
 
     def test_libraries_that_cannot_be_read(self):
-        for old, new, said in (
-            ('"1ps";', '"1ps"; slew_derate_from_library : x;', "cells.lib:1: slew_derate_from_library is no number: x"),
-            ("(1, ff)", "(1, xx)", "cells.lib:1: the library has no capacitive_load_unit"),
-            ('"1ps"', '"1 hour"', "cells.lib:1: the time unit 1 hour is not read"),
-            (
-                'values ("10, 30"); } cell_fall',
-                'values ("10"); } cell_fall',
-                "cells.lib:5: cell_rise of Z has 1 values, and its template asks for 2",
-            ),
-            (
-                'values ("10, 30"); } cell_fall',
-                'values ("10, x"); } cell_fall',
-                "cells.lib:5: an entry of cell_rise of Z is no number: x",
-            ),
-            ("cell_rise (ld)", "cell_rise (lx)", "cells.lib:5: the table template lx is not there"),
-            (
-                "direction : output; timing",
-                "direction : inout; timing",
-                "cells.lib:7: the cell DFF cannot be read: its pin Q is an inout",
-            ),
-            ("library (small)", "libraries (small)", "cells.lib:1: this is no library (Liberty)"),
-            (
-                " cell (BUF) {",
-                " cell (BUF) { {",
-                "cells.lib:7: cell (DFF) begins inside the group cell (BUF) of line 3: a closing bracket is missing",
-            ),
-            (
-                "} } } }\n cell (DFF)",
-                "} } }\n cell (DFF)",
-                "cells.lib:7: cell (DFF) begins inside the group cell (BUF) of line 3",
-            ),
-            ('values ("10"); } } } } }', 'values ("10"); } } } } } }', "cells.lib:13: the library ends before"),
-            (
-                "library (small) {",
-                "library (small) { delay_model : polynomial;",
-                "the delay model polynomial is not read",
-            ),
-        ):
+        for old, new, said in BAD_LIBRARIES:
             with self.subTest(new):
                 self.write({"cells.lib": common.LIBRARY.replace(old, new)})
                 status, errors = self.run_import()

@@ -77,6 +77,7 @@ CASES = {
     "an input port": "set_disable_timing [get_ports c]\n",
     "a driving cell": "set_driving_cell -lib_cell BUF [get_ports {a c}]\nset_driving_cell -lib_cell INV "
     "-input_transition_rise 33 -input_transition_fall 44 [get_ports d]\n",
+    "a driving cell behind a transition": "set_driving_cell -lib_cell BUF [get_ports c]\n",
     "a driving cell by its pins": "set_driving_cell -lib_cell NAND2 -from_pin A -pin Y [get_ports {a d}]\n",
     "a driving cell with derates": "set_driving_cell -lib_cell BUF [get_ports {a c}]\nset_timing_derate -early "
     "0.9\nset_timing_derate -late 1.2\n",
@@ -91,6 +92,85 @@ IDEAL_CASES = {
     "an ideal clock that is selected": "set_case_analysis 0 [get_ports sel]\nset_clock_uncertainty -setup 12 "
     "[all_clocks]\n",
 }
+# What is asked of fan-ins and fan-outs; the same constraints write the names that they get, in both timers.
+TELL = """proc tell {found} {
+  set names {}
+  foreach it $found { lappend names [get_full_name $it] }
+  set out [open names a]
+  puts $out [lsort -unique $names]
+  close $out
+}
+"""
+FANS = {
+    "modes": """fanin -to [get_pins r2/D]
+fanin -to [get_pins r2/D] -startpoints_only
+fanin -to [get_ports z]
+fanin -to [get_ports {z w}] -startpoints_only
+fanin -to [get_pins {r2/Q r2/CK}]
+fanin -to [get_nets n3]
+fanin -to [get_nets n3] -trace_arcs timing -only_cells
+fanin -to [get_ports z] -trace_arcs all
+fanout -from [get_pins r1/Q]
+fanout -from [get_pins r1/Q] -endpoints_only
+fanout -from [get_ports clk]
+fanout -from [get_ports clk] -endpoints_only
+fanout -from [get_pins {r2/CK r2/D}]
+fanout -from [get_nets n1]
+fanout -from [get_ports sel] -only_cells
+fanout -from [get_pins g8/A] -endpoints_only
+fanout -from [get_pins r4/Q] -trace_arcs all""",
+    "blocks": """fanin -flat -to [get_ports out[1]]
+fanin -flat -to [get_ports par]
+fanin -flat -to [get_pins u2/r1/D] -startpoints_only
+fanout -flat -from [get_ports clk]
+fanout -flat -from [get_ports in[1]] -endpoints_only""",
+    "macro": """fanin -to [get_ports ok]
+fanin -to [get_pins ram/D[1]] -startpoints_only
+fanout -from [get_ports clk] -endpoints_only
+fanout -from [get_pins ram/CK]
+fanin -to [get_pins ram/Q[1]]""",
+}
+LIVE = (
+    "",
+    "set_case_analysis 0 [get_ports sel]\nset_disable_timing -from A -to Y [get_cells g1]\n",
+    "set_disable_timing [get_pins g4/A]\nset_disable_timing [get_ports c]\nset_case_analysis 1 [get_pins g1/B]\n",
+    "set_disable_timing -from B -to Y [get_lib_cells */XOR2]\nset_disable_timing [get_cells g4]\n",
+)
+
+
+@needs_opensta
+@unittest.skipUnless(shutil.which("yosys"), "no yosys is here: apt-get install yosys")
+class FansAgainstOpenSta(unittest.TestCase):
+    def setUp(self):
+        self.folder = pathlib.Path(tempfile.mkdtemp())
+        self.addCleanup(shutil.rmtree, self.folder)
+
+    def names(self, design, more):
+        """The names that each timer gets for each question about a design."""
+        case = import_designs.MAKERS[design](self.folder / design)
+        told = case.folder / "names"
+        asked = "".join(f"tell [get_{it}]\n" for it in FANS[design].splitlines())
+        sdc = case.folder / case.sdc
+        base, tell = BASE if design == "modes" else sdc.read_text(), TELL.replace("names a", f"{told} a")
+        sdc.write_text(base + more + tell + asked)
+        import_check.opensta(case, "")
+        theirs = told.read_text().splitlines()
+        told.unlink()
+        import_check.imported(case)
+        ours = told.read_text().splitlines()
+        shutil.rmtree(case.folder)
+        # Of cells OpenSTA also gives the design itself, which has no name.
+        return [it.removeprefix("{}").strip() for it in theirs], ours
+
+    def test_fans(self):
+        for design, asked in FANS.items():
+            for more in LIVE if design == "modes" else LIVE[:1]:
+                theirs, ours = self.names(design, more)
+                self.assertEqual(len(theirs), len(asked.splitlines()))
+                self.assertGreater(max(map(len, theirs)), 50)
+                for question, one, other in zip(asked.splitlines(), theirs, ours, strict=True):
+                    with self.subTest(question, more=more):
+                        self.assertEqual(one, other)
 
 
 @needs_opensta

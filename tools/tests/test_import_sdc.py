@@ -18,6 +18,13 @@ NETLIST = """module top (clk, d, e, q, v);
  BUF g3 (.A(d[2]), .Z(v[1]));
 endmodule
 """
+
+
+def names(line):
+    """The words of a line without their order."""
+    return sorted(line.replace("{", " ").replace("}", " ").split())
+
+
 VIRTUAL = "create_clock -name io -period 50\n"
 
 
@@ -79,6 +86,59 @@ class Objects(Constraints):
         ):
             with self.subTest(words):
                 self.assertEqual(self.false_path(words), [f"set_false_path {line}"])
+
+    def test_fans(self):
+        """Each answer follows from the definition: back to ports and clock pins, on to ports and data pins."""
+        for words, line in (
+            ("-to [all_fanin -to core/r2/D]", "-to [get_pins {core/r2/D g1/Z g1/A r1/Q r1/CK}]"),
+            ("-from [all_fanin -to core/r2/D -startpoints_only -flat]", "-from [get_pins {r1/CK}]"),
+            ("-to [all_fanout -from r1/Q -endpoints_only]", "-to [get_pins {core/r2/D}]"),
+            ("-from [all_fanin -to v[0] -startpoints_only]", "-from [get_pins {core/r3/CK}]"),
+            ("-from [all_fanin -to [get_nets v[1]] -startpoints_only]", "-from [get_ports {d[2]}]"),
+            ("-to [all_fanin -to core/r2/D -only_cells]", "-to [get_cells {core/r2 g1 r1}]"),
+            ("-from [all_fanout -clock_tree -endpoints_only]", "-from [get_pins {core/r3/CK core/r2/CK r1/CK}]"),
+        ):
+            with self.subTest(words):
+                found = self.false_path(words)
+                self.assertEqual([names(it) for it in found], [names(f"set_false_path {line}")])
+
+    def test_a_fan_by_constants(self):
+        case = "set_case_analysis 1 e\n"
+        asked = "set_false_path -from [all_fanin -to v[0] -startpoints_only {}] -to v[0]\n"
+        self.assertIn("[get_pins {core/r3/CK}]", self.sdc_lines(case + asked.format(""))[0])
+        stopped = "set_case_analysis 1 core/r3/Q\n"
+        self.assertIn("-from [get_pins {g2/Z}]", self.sdc_lines(stopped + asked.format(""))[0])
+        self.assertIn("[get_pins {core/r3/CK}]", self.sdc_lines(stopped + asked.format("-trace_arcs all"))[0])
+
+    def test_fans_that_are_not_read(self):
+        for text, said in (
+            ("all_fanin -to v[0] -levels 2", "all_fanin -levels is not read"),
+            ("all_fanout -from e -pin_levels 2", "all_fanout -pin_levels is not read"),
+            ("all_fanin -to v[0] -trace_arcs enabled", "all_fanin -trace_arcs takes one of timing, all"),
+            ("all_fanin -from e", "all_fanin -from is not read"),
+            ("all_fanout", "all_fanout needs -from"),
+            ("all_inputs -edge_triggered", "all_inputs -edge_triggered is not read"),
+        ):
+            with self.subTest(text):
+                self.assertIn(f"import: top.sdc:4: {said}", self.refusal(f"\nset found [{text}]\n"))
+
+    def test_ports_of_a_clock(self):
+        """Those that have a delay against the clock at that line."""
+        text = (
+            VIRTUAL + "set_input_delay 9 -clock clk {e d[1]}\nset_input_delay 4 -clock io d[0]\n"
+            "set_output_delay 3 -clock io q\n"
+        )
+        for getter, port in (
+            ("all_inputs -clock clk", "e d[1]"),
+            ("all_inputs -clock [get_clocks io]", "d[0]"),
+            ("all_inputs -clock *", "e d[1] d[0]"),
+        ):
+            lines = self.sdc_lines(f"{text}set_input_transition 7 [{getter}]\n")
+            found = next(it for it in lines if it.startswith("set_input_transition"))
+            self.assertEqual(sorted(found.partition("{")[2].removesuffix("}]").split()), sorted(port.split()))
+        self.assertIn("set_load 2 [get_ports {q}]", self.sdc_lines(f"{text}set_load 2 [all_outputs -clock io]\n"))
+        lines = self.sdc_lines(f"set_load 2 [all_outputs -clock clk]\n{text}")
+        self.assertEqual([it for it in lines if "set_load" in it], [])
 
     def test_an_end_of_several_kinds(self):
         lines = self.false_path(
@@ -321,6 +381,10 @@ class Timing(Constraints):
             lines, ["set_input_transition 7 [get_ports {e}]", "set_input_delay -clock clk 22 [get_ports {e}]"]
         )
 
+    def test_a_driving_cell_behind_a_transition_counts(self):
+        lines = self.sdc_lines("set_input_transition 50 e\nset_driving_cell -lib_cell BUF e\n")
+        self.assertEqual(lines, ["set_input_transition 7 [get_ports {e}]"])
+
     def test_what_changes_slacks_is_refused(self):
         for text, kind in (
             ("create_generated_clock -name g -source clk -divide_by 2 [get_pins r1/Q]", "create_generated_clock"),
@@ -348,6 +412,7 @@ class Timing(Constraints):
             ("set_data_check -from r1/D -to r1/D 1", "set_data_check"),
             ("set_false_path -from [get_ports clk]", "from-clock-port"),
             ("set_driving_cell -lib_cell DFF e", "driving-cell"),
+            ("set_driving_cell -lib_cell BUF e; set_input_transition 3 e", "transition-beside-drive"),
             ("create_clock -name c2 -period 90 -waveform {0 10 20 30}", "waveform"),
             ("set_clock_latency -source 3 clk; create_clock -period 100 -name c2 e", "latency"),
         ):

@@ -1,9 +1,9 @@
 """The map of the crates, and what an auditor has to read: the pages have what the scripts of dev/ find."""
-import re
 import sys
 import unittest
 
 import common
+from lizdrog_dev import crate_map
 
 DEV, DOCS = common.TOP / "dev", common.TOP / "docs"
 # Groups of crates.txt on whose words the top call may rest. No engine, graph, path or store crate is among them.
@@ -34,16 +34,22 @@ class Map(unittest.TestCase):
         self.assertEqual((status, errors), (0, ""))
 
     def test_page_has_the_map(self):
-        self.assertIn(script("crate_map")[1], (DOCS / "ARCHITECTURE.md").read_text())
-
-    def test_table_and_file_agree(self):
-        """The table of the page has the groups and crates of crates.txt, in their order."""
+        """The table of the page has the groups, levels and crates of crates.txt, in their order, and says something of
+        each."""
+        crates = crate_map.read_crates((common.TOP / "crates.txt").read_text())
         text = (DOCS / "ARCHITECTURE.md").read_text()
-        rows, group = [], None
-        for head, crate in re.findall(r"^\| (?:\*\*([^|*]+)\*\*)? \|[^|]*\| `(\w+)` \|", text, re.M):
-            group = head or group
-            rows.append((crate, group))
-        self.assertEqual(rows, [(crate, group) for crate, group in groups().items() if group != "tests"])
+        self.assertEqual(crate_map.with_table(crates, text), text)
+        said = dict(crate_map.SAID.findall(text))
+        self.assertEqual(list(said), [crate for crate, group in groups().items() if group != "tests"])
+        self.assertTrue(all(said.values()), said)
+
+    def test_a_table_is_made_of_the_file(self):
+        crates = crate_map.read_crates("# base\nsta_units:\nnew: sta_units\n# tests\nbase_tests: new\n")
+        text = "| Group | Level | Crate | What it does |\n|---|---|---|---|\n| x | 7 | `new` | says it |\n\nMore.\n"
+        made = crate_map.with_table(crates, text)
+        self.assertIn("| **base** | 0 | `sta_units` | Units and numbers", made)
+        self.assertIn("| | 1 | `new` | says it |\n\nMore.\n", made)
+        self.assertNotIn("base_tests", made)
 
     def test_change_of_a_crate(self):
         status, out, _ = script("crate_map", "shell_session")
@@ -62,8 +68,10 @@ class Audit(unittest.TestCase):
         others = {(crate, name) for crate, name in words if of[crate] not in READ_GROUPS and crate not in READ_CRATES}
         self.assertLessEqual(others, KNOWN_WORDS)
 
-    def test_page_has_the_counts(self):
-        self.assertIn(script("audit_words")[1], (DOCS / "GUARANTEE.md").read_text())
+    def test_page_has_the_sum(self):
+        total = script("audit_words")[1].splitlines()[-1]
+        self.assertRegex(total, r"^\d{4} words, \d{4} lines in \d\d crates$")
+        self.assertIn(f"**{total}**", (DOCS / "GUARANTEE.md").read_text())
 
     def test_clauses_are_listed(self):
         out = script("clause_names", "shell_session")[1]

@@ -14,9 +14,10 @@ from unittest import mock
 
 import browser
 import common
+from lizdrog_tools.corners.merge import CornerAnswers, answers_of
 from lizdrog_tools.liberty import parse_library
 from lizdrog_tools.read_answers import Edited, Row
-from lizdrog_tools.reporting import clocks, command, drawing, histogram, path_picture, paths
+from lizdrog_tools.reporting import clocks, command, drawing, histogram, path_picture, paths, replay
 from lizdrog_tools.verilog import parse_netlist
 
 needs_jinja2 = unittest.skipUnless(importlib.util.find_spec("jinja2"), "no Jinja2: apt-get install python3-jinja2")
@@ -106,7 +107,8 @@ class Clocks(unittest.TestCase):
         # From rise to rise of one clock a period; from its rise to its fall half of it.
         self.assertEqual([clocks.separation((a, "rise"), (a, it), "setup") for it in ("rise", "fall")], [4000, 2000])
         self.assertEqual([clocks.separation((a, "rise"), (a, it), "hold") for it in ("rise", "fall")], [0, -2000])
-        # a rises at 0, 4, 8 and b at 1, 7, 13: the least positive time is from 0 to 1; hold is 2 less, the common period.
+        # a rises at 0, 4, 8 and b at 1, 7, 13: the least positive time is from 0 to 1; hold is 2 less, the common
+        # period.
         self.assertEqual([clocks.separation((a, "rise"), (b, "rise"), it) for it in ("setup", "hold")], [1000, -1000])
         self.assertEqual(clocks.separation((b, "rise"), (a, "rise"), "setup"), 1000)
 
@@ -314,6 +316,77 @@ STEPS = """
   seen.stages = document.querySelector("#path-1 table.stages").tBodies[0].rows.length - 1;
   return seen;
 """
+
+
+class Replays(unittest.TestCase):
+    ECOS = [["repower_gate g1 A"], ["repower_gate g1 B"]]
+    ASKED = "report_wns setup\nreport_tns setup\n" + "".join(f"report_endpoint {it} setup\n" for it in "abc")
+
+    def corner(self, name, *designs, first=0, ecos=None):
+        """A corner that answers each design by wns, tns and the slacks of a, b and c."""
+        ecos = self.ECOS if ecos is None else ecos
+        script, lines = self.ASKED, []
+        for number, slacks in enumerate(designs, first):
+            if number > first:
+                script += f"begin_eco\n{ecos[number - first - 1][0]}\ncommit_eco\n{self.ASKED}"
+                lines.append([str(number), "accepted"])
+            lines += [[str(number), *it] for it in zip(["wns", "tns", *["endpoint"] * 3], slacks.split(), strict=True)]
+        rows = [Row([str(at), *it], []) for at, it in enumerate(lines, 1)]
+        output = mock.Mock(first=first, ecos=ecos, final=[name])
+        job = mock.Mock(corner=name)
+        return CornerAnswers(job, mock.Mock(), answers_of(script, rows, 1), output)
+
+    def test_what_each_eco_changed(self):
+        after = "-3.000 -5.000 1.500 -3.000"
+        slow = self.corner("slow", "-5.000 -7.000 -5.000 -2.000 none", f"{after} none", f"{after} 9.000")
+        fast = self.corner("fast", *(f"1.000 0.000 1.000 {it}.000 none" for it in (7, 8, 8)))
+        both = {"slow": self.ECOS, "fast": self.ECOS}
+        made = replay.Replay([slow, fast], both, {"slow": ["slow"], "fast": ["fast"]})
+        self.assertEqual([made.has(it) for it in range(4)], [False, True, True, False])
+        self.assertEqual(list(made.totals(1)), ["slow setup: worst -5.000 → -3.000, total -7.000 → -5.000"])
+        # Over both corners a goes from -5 to 1, where the fast one is worst, and b from -2 to -3.
+        self.assertEqual(made.moved(1), ["a setup -5.000 → 1.000 (+6.000)", "b setup -2.000 → -3.000 (-1.000)"])
+        self.assertEqual((list(made.totals(2)), made.moved(2)), ([], []))
+
+    def test_ecos_of_another_list(self):
+        slow = self.corner("slow", "0 0 1 2 3", "0 0 1 2 3", first=1, ecos=self.ECOS[1:])
+        self.assertTrue(replay.Replay([slow], {"slow": self.ECOS}, {"slow": ["slow"]}).has(2))
+        for saved in (self.ECOS[:1], self.ECOS[::-1], [*self.ECOS, ["remove_gate g1"]]):
+            self.assertFalse(replay.Replay([slow], {"slow": saved}, {"slow": ["slow"]}).has(2))
+        # The answers of the page end with other slacks: of other documents, say.
+        self.assertFalse(replay.Replay([slow], {"slow": self.ECOS}, {"slow": ["other"]}).has(2))
+
+
+@needs_jinja2
+@common.needs_program
+class PageOfEcos(unittest.TestCase):
+    """What each ECO changed: the numbers are those of runs by hand."""
+
+    def test_a_list_of_two(self):
+        with tempfile.TemporaryDirectory() as name:
+            folder = pathlib.Path(name) / "four-corners"
+            for it in ("four-corners", "closing-setup"):
+                left_out = shutil.ignore_patterns("*.results")
+                shutil.copytree(common.TOP / "examples" / it, folder.parent / it, ignore=left_out)
+            edits = ["repower_gate carry_2 NAND2_X2", "repower_gate carry_3 NAND2_X2"]
+            (folder / "ecos.list").write_text("\n".join(edits) + "\n")
+            words = ["design.toml", "--program", common.PROGRAM, "--ecos", "--quiet"]
+            self.assertEqual(common.tool("corners", *words, cwd=folder)[0], 0)
+            self.assertEqual(common.tool("report", "design.toml", "--out", "page.html", cwd=folder), (0, "", ""))
+            page = (folder / "page.html").read_text(encoding="utf-8")
+            asked = "report_wns setup\nreport_endpoint sum_5:D setup\n"
+            (folder / "s.eco").write_text(asked + "".join(f"{it}\n{asked}" for it in edits))
+            library, netlist = "../closing-setup/sizes.lib", "../closing-setup/accumulator.v"
+            documents = [library, library, netlist, "functional.sdc", "cmax.spef"]
+            out = common.run(common.PROGRAM, "run", *documents, "1", "s.eco", cwd=folder)[1]
+            slacks = [it.split()[3] for it in out.splitlines() if it.split()[2:3] in (["wns"], ["endpoint"])]
+        self.assertEqual(len(slacks), 6)
+        for number in (1, 2):
+            before, after = slacks[2 * number - 2 : 2 * number], slacks[2 * number : 2 * number + 2]
+            row = page.partition(f'<tr><td class="amount">{number}</td><td style')[2].partition("</tr>")[0]
+            self.assertIn(f"slow_cmax setup: worst {before[0]} → {after[0]}", row)
+            self.assertIn(f"sum_5:D setup {before[1]} → {after[1]} (", row)
+            self.assertIn(f"{edits[number - 1].split()[1]}: NAND2_X1 becomes NAND2_X2", row)
 
 
 @needs_jinja2

@@ -11,7 +11,10 @@ from lizdrog_tools import read_answers
 
 EXAMPLE = common.TOP / "examples" / "two-engineers"
 ONE = "report_wns setup\nrepower_gate g1 BUF\nreport_wns setup\n"
-TWO = "repower_gate g1 BUFX\nbegin_eco\nremove_gate b1\nremove_gate b2\ncommit_eco\nawait 2 10\ntake\nreport_path q setup\n"
+TWO = (
+    "repower_gate g1 BUFX\nbegin_eco\nremove_gate b1\nremove_gate b2\ncommit_eco\nawait 2 10\ntake\nreport_path q"
+    " setup\n"
+)
 OUTPUT = """journal 1 2
 entry 1 session 2 edits 2
 remove_gate b1
@@ -173,8 +176,14 @@ class Runs(unittest.TestCase):
         words = common.write_documents(self.folder)
         names = [f"s{number}.eco" for number in range(1, 17)]
         for number, name in enumerate(names):
-            made = f"insert_gate b{number // 2} BUF\nreport_worst setup 2\ntake\nreport_path r2:D setup\ninsert_buffer n2 x{number} m{number} BUF r2:D\nreport_wns hold\n"
-            tried = f"begin_what_if\ninsert_gate b{number // 2} BUF\nreport_path r2:D setup\nend_what_if\nadvise hold g1 BUF x{number} BUF\n"
+            made = (
+                f"insert_gate b{number // 2} BUF\nreport_worst setup 2\ntake\nreport_path r2:D setup\ninsert_buffer n2"
+                f" x{number} m{number} BUF r2:D\nreport_wns hold\n"
+            )
+            tried = (
+                f"begin_what_if\ninsert_gate b{number // 2} BUF\nreport_path r2:D setup\nend_what_if\nadvise hold g1"
+                f" BUF x{number} BUF\n"
+            )
             (self.folder / name).write_text((made + tried) * 2)
         output = self.check([*words[:7], *names], self.folder)
         self.assertGreaterEqual(len(output.ecos), 9)

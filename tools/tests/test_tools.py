@@ -91,7 +91,10 @@ class Answers(unittest.TestCase):
                                            "g1:Z\nreport_paths r1:D hold 2\nreport_wns setup\n")
         first, second = (
             "path setup r2:D slack -2.350 credit 0.000 from clk rise to clk rise nodes 1\nr2:D rise 97.350\n",
-            "path setup r2:D slack 1.000 credit 0.500 from clk rise to clk rise nodes 2\ng1:Z rise 90.000\nr2:D fall 94.000\n",
+            (
+                "path setup r2:D slack 1.000 credit 0.500 from clk rise to clk rise nodes 2\ng1:Z rise 90.000\nr2:D"
+                " fall 94.000\n"
+            ),
         )
         rows = f"1 0 paths 2\n{first}{second}2 0 {second}3 0 paths 0\n4 0 wns -2.350\n"
         (self.folder / "out").write_text(f"journal 1 0\nsession 1 rows 4\n{rows}final 0 setup -2.350 -2.350 hold none "
@@ -112,20 +115,27 @@ class Answers(unittest.TestCase):
                           ["path 2", "r2:D", "fall", "94.000"], ["path", "g1:Z", "rise", "90.000"],
                           ["path", "r2:D", "fall", "94.000"], ["paths", "none", "", ""], ["wns", "", "", "-2.350"]])
 
-    def test_drafts_and_advice(self):
+    def write_drafts(self):
+        """A script with a draft and advice, and its answers."""
         (self.folder / "s.eco").write_text("take\nbegin_what_if\n# slower\nrepower_gate g1 BUF\n  report_path r2:D "
                                            "setup\nbegin_eco\ninsert_net n9\ninsert_buffer n2 b1 n3 BUF "
                                            "r2:D\ncommit_eco\nreport_path r2:D setup\nreport_worst setup "
                                            "2\ndrop_last\n\nrepower_gate g1 NO\nreport_endpoint zz "
                                            "hold\ndrop_last\ndrop_last\nend_what_if\nadvise setup g1 BUF g2 "
                                            "BUF\nadvise hold g1 NO\nreport_wns setup\n")
-        path = "path setup r2:D slack {} credit 0.000 from clk rise to clk rise nodes 2\n{} rise 90.000\nr2:D fall 94.000\n"
+        path = (
+            "path setup r2:D slack {} credit 0.000 from clk rise to clk rise nodes 2\n{} rise 90.000\nr2:D fall"
+            " 94.000\n"
+        )
         rows = ["1 0 taken\n2 0 what_if 10\ntried\n", path.format("-2.350", "g1:Z"), "tried\n",
                 path.format("-3.000", "b1:Z"), "worst 2\nr2:D -3.000\nq 4.000\ndropped\n",
                 "refused E3 NO\nno Q1 zz\ndropped\nno_draft\n",
                 "3 0 advice g1 BUF -1.000\n4 0 advice none\n5 0 wns -2.350\n"]
         (self.folder / "out").write_text(f"journal 1 0\nsession 1 rows 5\n{''.join(rows)}final 0 setup -2.350 -2.350 "
                                          "hold none 0.000\n")
+
+    def test_drafts_and_advice(self):
+        self.write_drafts()
         lines = self.read().split("\n")
         self.assertEqual([it for it in lines if "->" in it], ["take -> taken (design 0)",
                                                               "begin_what_if (10 trials) -> 10 answers (design 0)",
@@ -147,6 +157,9 @@ class Answers(unittest.TestCase):
                                                               "advise hold g1 NO -> no resize (design 0)",
                                                               "report_wns setup -> -2.350 ps (design 0)"])
         self.assertIn("    -3.000 ps  r2:D", lines)
+
+    def test_drafts_and_advice_for_programs(self):
+        self.write_drafts()
         told = json.loads(self.read("--json", "--netlist", "top.v", "--library", "late.lib"))["rows"]
         answers = told[1]["answers"]
         self.assertEqual([(it["line"], it["answer"]) for it in answers][:4], [(4, "tried"), (5, "path"), (6, "tried"),

@@ -35,9 +35,9 @@ pub(crate) struct Weighed<'a> {
     pub(crate) carried: Option<CarriedTimes>,
 }
 
-/// More nodes than that are behind an ECO at the clock network, as a rule: few of its endpoints would keep their
-/// slacks, and no times are carried to them.
-const MOST_BEHIND: usize = 4096;
+/// So many nodes behind an ECO are more than a design has that is read: times are carried to all of fewer. To search the
+/// endpoints anew that would keep their slacks costs more than to carry times to nodes whose endpoints do not.
+const MOST_BEHIND: usize = 1 << 20;
 
 /// The times carried from the seeds of an ECO to the nodes behind them; none where these are many.
 fn carried_behind(

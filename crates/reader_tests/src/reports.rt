@@ -1,14 +1,16 @@
 //! Rows, journals and whole outputs in their exact bytes.
 
 use eco_journal::read_entries;
-use report_text::{journal_bytes, output_bytes, output_saved_bytes, report_bytes};
+use report_text::{
+    error_bytes, final_bytes, journal_bytes, output_bytes, output_saved_bytes, report_bytes,
+};
 use sta_units::Fs;
 use std::alloc::Global;
 use std::process::Abort;
 use timing_defs::{
-    Advice, Answer, Clock, Derates, EdgeTime, EndRow, Entry, Fault, Items, Kind, Large, Name, Path,
-    PathNode, Place, Query, QueryFault, Report, Row, Split, Totals, Tran, Transcript, TrialAnswer,
-    TrialRow,
+    Advice, Answer, Clock, Code, Derates, EdgeTime, EndRow, Entry, Fault, Items, Kind, Large, Name,
+    Path, PathNode, Place, Query, QueryFault, Report, Row, Split, Totals, Tran, Transcript,
+    TrialAnswer, TrialRow,
 };
 
 /// Refusals with one name.
@@ -714,4 +716,30 @@ fn an_output_goes_on_from_a_saved_journal(rt: HostRuntime) {
     drop(entries);
     drop(transcripts);
     drop(clocks);
+}
+
+/// The totals of a run whose rows were told one by one, and two wrong lines of its input.
+const TOLD_APART: &str = "error C1 7
+error C2 18446744073709551615
+final 2 setup -895.000 -9223372036854775.807 hold none 0.000
+";
+
+#[test]
+fn wrong_lines_and_totals_have_a_line_each(rt: HostRuntime) {
+    let alloc = rt.alloc();
+    let totals = Totals {
+        number: 2,
+        setup_wns: Some(Fs(-895_000)),
+        setup_tns: Fs(-i64::MAX),
+        hold_wns: None,
+        hold_tns: Fs(0),
+    };
+    let mut told = error_bytes(alloc, Code::ScriptBadCommand, 7).expect(&rt, "memory");
+    let long = error_bytes(alloc, Code::ScriptTooLong, u64::MAX).expect(&rt, "memory");
+    let last = final_bytes(alloc, &totals).expect(&rt, "memory");
+    told.extend_from_slice(long.as_slice())
+        .expect(&rt, "memory");
+    told.extend_from_slice(last.as_slice())
+        .expect(&rt, "memory");
+    assert_text(&rt, told.as_slice(), TOLD_APART);
 }

@@ -6,17 +6,22 @@
 //! - for each session `session S rows R` and its rows;
 //! - `final COUNT setup W T hold W T`, the worst slack and the total negative slack of both kinds.
 //!
+//! A session that is told each row by itself has these rows (`report_bytes`), and `error CODE LINE` for
+//! a wrong line of its input.
+//!
 //! Each call gives exactly the bytes of its definition, whatever its arguments are, and takes time
 //! linear in these bytes. Want of memory is the only error.
 #![tactic(auto)]
 
 mod drafts;
+mod errors;
 mod faults;
 mod outputs;
 mod pieces;
 mod reports;
 mod rows;
 
+pub use errors::error_bytes;
 pub use faults::fault_bytes;
-pub use outputs::{journal_bytes, output_bytes, output_saved_bytes};
+pub use outputs::{final_bytes, journal_bytes, output_bytes, output_saved_bytes};
 pub use rows::report_bytes;

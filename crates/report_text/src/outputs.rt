@@ -174,3 +174,18 @@ pub fn output_saved_bytes(
     push_final(&mut out, totals)?;
     Ok(out)
 }
+
+/// The bytes of the totals of a last version: `final COUNT setup W T hold W T`, the worst slack and the
+/// total negative slack of both kinds. They end an output, and are the last line of one that was
+/// written row by row.
+///
+/// # Errors
+///
+/// Want of memory alone.
+pub fn final_bytes(alloc: Global, totals: &Totals) -> Result<Vec<u8>, Memory>
+    ensures { IfOk result (λ bytes. bytes.items ≡ final_text totals.now) }
+{
+    let mut out = Vec::new(alloc);
+    push_final(&mut out, totals)?;
+    Ok(out)
+}

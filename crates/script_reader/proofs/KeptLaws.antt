@@ -1,6 +1,6 @@
 -- The ECOs and questions of a script that is read are as engines ask of them.
-use Rattle.std.proofs.Common.{◌≡◌, ℕ, ◌+◌, ◌*◌, ◌-◌, ◌≤◌, Bool, true, false, List, [], ◌∷◌, ◌++◌, length, drop, cond, refl, ap, subst, ◌∙◌, arith, length-append, length-drop}
-use Rattle.std.specs.Prelude.{Option, Some, None, option_map, option_and_then, Result, Ok, Err, IfOk, nat_le, codes, ◌==◌, ◌&&◌}
+use Rattle.std.proofs.Common.{◌≡◌, ℕ, ◌+◌, ◌*◌, ◌-◌, ◌≤◌, Bool, true, false, List, [], ◌∷◌, ◌++◌, length, drop, cond, refl, sym, ap, subst, ◌∙◌, arith, length-append, length-drop}
+use Rattle.std.specs.Prelude.{Option, Some, None, option_map, option_and_then, Result, Ok, Err, IfOk, nat_le, unwrap_or, codes, ◌==◌, ◌&&◌}
 use Rattle.std.specs.List.{list_all}
 use Rattle.std.proofs.lemmas.Bool.{cond_both, and_parts, and_from, le-leb, leb-true, false≢true}
 use Rattle.std.proofs.lemmas.Bool.Decides.{nat_tests}
@@ -34,28 +34,28 @@ use Rattle.script_reader.specs.Scripts.{Event, long, single, change, group_begin
 use Rattle.script_reader.specs.Answerable.{is_asked, is_answerable, are_answerable}
 
 -- a command by itself, as a line says it
-abbrev is_said : Command → Bool
+abbrev pub is_said : Command → Bool
 is_said (Ask q) = is_question q
 is_said (Change eco) = is_eco eco
 is_said Take = true
-is_said (Await number looks) = true
+is_said (Await number looks) = nat_le 1 looks
 
 -- commands by themselves and edits, as lines say them
-abbrev is_fine : Event → Bool
+abbrev pub is_fine : Event → Bool
 is_fine (single n command) = is_said command
 is_fine (change n e) = is_edit e
 is_fine e = true
 
-record AreFine (es : List Event) : Type 0 where
-  all : list_all is_fine es ≡ true
+pub record AreFine (es : List Event) : Type 0 where
+  pub all : list_all is_fine es ≡ true
 
-done : (es : List Event) → list_all is_fine es ≡ true → AreFine es
+pub done : (es : List Event) → list_all is_fine es ≡ true → AreFine es
 done es h = record { all = h }
 
 join : (es fs : List Event) → AreFine es → AreFine fs → AreFine (es ++ fs)
 join es fs h k = done (es ++ fs) (rw (list_all-append is_fine es fs) (rw (h.all, k.all) refl))
 
-pick : (b : Bool) (es fs : List Event) → AreFine es → AreFine fs → AreFine (cond b es fs)
+pub pick : (b : Bool) (es fs : List Event) → AreFine es → AreFine fs → AreFine (cond b es fs)
 pick b es fs h k = cond_both b es fs AreFine (λ _. h) (λ _. k)
 
 edit_fine : (n : ℕ) (r : Result Edit Stop) → ((e : Edit) → r ≡ Ok e → is_edit e ≡ true) → AreFine (edit_said n r)
@@ -67,10 +67,23 @@ abbrev IfSome : Option Command → Type 0
 IfSome None = Unit {0}
 IfSome (Some command) = is_said command ≡ true
 
-await_fine : (number looks : Option ℕ) → IfSome (awaited number looks)
-await_fine None looks = tt
-await_fine (Some number) None = tt
-await_fine (Some number) (Some looks) = refl
+-- a number within a range is one at least where the range begins there
+one_at_least : (high : ℕ) (o : Option ℕ) (n : ℕ) → within 1 high o ≡ Some n → nat_le 1 n ≡ true
+one_at_least high None n h = absurd (cc)
+one_at_least high (Some m) n h = by_cases (nat_le 1 m) refl h
+  where
+    by_cases : (b : Bool) → nat_le 1 m ≡ b → cond (b && nat_le m high) (Some m) None ≡ Some n → nat_le 1 n ≡ true
+    by_cases true e g = by_high (nat_le m high) g
+      where
+        by_high : (c : Bool) → cond c (Some m) None ≡ Some n → nat_le 1 n ≡ true
+        by_high true k = rw (sym (ap (λ (o : Option ℕ). unwrap_or o m) k)) e
+        by_high false k = absurd (cc)
+    by_cases false e g = absurd (cc)
+
+await_fine : (number looks : Option ℕ) → ((n : ℕ) → looks ≡ Some n → nat_le 1 n ≡ true) → IfSome (awaited number looks)
+await_fine None looks h = tt
+await_fine (Some number) None h = tt
+await_fine (Some number) (Some looks) h = h looks refl
 
 -- the questions are such as a script may ask
 abbrev IfAsked : Option Query → Type 0
@@ -207,7 +220,8 @@ command_fine words =
     (λ _. cond_both (length words == 1) (Some Take) None IfSome (λ _. refl) (λ _. tt))
     (λ _. cond_both (says words 0 (codes "await")) _ _ IfSome
     (λ _. cond_both (length words == 3) _ _ IfSome
-    (λ _. await_fine (within 0 18446744073709551615 (number_of (text words 1))) (within 1 1000 (number_of (text words 2)))) (λ _. tt))
+    (λ _. await_fine (within 0 18446744073709551615 (number_of (text words 1))) (within 1 1000 (number_of (text words 2)))
+    (λ n read. one_at_least 1000 (number_of (text words 2)) n read)) (λ _. tt))
     (λ _. asked_fine (query_of words) (query_fine words)))
 
 said_fine : (n : ℕ) (words : List Part) (command : Option Command) → IfSome command → AreFine (command_said n words command)
@@ -223,7 +237,7 @@ words_fine n words =
     (pick (is_alone words (codes "end_what_if")) _ _ (done (draft_end n ∷ []) refl)
     (pick (is_alone words (codes "drop_last")) _ _ (done (dropped n ∷ []) refl) (said_fine n words (command_of words) (command_fine words)))))))
 
-line_fine : (n : ℕ) (line : List ℕ) → AreFine (line_said n line)
+pub line_fine : (n : ℕ) (line : List ℕ) → AreFine (line_said n line)
 line_fine n line = pick (list_all is_ascii line) _ _ (words_fine n (words_in line)) (done (unknown n ∷ []) refl)
 
 long_fine : (n : ℕ) (line : List ℕ) → AreFine (too_long n line)
@@ -260,7 +274,7 @@ asked_said (Paths pin kind count) h = h
 asked_said (WhatIf' shape trials) h = h
 asked_said (Advise kind candidates) h = h
 
-trial_said : (q : Query) → is_question q ≡ true → is_plain q ≡ true → is_trial (ask_draft q) ≡ true
+pub trial_said : (q : Query) → is_question q ≡ true → is_plain q ≡ true → is_trial (ask_draft q) ≡ true
 trial_said (Slew pin split tran) h plain = refl
 trial_said (At pin split tran) h plain = refl
 trial_said (Rat pin split tran) h plain = refl
@@ -275,7 +289,7 @@ trial_said (Paths pin kind count) h plain = absurd (false≢true plain)
 trial_said (WhatIf' shape trials) h plain = absurd (false≢true plain)
 trial_said (Advise kind candidates) h plain = absurd (false≢true plain)
 
-answerable_said : (c : Command) → is_said c ≡ true → is_answerable c ≡ true
+pub answerable_said : (c : Command) → is_said c ≡ true → is_answerable c ≡ true
 answerable_said Take h = refl
 answerable_said (Await number looks) h = refl
 answerable_said (Ask q) h = asked_said q h
@@ -289,14 +303,14 @@ IsOpen (drafted begin trials) = (list_all is_trial trials ≡ true) × (length t
 IsOpen (tried begin trials group edits) =
     (list_all is_trial trials ≡ true) × (nat_le 100 (length trials) ≡ false) × (list_all is_edit edits ≡ true) × (length edits ≤ 1000)
 
-eco_made : (edits : List Edit) → 1 ≤ length edits → length edits ≤ 1000 → list_all is_edit edits ≡ true → is_eco (record { edits = edits }) ≡ true
+pub eco_made : (edits : List Edit) → 1 ≤ length edits → length edits ≤ 1000 → list_all is_edit edits ≡ true → is_eco (record { edits = edits }) ≡ true
 eco_made edits some few good = rw (le-leb 1 (length edits) some, le-leb (length edits) 1000 few, good) refl
 
 draft_counted : (trials : List Trial) → 1 ≤ length trials → length trials ≤ 100 → list_all is_trial trials ≡ true
     → (is_count 100 (length trials) && list_all is_trial trials) ≡ true
 draft_counted trials some few good = rw (le-leb 1 (length trials) some, le-leb (length trials) 100 few, good) refl
 
-draft_made : (trials : List Trial) → 1 ≤ length trials → length trials ≤ 100 → list_all is_trial trials ≡ true → is_answerable (what_if trials) ≡ true
+pub draft_made : (trials : List Trial) → 1 ≤ length trials → length trials ≤ 100 → list_all is_trial trials ≡ true → is_answerable (what_if trials) ≡ true
 draft_made trials some few good =
     ap (λ (xs : List Trial). is_count 100 (length xs) && list_all is_trial xs) (items_hidden-the_row-Trial-0 trials)
     ∙ draft_counted trials some few good
@@ -306,10 +320,10 @@ ended begin [] rest g = absurd (cc)
 ended begin (x ∷ xs) rest g = (omega arith, g)
 
 -- one more
-one_longer : {X : Type 0} (most : ℕ) (xs : List X) (x : X) → nat_le most (length xs) ≡ false → length (xs ++ x ∷ []) ≤ most
+pub one_longer : {X : Type 0} (most : ℕ) (xs : List X) (x : X) → nat_le most (length xs) ≡ false → length (xs ++ x ∷ []) ≤ most
 one_longer most xs x room = grind (arith, nat_tests, length-append xs (x ∷ []), room)
 
-all_longer : {X : Type 0} (good : X → Bool) (xs : List X) (x : X) → list_all good xs ≡ true → good x ≡ true → list_all good (xs ++ x ∷ []) ≡ true
+pub all_longer : {X : Type 0} (good : X → Bool) (xs : List X) (x : X) → list_all good xs ≡ true → good x ≡ true → list_all good (xs ++ x ∷ []) ≡ true
 all_longer good xs x h k = rw (list_all-append good xs (x ∷ [])) (rw (h, k) refl)
 
 -- a question that is no plain one has a fault in a draft

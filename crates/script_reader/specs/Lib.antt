@@ -4,3 +4,4 @@ pub mod Progress
 pub mod Answerable
 pub mod Live
 pub mod LivePlaces
+pub mod LiveKept

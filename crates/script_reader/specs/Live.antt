@@ -160,6 +160,13 @@ live_events n line = (if nat_le (length line) 65536 then line_said n line else l
 unfoldable pub live_line : LivePlace → ℕ → List ℕ → Behind
 live_line place n line = live_said place (live_events n line)
 
+-- the item that the next line of a session ends, and where the session stands behind it
+abbrev pub next_item : Reading → List ℕ → Option Item
+next_item r line = (live_line r.place (r.lines + 1) line).item
+
+abbrev pub behind_next : Reading → List ℕ → Reading
+behind_next r line = record { place = (live_line r.place (r.lines + 1) line).place; lines = r.lines + 1 }
+
 -- what the end of the lines makes wrong: a group or a draft that is open, at its begin
 unfoldable pub live_end : LivePlace → Option Item
 live_end (stands outside) = None

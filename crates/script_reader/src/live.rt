@@ -1,7 +1,8 @@
 //! A session that is read line by line.
 
-ghost use Rattle.std.specs.Prelude.{◌≡◌, ◌+◌, ◌<◌, ◌↔◌, IfOk, OnOk, IfErr};
-ghost use Rattle.script_reader.specs.Live.{beginning, live_line, live_end};
+ghost use Rattle.std.specs.Prelude.{◌≡◌, ◌<◌, ◌↔◌, IfOk, IfSome, OnOk, IfErr};
+ghost use Rattle.script_reader.specs.Live.{beginning, next_item, behind_next, live_end};
+ghost use Rattle.script_reader.specs.LiveKept.{CanBeAnswered};
 
 use crate::places::{Standing, Step, heard};
 use sta_text::Wrong;
@@ -43,12 +44,15 @@ impl Model for LiveReader {
     ghost use Rattle.timing_defs.specs.contracts.reports.Trial as trial;
     ghost use Rattle.script_reader.specs.Live.{Reading};
     ghost use Rattle.script_reader.specs.LivePlaces.{place_of};
+    ghost use Rattle.script_reader.specs.LiveKept.{IsKeptLive};
 
     ghost Value = { Reading };
 
     ghost coded = { Prim.hlevel (codes, trial.the_row.coded) };
 
     ghost view = { λ r. record { place = place_of r.place; lines = r.lines } };
+
+    ghost invariant = { λ r. IsKeptLive (place_of r.place) };
 }
 
 impl LiveReader {
@@ -69,15 +73,16 @@ impl LiveReader {
     /// this line is and that is empty; `C2` at the 1,001st edit of a group, the 101st trial of a draft,
     /// and a line above 65,536 bytes, whatever it says (so its first 65,537 bytes serve as well). What is
     /// left of a group or a draft behind a wrong line, up to its `commit_eco` or `end_what_if`, is passed
-    /// over and ends no item.
+    /// over and ends no item. A command is as engines answer it.
     ///
     /// # Errors
     ///
     /// `Uncounted` where 2^64 - 1 lines were read before, and only there; or want of memory. The reader
     /// is gone then: what the line said is not known, so nothing behind it may be read.
     pub fn line(self, alloc: Global, line: &[u8]) -> Result<Heard, Unread>
-        ensures item { IfOk result (λ heard. heard.item ≡ (live_line self.place (self.lines + 1) line.now).item) }
-        ensures reader { IfOk result (λ heard. heard.reader ≡ record { place = (live_line self.place (self.lines + 1) line.now).place; lines = self.lines + 1 }) }
+        ensures item { IfOk result (λ heard. heard.item ≡ next_item self line.now) }
+        ensures reader { IfOk result (λ heard. heard.reader ≡ behind_next self line.now) }
+        ensures kept { IfOk result (λ heard. IfSome heard.item CanBeAnswered) }
         ensures counted { OnOk result (self.lines < usize.MAX) }
         ensures cause { IfErr result (λ why. (why ≡ Unread.Uncounted) ↔ (self.lines ≡ usize.MAX)) }
     {

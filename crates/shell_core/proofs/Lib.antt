@@ -1,3 +1,4 @@
+pub mod DesignLaws
 pub mod JournalLaws
 pub mod ReadLemmas
 pub mod ScriptLaws

@@ -1,4 +1,5 @@
 pub mod Answers
+pub mod Designs
 pub mod Documents
 pub mod Kept
 pub mod Reading

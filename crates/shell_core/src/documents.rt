@@ -12,13 +12,14 @@ ghost use Rattle.shell_core.specs.declared.documents.Role.TheVariants as role;
 ghost use Rattle.shell_core.specs.declared.documents.Stop.TheVariants as cause;
 ghost use Rattle.command_words.specs.Asked.{run_words};
 ghost use Rattle.shell_core.specs.Scripts.{IsScript};
-ghost use Rattle.shell_core.specs.Documents.{has_no_spef, no_parasitics, name_of, Gives, kind_text, role_text, how_text, script_sources, journal_sources, last_sources, sources, journal_faults, Stops, Says, SaysLibrary, SaysModule, SaysParasitics, SaysJournal, SaysScript, SayScripts, AreUnits, AreConstraints, AreSaved, AreLast, AreDocuments};
-ghost use Rattle.shell_core.specs.Kept.{AreReplayable, AreBehind, AreKept};
+ghost use Rattle.shell_core.specs.Documents.{has_no_spef, name_of, Gives, kind_text, role_text, how_text, script_sources, sources, journal_faults, Stops, Says, SaysLibrary, SaysModule, SaysParasitics, SaysJournal, SaysScript, SayScripts, AreUnits, AreConstraints, AreParasitics, AreSaved, AreDocuments};
+ghost use Rattle.shell_core.specs.Designs.{spef_sources, design_sources, fetched_journal, IsNoFault, AreDesign, IsFetched, IsReadDesign, DesignStops, AreEntriesOf, JournalStops};
+ghost use Rattle.shell_core.specs.Kept.{AreReplayable, IsKeptDesign, AreKept};
 ghost use Rattle.shell_core.specs.Reading.{AreRead};
 
 use crate::discards::{
-    discard_constraints, discard_entries, discard_library, discard_netlist, discard_parasitics,
-    discard_scripts,
+    discard_constraints, discard_entries, discard_journal, discard_library, discard_netlist,
+    discard_saved, discard_scripts,
 };
 use command_words::Run;
 use eco_journal::read_saved;
@@ -74,6 +75,31 @@ pub struct Documents {
     pub spef: Parasitics,
     pub saved: Option<Items<Entry>>,
     pub scripts: Items<Script>,
+}
+
+/// The values of the documents that a design is linked from.
+#[derive(Drop)]
+pub struct DesignDocuments {
+    pub early: Library,
+    pub late: Library,
+    pub netlist: Module,
+    pub sdc: Constraints,
+    pub spef: Parasitics,
+}
+
+impl DesignDocuments {
+    /// Gives the documents up.
+    pub fn discard(self) {
+        drop(self)
+    }
+}
+
+/// The documents of a design, and the text of the saved journal that the words name: fetched, and not
+/// yet read. Where they name none there is no text, not even an empty one.
+#[derive(Drop)]
+pub struct ReadDesign {
+    pub design: DesignDocuments,
+    pub journal: Option<Items<u8>>,
 }
 
 impl Role {
@@ -155,6 +181,7 @@ fn fetch<S: Shelf>(alloc: Global, shelf: &mut S, run: &Run<'_>, role: Role) -> R
     ensures rising { S.faults shelf.old ≤ S.faults shelf.new }
     ensures text { IfOk result (λ doc. Gives (S.holds shelf.old) (name_of (run_words run.now) role) doc.items × (S.faults shelf.new ≡ S.faults shelf.old)) }
     ensures stop { IfErr result (λ stop. Stops (S.holds shelf.old) (run_words run.now) (S.faults shelf.old) (S.faults shelf.new) (role ∷ []) stop) }
+    ensures unread { IfErr result IsNoFault }
 {
     match shelf.fetch(alloc, name_of(run, role)) {
         Ok(doc) => Ok(doc),
@@ -347,201 +374,31 @@ fn has_no_spef(run: &Run<'_>) -> bool
     run.spef == "none"
 }
 
-/// The most saved entries, so that those of the run can be counted behind them.
-const MOST_SAVED: u64 = 1 << 62;
-
-/// The entries of a saved journal, by the factors of the constraints.
-#[tactic(auto, using(crate::proofs::JournalLaws::journal_refused))]
-fn read_journal(alloc: Global, text: &[u8], derates: &Derates) -> Result<Items<Entry>, ReadFault>
-    ensures { MatchResult result (λ saved. SaysJournal derates.now saved text.now × AreReplayable (Some saved)) (λ e. Fails e (journal_faults derates.now text.now)) }
-{
-    match read_saved(alloc, text, derates) {
-        Ok(saved) => {
-            if saved.len() as u64 <= MOST_SAVED {
-                Ok(saved)
-            } else {
-                discard_entries(saved);
-                Err(ReadFault::Memory)
-            }
-        }
-        Err(fault) => Err(fault),
-    }
-}
-
-/// The saved journal of a run that names one.
-fn journal<S: Shelf>(
-    alloc: Global,
-    shelf: &mut S,
-    run: &Run<'_>,
-    constraints: &Constraints,
-) -> Result<Items<Entry>, Stop>
-    requires { AreConstraints (S.holds shelf.old) (run_words run.now) constraints.now }
+/// The parasitics of a run, or none where its words name none.
+fn spef_if_named<S: Shelf>(alloc: Global, shelf: &mut S, run: &Run<'_>) -> Result<Parasitics, Stop>
     ensures map { S.holds shelf.new ≡ S.holds shelf.old }
     ensures rising { S.faults shelf.old ≤ S.faults shelf.new }
-    ensures value { IfOk result (λ value. Says (S.holds shelf.old) (name_of (run_words run.now) role.Journal) (SaysJournal constraints.now.derates value) × (S.faults shelf.new ≡ S.faults shelf.old)) }
-    ensures kept { IfOk result (λ value. AreReplayable (Some value)) }
-    ensures stop { IfErr result (λ stop. Stops (S.holds shelf.old) (run_words run.now) (S.faults shelf.old) (S.faults shelf.new) (role.Journal ∷ []) stop) }
-{
-    let text = fetch(alloc, shelf, run, Role::Journal)?;
-    match read_journal(alloc, text.as_slice(), &constraints.derates) {
-        Ok(saved) => Ok(saved),
-        Err(ReadFault::At { code, offset }) => Err(Stop::Refused(Role::Journal, code, offset)),
-        Err(ReadFault::Memory) => Err(Stop::Memory),
-    }
-}
-
-/// Saved entries, if any, and the scripts behind them.
-#[derive(Drop)]
-struct Saved {
-    saved: Option<Items<Entry>>,
-    scripts: Items<Script>,
-}
-
-/// Scripts, behind a saved journal that is read.
-#[tactic(auto, using(crate::proofs::Stopping::stops_first))]
-fn from_journal<S: Shelf>(
-    alloc: Global,
-    shelf: &mut S,
-    run: &Run<'_>,
-    constraints: &Constraints,
-) -> Result<Saved, Stop>
-    requires { AreConstraints (S.holds shelf.old) (run_words run.now) constraints.now }
-    ensures map { S.holds shelf.new ≡ S.holds shelf.old }
-    ensures rising { S.faults shelf.old ≤ S.faults shelf.new }
-    ensures value { IfOk result (λ got. AreSaved (S.holds shelf.old) (Some (name_of (run_words run.now) role.Journal)) constraints.now.derates got.saved × SayScripts (S.holds shelf.old) (run_words run.now).scripts got.scripts × (S.faults shelf.new ≡ S.faults shelf.old)) }
-    ensures kept { IfOk result (λ got. AreBehind (length run.now.scripts.items) got.saved got.scripts) }
-    ensures stop { IfErr result (λ stop. Stops (S.holds shelf.old) (run_words run.now) (S.faults shelf.old) (S.faults shelf.new) (role.Journal ∷ script_sources 1 (run_words run.now).scripts) stop) }
-{
-    let saved = journal(alloc, shelf, run, constraints)?;
-    match scripts(alloc, shelf, run) {
-        Ok(scripts) => Ok(Saved {
-            saved: Some(saved),
-            scripts,
-        }),
-        Err(stop) => {
-            discard_entries(saved);
-            Err(stop)
-        }
-    }
-}
-
-/// A saved journal, where the words name one, and the scripts behind it.
-fn from_saved<S: Shelf>(
-    alloc: Global,
-    shelf: &mut S,
-    run: &Run<'_>,
-    constraints: &Constraints,
-) -> Result<Saved, Stop>
-    requires { AreConstraints (S.holds shelf.old) (run_words run.now) constraints.now }
-    ensures map { S.holds shelf.new ≡ S.holds shelf.old }
-    ensures rising { S.faults shelf.old ≤ S.faults shelf.new }
-    ensures value { IfOk result (λ got. AreSaved (S.holds shelf.old) (run_words run.now).journal constraints.now.derates got.saved × SayScripts (S.holds shelf.old) (run_words run.now).scripts got.scripts × (S.faults shelf.new ≡ S.faults shelf.old)) }
-    ensures kept { IfOk result (λ got. AreBehind (length run.now.scripts.items) got.saved got.scripts) }
-    ensures stop { IfErr result (λ stop. Stops (S.holds shelf.old) (run_words run.now) (S.faults shelf.old) (S.faults shelf.new) (journal_sources (run_words run.now)) stop) }
-{
-    match run.journal {
-        None => match scripts(alloc, shelf, run) {
-            Ok(scripts) => Ok(Saved {
-                saved: None,
-                scripts,
-            }),
-            Err(stop) => Err(stop),
-        },
-        Some(_) => from_journal(alloc, shelf, run, constraints),
-    }
-}
-
-/// Parasitics, and what is behind them.
-#[derive(Drop)]
-struct Tail {
-    spef: Parasitics,
-    saved: Option<Items<Entry>>,
-    scripts: Items<Script>,
-}
-
-/// A saved journal and scripts, behind parasitics that are read.
-#[tactic(auto, using(crate::proofs::Stopping::stops_first, crate::proofs::Stopping::stops_behind))]
-fn from_spef<S: Shelf>(
-    alloc: Global,
-    shelf: &mut S,
-    run: &Run<'_>,
-    constraints: &Constraints,
-) -> Result<Tail, Stop>
-    requires { AreConstraints (S.holds shelf.old) (run_words run.now) constraints.now }
-    ensures map { S.holds shelf.new ≡ S.holds shelf.old }
-    ensures rising { S.faults shelf.old ≤ S.faults shelf.new }
-    ensures value { IfOk result (λ got. Says (S.holds shelf.old) (run_words run.now).spef (SaysParasitics got.spef) × AreSaved (S.holds shelf.old) (run_words run.now).journal constraints.now.derates got.saved × SayScripts (S.holds shelf.old) (run_words run.now).scripts got.scripts × (S.faults shelf.new ≡ S.faults shelf.old)) }
-    ensures kept { IfOk result (λ got. (are_parasitics got.spef.nets ≡ true) × AreBehind (length run.now.scripts.items) got.saved got.scripts) }
-    ensures stop { IfErr result (λ stop. Stops (S.holds shelf.old) (run_words run.now) (S.faults shelf.old) (S.faults shelf.new) (role.Spef ∷ journal_sources (run_words run.now)) stop) }
-{
-    let spef = spef(alloc, shelf, run)?;
-    match from_saved(alloc, shelf, run, constraints) {
-        Ok(Saved { saved, scripts }) => Ok(Tail {
-            spef,
-            saved,
-            scripts,
-        }),
-        Err(stop) => {
-            discard_parasitics(spef);
-            Err(stop)
-        }
-    }
-}
-
-/// A saved journal and the scripts of a run without parasitics.
-fn without_spef<S: Shelf>(
-    alloc: Global,
-    shelf: &mut S,
-    run: &Run<'_>,
-    constraints: &Constraints,
-) -> Result<Tail, Stop>
-    requires { AreConstraints (S.holds shelf.old) (run_words run.now) constraints.now }
-    ensures map { S.holds shelf.new ≡ S.holds shelf.old }
-    ensures rising { S.faults shelf.old ≤ S.faults shelf.new }
-    ensures value { IfOk result (λ got. (got.spef ≡ no_parasitics) × AreSaved (S.holds shelf.old) (run_words run.now).journal constraints.now.derates got.saved × SayScripts (S.holds shelf.old) (run_words run.now).scripts got.scripts × (S.faults shelf.new ≡ S.faults shelf.old)) }
-    ensures kept { IfOk result (λ got. (are_parasitics got.spef.nets ≡ true) × AreBehind (length run.now.scripts.items) got.saved got.scripts) }
-    ensures stop { IfErr result (λ stop. Stops (S.holds shelf.old) (run_words run.now) (S.faults shelf.old) (S.faults shelf.new) (journal_sources (run_words run.now)) stop) }
-{
-    let Saved { saved, scripts } = from_saved(alloc, shelf, run, constraints)?;
-    let spef = Parasitics {
-        nets: Items::new(alloc),
-    };
-    Ok(Tail {
-        spef,
-        saved,
-        scripts,
-    })
-}
-
-/// Parasitics, and what is behind them.
-fn last<S: Shelf>(
-    alloc: Global,
-    shelf: &mut S,
-    run: &Run<'_>,
-    constraints: &Constraints,
-) -> Result<Tail, Stop>
-    requires { AreConstraints (S.holds shelf.old) (run_words run.now) constraints.now }
-    ensures map { S.holds shelf.new ≡ S.holds shelf.old }
-    ensures rising { S.faults shelf.old ≤ S.faults shelf.new }
-    ensures value { IfOk result (λ got. AreLast (S.holds shelf.old) (run_words run.now) constraints.now.derates got.spef got.saved got.scripts × (S.faults shelf.new ≡ S.faults shelf.old)) }
-    ensures kept { IfOk result (λ got. (are_parasitics got.spef.nets ≡ true) × AreBehind (length run.now.scripts.items) got.saved got.scripts) }
-    ensures stop { IfErr result (λ stop. Stops (S.holds shelf.old) (run_words run.now) (S.faults shelf.old) (S.faults shelf.new) (last_sources (run_words run.now)) stop) }
+    ensures value { IfOk result (λ value. AreParasitics (S.holds shelf.old) (run_words run.now) value × (S.faults shelf.new ≡ S.faults shelf.old)) }
+    ensures kept { IfOk result (λ value. are_parasitics value.nets ≡ true) }
+    ensures stop { IfErr result (λ stop. Stops (S.holds shelf.old) (run_words run.now) (S.faults shelf.old) (S.faults shelf.new) (spef_sources (run_words run.now)) stop) }
 {
     if has_no_spef(run) {
-        without_spef(alloc, shelf, run, constraints)
+        Ok(Parasitics {
+            nets: Items::new(alloc),
+        })
     } else {
-        from_spef(alloc, shelf, run, constraints)
+        spef(alloc, shelf, run)
     }
 }
 
-/// Constraints and what is behind them.
+/// Constraints and parasitics.
 #[derive(Drop)]
 struct Constrained {
     sdc: Constraints,
-    last: Tail,
+    spef: Parasitics,
 }
 
-#[tactic(auto, using(crate::proofs::Stopping::stops_first, crate::proofs::Stopping::stops_behind))]
+#[tactic(auto, using(crate::proofs::Stopping::stops_first))]
 fn from_sdc<S: Shelf>(
     alloc: Global,
     shelf: &mut S,
@@ -551,13 +408,13 @@ fn from_sdc<S: Shelf>(
     requires { AreUnits (S.holds shelf.old) (run_words run.now) units.now }
     ensures map { S.holds shelf.new ≡ S.holds shelf.old }
     ensures rising { S.faults shelf.old ≤ S.faults shelf.new }
-    ensures value { IfOk result (λ got. AreConstraints (S.holds shelf.old) (run_words run.now) got.sdc × AreLast (S.holds shelf.old) (run_words run.now) got.sdc.derates got.last.spef got.last.saved got.last.scripts × (S.faults shelf.new ≡ S.faults shelf.old)) }
-    ensures kept { IfOk result (λ got. (are_constraints got.sdc ≡ true) × (are_parasitics got.last.spef.nets ≡ true) × AreBehind (length run.now.scripts.items) got.last.saved got.last.scripts) }
-    ensures stop { IfErr result (λ stop. Stops (S.holds shelf.old) (run_words run.now) (S.faults shelf.old) (S.faults shelf.new) (role.Sdc ∷ last_sources (run_words run.now)) stop) }
+    ensures value { IfOk result (λ got. AreConstraints (S.holds shelf.old) (run_words run.now) got.sdc × AreParasitics (S.holds shelf.old) (run_words run.now) got.spef × (S.faults shelf.new ≡ S.faults shelf.old)) }
+    ensures kept { IfOk result (λ got. (are_constraints got.sdc ≡ true) × (are_parasitics got.spef.nets ≡ true)) }
+    ensures stop { IfErr result (λ stop. Stops (S.holds shelf.old) (run_words run.now) (S.faults shelf.old) (S.faults shelf.new) (role.Sdc ∷ spef_sources (run_words run.now)) stop) }
 {
     let sdc = sdc(alloc, shelf, run, units)?;
-    match last(alloc, shelf, run, &sdc) {
-        Ok(last) => Ok(Constrained { sdc, last }),
+    match spef_if_named(alloc, shelf, run) {
+        Ok(spef) => Ok(Constrained { sdc, spef }),
         Err(stop) => {
             discard_constraints(sdc);
             Err(stop)
@@ -660,13 +517,13 @@ fn to_netlist<S: Shelf>(alloc: Global, shelf: &mut S, run: &Run<'_>) -> Result<N
     Ok(netted)
 }
 
-/// All documents, behind libraries and netlist that were read.
+/// The documents of a design, behind libraries and netlist that were read.
 fn with_rest<S: Shelf>(
     alloc: Global,
     shelf: &mut S,
     run: &Run<'_>,
     netted: Netted,
-) -> Result<Documents, Stop>
+) -> Result<DesignDocuments, Stop>
     requires early { Says (S.holds shelf.old) (run_words run.now).early (SaysLibrary netted.libraries.early) }
     requires late { Says (S.holds shelf.old) (run_words run.now).late (SaysLibrary netted.libraries.late) }
     requires netlist { Says (S.holds shelf.old) (run_words run.now).netlist (SaysModule netted.netlist) }
@@ -674,20 +531,183 @@ fn with_rest<S: Shelf>(
     requires kept { (is_library netted.libraries.early ≡ true) × (is_library netted.libraries.late ≡ true) × IsNetlist netted.netlist }
     ensures map { S.holds shelf.new ≡ S.holds shelf.old }
     ensures rising { S.faults shelf.old ≤ S.faults shelf.new }
+    ensures value { IfOk result (λ got. AreDesign (S.holds shelf.old) (run_words run.now) got × (S.faults shelf.new ≡ S.faults shelf.old)) }
+    ensures kept { IfOk result IsKeptDesign }
+    ensures stop { IfErr result (λ stop. Stops (S.holds shelf.old) (run_words run.now) (S.faults shelf.old) (S.faults shelf.new) (role.Sdc ∷ spef_sources (run_words run.now)) stop) }
+{
+    match from_sdc(alloc, shelf, run, &netted.libraries.units) {
+        Ok(Constrained { sdc, spef }) => {
+            let Netted { libraries, netlist } = netted;
+            let Libraries { early, late, .. } = libraries;
+            Ok(DesignDocuments {
+                early,
+                late,
+                netlist,
+                sdc,
+                spef,
+            })
+        }
+        Err(stop) => {
+            netted.discard();
+            Err(stop)
+        }
+    }
+}
+
+/// The documents of a design.
+#[tactic(auto, using(crate::proofs::Stopping::stops_three, crate::proofs::Stopping::stops_rest))]
+fn design<S: Shelf>(alloc: Global, shelf: &mut S, run: &Run<'_>) -> Result<DesignDocuments, Stop>
+    ensures map { S.holds shelf.new ≡ S.holds shelf.old }
+    ensures rising { S.faults shelf.old ≤ S.faults shelf.new }
+    ensures value { IfOk result (λ got. AreDesign (S.holds shelf.old) (run_words run.now) got × (S.faults shelf.new ≡ S.faults shelf.old)) }
+    ensures kept { IfOk result IsKeptDesign }
+    ensures stop { IfErr result (λ stop. Stops (S.holds shelf.old) (run_words run.now) (S.faults shelf.old) (S.faults shelf.new) (design_sources (run_words run.now)) stop) }
+{
+    let netted = to_netlist(alloc, shelf, run)?;
+    let design = with_rest(alloc, shelf, run, netted)?;
+    Ok(design)
+}
+
+/// The text of a saved journal, where the words name one.
+fn journal<S: Shelf>(alloc: Global, shelf: &mut S, run: &Run<'_>) -> Result<Option<Items<u8>>, Stop>
+    ensures map { S.holds shelf.new ≡ S.holds shelf.old }
+    ensures rising { S.faults shelf.old ≤ S.faults shelf.new }
+    ensures value { IfOk result (λ text. IsFetched (S.holds shelf.old) (run_words run.now).journal text × (S.faults shelf.new ≡ S.faults shelf.old)) }
+    ensures stop { IfErr result (λ stop. Stops (S.holds shelf.old) (run_words run.now) (S.faults shelf.old) (S.faults shelf.new) (fetched_journal (run_words run.now)) stop) }
+    ensures unread { IfErr result IsNoFault }
+{
+    match run.journal {
+        None => Ok(None),
+        Some(_) => match fetch(alloc, shelf, run, Role::Journal) {
+            Ok(text) => Ok(Some(Items::from_vec(text))),
+            Err(stop) => Err(stop),
+        },
+    }
+}
+
+/// The documents of a design, and the text of a saved journal behind them.
+fn with_journal<S: Shelf>(
+    alloc: Global,
+    shelf: &mut S,
+    run: &Run<'_>,
+    design: DesignDocuments,
+) -> Result<ReadDesign, Stop>
+    requires design { AreDesign (S.holds shelf.old) (run_words run.now) design }
+    requires kept { IsKeptDesign design }
+    ensures map { S.holds shelf.new ≡ S.holds shelf.old }
+    ensures rising { S.faults shelf.old ≤ S.faults shelf.new }
+    ensures value { IfOk result (λ got. IsReadDesign (S.holds shelf.old) (run_words run.now) got × (S.faults shelf.new ≡ S.faults shelf.old)) }
+    ensures kept { IfOk result (λ got. IsKeptDesign got.design) }
+    ensures stop { IfErr result (λ stop. DesignStops (S.holds shelf.old) (run_words run.now) (S.faults shelf.old) (S.faults shelf.new) stop) }
+{
+    match journal(alloc, shelf, run) {
+        Ok(journal) => Ok(ReadDesign { design, journal }),
+        Err(stop) => {
+            design.discard();
+            Err(stop)
+        }
+    }
+}
+
+/// The documents of a design, each fetched and at once read: libraries, netlist, constraints in the
+/// units of the late library, and parasitics. Behind them the text of a saved journal is fetched,
+/// where the words name one; `saved_entries` reads it. The scripts of the words stay where they are.
+///
+/// # Errors
+///
+/// The first document that has a fault, or that the shelf did not give; or want of memory.
+#[tactic(auto, using(crate::proofs::DesignLaws::stops_in_design))]
+pub fn read_design<S: Shelf>(
+    alloc: Global,
+    shelf: &mut S,
+    run: &Run<'_>,
+) -> Result<ReadDesign, Stop>
+    ensures map { S.holds shelf.new ≡ S.holds shelf.old }
+    ensures rising { S.faults shelf.old ≤ S.faults shelf.new }
+    ensures value { IfOk result (λ got. IsReadDesign (S.holds shelf.old) (run_words run.now) got × (S.faults shelf.new ≡ S.faults shelf.old)) }
+    ensures kept { IfOk result (λ got. IsKeptDesign got.design) }
+    ensures stop { IfErr result (λ stop. DesignStops (S.holds shelf.old) (run_words run.now) (S.faults shelf.old) (S.faults shelf.new) stop) }
+{
+    match design(alloc, shelf, run) {
+        Ok(design) => with_journal(alloc, shelf, run, design),
+        Err(stop) => Err(stop),
+    }
+}
+
+/// The most saved entries, so that those of the run can be counted behind them.
+const MOST_SAVED: u64 = 1 << 62;
+
+/// The entries of a saved journal, by the factors of the constraints.
+#[tactic(auto, using(crate::proofs::JournalLaws::journal_refused))]
+fn read_journal(alloc: Global, text: &[u8], derates: &Derates) -> Result<Items<Entry>, ReadFault>
+    ensures { MatchResult result (λ saved. SaysJournal derates.now saved text.now × AreReplayable (Some saved)) (λ e. Fails e (journal_faults derates.now text.now)) }
+{
+    match read_saved(alloc, text, derates) {
+        Ok(saved) => {
+            if saved.len() as u64 <= MOST_SAVED {
+                Ok(saved)
+            } else {
+                discard_entries(saved);
+                Err(ReadFault::Memory)
+            }
+        }
+        Err(fault) => Err(fault),
+    }
+}
+
+/// The entries of the text of a saved journal, read by the factors of the constraints; none where
+/// there is no text.
+///
+/// # Errors
+///
+/// The fault of the text, as that of the document `Journal`; or want of memory.
+pub fn saved_entries(
+    alloc: Global,
+    journal: &Option<Items<u8>>,
+    derates: &Derates,
+) -> Result<Option<Items<Entry>>, Stop>
+    ensures value { IfOk result (AreEntriesOf derates.now journal.now) }
+    ensures kept { IfOk result AreReplayable }
+    ensures stop { IfErr result (JournalStops derates.now journal.now) }
+{
+    match journal {
+        None => Ok(None),
+        Some(text) => match read_journal(alloc, text.as_slice(), derates) {
+            Ok(saved) => Ok(Some(saved)),
+            Err(ReadFault::At { code, offset }) => Err(Stop::Refused(Role::Journal, code, offset)),
+            Err(ReadFault::Memory) => Err(Stop::Memory),
+        },
+    }
+}
+
+/// All documents, behind those of a design and saved entries.
+fn with_scripts<S: Shelf>(
+    alloc: Global,
+    shelf: &mut S,
+    run: &Run<'_>,
+    design: DesignDocuments,
+    saved: Option<Items<Entry>>,
+) -> Result<Documents, Stop>
+    requires design { AreDesign (S.holds shelf.old) (run_words run.now) design }
+    requires kept { IsKeptDesign design }
+    requires saved { AreSaved (S.holds shelf.old) (run_words run.now).journal design.sdc.derates saved }
+    requires entries { AreReplayable saved }
+    ensures map { S.holds shelf.new ≡ S.holds shelf.old }
+    ensures rising { S.faults shelf.old ≤ S.faults shelf.new }
     ensures value { IfOk result (λ got. AreDocuments (S.holds shelf.old) (run_words run.now) got × (S.faults shelf.new ≡ S.faults shelf.old)) }
     ensures kept { IfOk result AreKept }
     ensures many { IfOk result (λ got. length got.scripts ≡ length run.now.scripts.items) }
-    ensures stop { IfErr result (λ stop. Stops (S.holds shelf.old) (run_words run.now) (S.faults shelf.old) (S.faults shelf.new) (role.Sdc ∷ last_sources (run_words run.now)) stop) }
+    ensures stop { IfErr result (λ stop. Stops (S.holds shelf.old) (run_words run.now) (S.faults shelf.old) (S.faults shelf.new) (sources (run_words run.now)) stop) }
 {
-    match from_sdc(alloc, shelf, run, &netted.libraries.units) {
-        Ok(Constrained { sdc, last }) => {
-            let Netted { libraries, netlist } = netted;
-            let Libraries { early, late, .. } = libraries;
-            let Tail {
+    match scripts(alloc, shelf, run) {
+        Ok(scripts) => {
+            let DesignDocuments {
+                early,
+                late,
+                netlist,
+                sdc,
                 spef,
-                saved,
-                scripts,
-            } = last;
+            } = design;
             Ok(Documents {
                 early,
                 late,
@@ -699,7 +719,37 @@ fn with_rest<S: Shelf>(
             })
         }
         Err(stop) => {
-            netted.discard();
+            discard_saved(saved);
+            design.discard();
+            Err(stop)
+        }
+    }
+}
+
+/// All documents, behind those of a design and the text of a saved journal.
+#[tactic(auto, using(crate::proofs::DesignLaws::are_saved))]
+fn with_last<S: Shelf>(
+    alloc: Global,
+    shelf: &mut S,
+    run: &Run<'_>,
+    read: ReadDesign,
+) -> Result<Documents, Stop>
+    requires read { IsReadDesign (S.holds shelf.old) (run_words run.now) read }
+    requires kept { IsKeptDesign read.design }
+    ensures map { S.holds shelf.new ≡ S.holds shelf.old }
+    ensures rising { S.faults shelf.old ≤ S.faults shelf.new }
+    ensures value { IfOk result (λ got. AreDocuments (S.holds shelf.old) (run_words run.now) got × (S.faults shelf.new ≡ S.faults shelf.old)) }
+    ensures kept { IfOk result AreKept }
+    ensures many { IfOk result (λ got. length got.scripts ≡ length run.now.scripts.items) }
+    ensures stop { IfErr result (λ stop. Stops (S.holds shelf.old) (run_words run.now) (S.faults shelf.old) (S.faults shelf.new) (sources (run_words run.now)) stop) }
+{
+    let ReadDesign { design, journal } = read;
+    let saved = saved_entries(alloc, &journal, &design.sdc.derates);
+    discard_journal(journal);
+    match saved {
+        Ok(saved) => with_scripts(alloc, shelf, run, design, saved),
+        Err(stop) => {
+            design.discard();
             Err(stop)
         }
     }
@@ -712,7 +762,7 @@ fn with_rest<S: Shelf>(
 /// # Errors
 ///
 /// The first document that has a fault, or that the shelf did not give; or want of memory.
-#[tactic(auto, using(crate::proofs::Stopping::stops_three, crate::proofs::Stopping::stops_rest))]
+#[tactic(auto, using(crate::proofs::DesignLaws::stops_before_scripts))]
 pub fn read_all<S: Shelf>(alloc: Global, shelf: &mut S, run: &Run<'_>) -> Result<Documents, Stop>
     ensures map { S.holds shelf.new ≡ S.holds shelf.old }
     ensures rising { S.faults shelf.old ≤ S.faults shelf.new }
@@ -721,7 +771,8 @@ pub fn read_all<S: Shelf>(alloc: Global, shelf: &mut S, run: &Run<'_>) -> Result
     ensures many { IfOk result (λ got. length got.scripts ≡ length run.now.scripts.items) }
     ensures stop { IfErr result (λ stop. Stops (S.holds shelf.old) (run_words run.now) (S.faults shelf.old) (S.faults shelf.new) (sources (run_words run.now)) stop) }
 {
-    let netted = to_netlist(alloc, shelf, run)?;
-    let documents = with_rest(alloc, shelf, run, netted)?;
-    Ok(documents)
+    match read_design(alloc, shelf, run) {
+        Ok(read) => with_last(alloc, shelf, run, read),
+        Err(stop) => Err(stop),
+    }
 }

@@ -6,6 +6,9 @@ mod documents;
 mod ends;
 mod texts;
 
-pub use documents::{Documents, How, Role, Stop, name_of, read_all};
+pub use documents::{
+    DesignDocuments, Documents, How, ReadDesign, Role, Stop, name_of, read_all, read_design,
+    saved_entries,
+};
 pub use ends::{End, entry_end, fault_end, status};
 pub use texts::{design_line, entry_line, refusal_line, shelf_line, words_line};

@@ -10,6 +10,7 @@ again. SCRIPT is as for a run; a line `@slow set_parasitics ..` has wires for th
   --endpoints       ask the slack of every endpoint
   --paths N         ask every endpoint, and then the paths of the N worst of each kind, each in its worst corner, for
                     `report`
+  --ecos            ask every endpoint, and what each of the last 100 ECOs of the list changed, for `report`
   --commit          try the ECOs of one SCRIPT in all corners; append them to the list where every corner accepts each
   --jobs N          runs at a time (default: the processors here, divided by the greatest number of WORKERS)
   --timeout S       seconds that a run may take (the key `timeout` of a corner comes first)
@@ -32,7 +33,7 @@ from collections.abc import Iterator
 from lizdrog_tools.corners.ecos import EDITS
 from lizdrog_tools.corners.launch import CannotLaunch
 from lizdrog_tools.corners.merge import Merged, data_of, text_of
-from lizdrog_tools.corners.questions import endpoint_scripts, path_scripts
+from lizdrog_tools.corners.questions import MOST_REPLAYED, endpoint_scripts, path_scripts, replay_script
 from lizdrog_tools.corners.rounds import Corners, Refused, alone
 from lizdrog_tools.corners.words import add_common_words, at_least_one, options_of, project_of
 from lizdrog_tools.explain_fault import sentence
@@ -52,13 +53,13 @@ def has_edits(text: str) -> bool:
     return any(command.words[0] in EDITS for command in read_script(text))
 
 
-def ask(corners: Corners, texts: list[tuple[str, str]], all_endpoints: bool, paths: int) -> Merged:
-    """Runs the given scripts; asks all endpoints beside them and, in a second run, the worst paths."""
+def ask(corners: Corners, texts: list[tuple[str, str]], given: argparse.Namespace) -> Merged:
+    """Runs the given scripts; asks all endpoints beside them and, in further runs, the worst paths and the ECOs."""
     scripts = corners.scripts_of(texts)
-    if all_endpoints or paths:
+    if given.endpoints or given.paths or given.ecos:
         if any(has_edits(text) for _, text in texts):
             raise Refused(
-                "--endpoints and --paths ask the design of the list, and a script here has edits: "
+                "--endpoints, --paths and --ecos ask the design of the list, and a script here has edits: "
                 "commit them first, or leave these words out"
             )
         first = corners.project.corners[0]
@@ -70,12 +71,25 @@ def ask(corners: Corners, texts: list[tuple[str, str]], all_endpoints: bool, pat
             f"and {len(texts)} scripts with the questions for all endpoints are more"
         )
     merged = corners.run("answers", scripts)
-    if paths:
+    if given.paths:
         asked = {
-            name: text for name, text in path_scripts(corners.project, merged, paths, corners.ecos_of).items() if text
+            name: text
+            for name, text in path_scripts(corners.project, merged, given.paths, corners.ecos_of).items()
+            if text
         }
         corners.run("paths", {name: [text] for name, text in asked.items()})
+    if given.ecos:
+        replay(corners, merged)
     return merged
+
+
+def replay(corners: Corners, merged: Merged) -> None:
+    """Asks before and after each ECO at the end of the list."""
+    ecos = {it.name: corners.ecos_of(it) for it in corners.project.corners}
+    before = max(0, len(ecos[corners.names[0]]) - MOST_REPLAYED)
+    scripts = {name: [replay_script(those[before:], merged)] for name, those in ecos.items()}
+    if len(ecos[corners.names[0]]) > before:
+        corners.run("ecos", scripts, before)
 
 
 def refusals(merged: Merged) -> Iterator[str]:
@@ -135,7 +149,7 @@ def parser_of_words() -> argparse.ArgumentParser:
     parser.add_argument("project", metavar="FILE.toml", help=argparse.SUPPRESS)
     parser.add_argument("scripts", metavar="SCRIPT", nargs="*", help=argparse.SUPPRESS)
     parser.add_argument("--paths", type=at_least_one, default=0, help=argparse.SUPPRESS)
-    for name in ("--endpoints", "--commit", "--all"):
+    for name in ("--endpoints", "--ecos", "--commit", "--all"):
         parser.add_argument(name, action="store_true", help=argparse.SUPPRESS)
     add_common_words(parser)
     return parser
@@ -145,10 +159,11 @@ def check_words(given: argparse.Namespace) -> None:
     """Refuses words that do not go together."""
     if given.commit and len(given.scripts) != 1:
         raise Refused(f"--commit takes one script, since its ECOs have one order, and here are {len(given.scripts)}")
-    if given.commit and (given.endpoints or given.paths):
-        raise Refused("--commit goes with neither --endpoints nor --paths: ask them after it")
-    if not given.scripts and not given.endpoints and not given.paths:
-        raise Refused("a script is missing, or --endpoints, or --paths N")
+    asks = given.endpoints or given.paths or given.ecos
+    if given.commit and asks:
+        raise Refused("--commit goes with neither --endpoints nor --paths nor --ecos: ask them after it")
+    if not given.scripts and not asks:
+        raise Refused("a script is missing, or --endpoints, or --paths N, or --ecos")
 
 
 def serve(given: argparse.Namespace) -> int:
@@ -161,7 +176,7 @@ def serve(given: argparse.Namespace) -> int:
         if given.commit:
             merged, status = commit(corners, *texts[0])
         else:
-            merged = ask(corners, texts, given.endpoints, given.paths)
+            merged = ask(corners, texts, given)
             status = merged.status()
     if given.json:
         json.dump(data_of(merged), sys.stdout, indent=1)

@@ -4,10 +4,12 @@ from collections.abc import Callable, Iterator
 from lizdrog_tools.corners.merge import KINDS, Merged
 from lizdrog_tools.corners.project import Corner, Project
 from lizdrog_tools.liberty import read_library
-from lizdrog_tools.read_answers import Edited
+from lizdrog_tools.read_answers import Edited, thousandths
 from lizdrog_tools.verilog import Joined, read_netlist
 
 MOST_COMMANDS = 10_000
+# How many ECOs at the end of a list are replayed one by one.
+MOST_REPLAYED = 100
 SPLIT_OF_DATA = {"setup": "late", "hold": "early"}
 SPLIT_OF_CLOCK = {"setup": "early", "hold": "late"}
 
@@ -59,3 +61,20 @@ def path_scripts(
         for end in merged.endpoints[kind][:most]:
             lines.setdefault(end.worst()[1], []).extend(path_questions(joined, end.pin, kind))
     return {corner: "".join(f"{it}\n" for it in asked) for corner, asked in lines.items()}
+
+
+def replay_script(ecos: list[list[str]], merged: Merged) -> str:
+    """Asks totals and slacks of endpoints before and after each ECO: of the endpoints of least slack, as many as a
+    script bears."""
+    ends = [
+        (thousandths(it.worst()[0]), f"report_endpoint {it.pin} {kind}")
+        for kind in KINDS
+        for it in merged.endpoints[kind]
+    ]
+    totals = [f"report_{it} {kind}" for kind in KINDS for it in ("wns", "tns")]
+    room = (MOST_COMMANDS - len(ecos)) // (len(ecos) + 1) - len(totals)
+    asked = [*totals, *(line for _, line in sorted(ends)[:room])]
+    lines = list(asked)
+    for edits in ecos:
+        lines += ["begin_eco", *edits, "commit_eco", *asked]
+    return "\n".join(lines) + "\n"

@@ -52,11 +52,12 @@ class Corners:
         """The ECOs of the list for a corner."""
         return ecos_of(self.ecos.commands(corner.name, self.names))
 
-    def prepare(self, folder: pathlib.Path, corner: Corner, scripts: list[str]) -> Job:
-        """The job of a corner; it is new where anything of it has changed or where it has not answered yet."""
+    def prepare(self, folder: pathlib.Path, corner: Corner, scripts: list[str], before: int | None) -> Job:
+        """The job of a corner, behind all ECOs or the first ones; it is new where anything of it has changed or where
+        it has not answered yet."""
         job = Job(corner.name, folder / corner.name)
         job.folder.mkdir(parents=True, exist_ok=True)
-        journal = journal_of(self.ecos_of(corner), read_text(corner.sdc, may_be_empty=True))
+        journal = journal_of(self.ecos_of(corner)[:before], read_text(corner.sdc, may_be_empty=True))
         files = [job.folder / f"script{number}.eco" for number in range(1, len(scripts) + 1)]
         journal_file = job.folder / "journal"
         words = ["run", "--journal", os.fspath(journal_file), *corner.words(), *map(os.fspath, files)]
@@ -73,11 +74,12 @@ class Corners:
             job.prepare(self.options.program, words, timeout, fingerprint)
         return job
 
-    def run(self, name: str, scripts: dict[str, list[str]]) -> Merged:
-        """Runs the scripts of each corner and merges the answers; corners without scripts are left out."""
+    def run(self, name: str, scripts: dict[str, list[str]], before: int | None = None) -> Merged:
+        """Runs the scripts of each corner, behind all ECOs or so many, and merges the answers; corners without scripts
+        are left out."""
         folder = self.project.results.absolute() / name
         corners = [it for it in self.project.corners if scripts.get(it.name)]
-        jobs = [self.prepare(folder, it, scripts[it.name]) for it in corners]
+        jobs = [self.prepare(folder, it, scripts[it.name], before) for it in corners]
         missing = [it for it in jobs if it.outcome().state is not State.DONE]
         if missing:
             limits = [it.timeout if it.timeout is not None else self.options.timeout for it in corners]

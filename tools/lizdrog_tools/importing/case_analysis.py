@@ -55,6 +55,15 @@ class Carrier:
                 if instance.nets.get(pin) not in (None, *CONSTANTS):
                     self.set_net(instance.nets[pin], value)
 
+    def cases(self, constraints: Constraints) -> None:
+        """The constants of constraints, at ports and pins."""
+        for made, (text, _) in constraints.cases.items():
+            net = self.design.net_at(made)
+            if made.kind == "pin" and self.design.attribute(made, "direction") == "input":
+                self.set_pin(*self.design.pin_parts(made.name), text == "1")
+            elif net is not None:
+                self.set_net(net, text == "1")
+
     def carry(self) -> None:
         """On through the gates, as long as an output becomes constant."""
         while self.todo:
@@ -82,13 +91,7 @@ def express_cases(constraints: Constraints, design: Design, variants: Variants, 
     carrier = Carrier(design)
     carrier.tied()
     tied = {name: set(pins) for name, pins in carrier.pins.items()}
-    for made, (text, _) in constraints.cases.items():
-        value = text == "1"
-        net = design.net_at(made)
-        if made.kind == "pin" and design.attribute(made, "direction") == "input":
-            carrier.set_pin(*design.pin_parts(made.name), value)
-        elif net is not None:
-            carrier.set_net(net, value)
+    carrier.cases(constraints)
     carrier.carry()
     changed, known = 0, {}
     for name, pins in carrier.pins.items():

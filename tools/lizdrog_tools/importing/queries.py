@@ -1,4 +1,5 @@
 """The commands that ask for objects, and those that handle collections."""
+from lizdrog_tools.importing.constraints import Constraints
 from lizdrog_tools.importing.design import Object, Search, is_sequential
 from lizdrog_tools.importing.filters import Filter
 from lizdrog_tools.importing.session import Session, Words
@@ -48,8 +49,8 @@ PORT_OPTIONS = {"-clock": 1, "-no_clocks": 0, "-edge_triggered": 0, "-level_sens
 class Queries:
     """Answers get_, all_ and the commands on collections; a collection is a Tcl list of tokens."""
 
-    def __init__(self, session: Session):
-        self.session, self.design = session, session.design
+    def __init__(self, session: Session, constraints: Constraints):
+        self.session, self.design, self.constraints = session, session.design, constraints
         self.commands = {name: self.get for name in GET} | {
             "all_inputs": self.all_ports,
             "all_outputs": self.all_ports,
@@ -109,16 +110,20 @@ class Queries:
         return self.design.attribute(made, name)
 
     def all_ports(self, words: list[str]) -> str:
+        """Ports of a direction; with -clock those that have a delay against the clock at this command."""
         said = self.session.parse(words, PORT_OPTIONS)
         way = self.session.command.removeprefix("all_").removesuffix("s")
-        if said.has("-clock") or said.has("-edge_triggered") or said.has("-level_sensitive"):
-            raise CommandFault(f"{self.session.command} -clock is not read: name the ports")
-        clocks = (
-            set(self.design.clocks.values()) if said.has("-no_clocks") or said.has("-exclude_clock_ports") else set()
-        )
-        return self.session.tokens(
-            [Object("port", it) for it, side in self.design.netlist.ports.items() if side == way and it not in clocks]
-        )
+        for option in ("-edge_triggered", "-level_sensitive"):
+            if said.has(option):
+                raise CommandFault(f"{self.session.command} {option} is not read")
+        found = [it for it, side in self.design.netlist.ports.items() if side == way]
+        if said.has("-no_clocks") or said.has("-exclude_clock_ports"):
+            found = [it for it in found if it not in self.design.clocks.values()]
+        if said.has("-clock"):
+            clocks = {it.name for it in self.session.objects(said.value("-clock"), ("clock",))}
+            delays = self.constraints.inputs if way == "input" else self.constraints.outputs
+            found = [it for it in found if it in delays and clocks & delays[it].by_clock.keys()]
+        return self.session.tokens([Object("port", it) for it in found])
 
     def all_clocks(self, words: list[str]) -> str:
         self.session.parse(words, {})
@@ -169,7 +174,8 @@ class Queries:
         return self.session.tokens(list(dict.fromkeys(found)) if said.has("-unique") else found)
 
     def remove(self, words: list[str]) -> str:
-        """The objects of the first collection that the others do not have; a name stands for the objects of that name."""
+        """The objects of the first collection that the others do not have; a name stands for the objects of that
+        name."""
         said = self.session.parse(words, {"-intersect": 0})
         gone = {it for word in said.plain[1:] for it in self.session.items(word)}
         names = {it for it in gone if isinstance(it, str)}

@@ -7,6 +7,7 @@ import tempfile
 from lizdrog_tools.files import InputFault, read_text
 from lizdrog_tools.importing.constraints import Constraints
 from lizdrog_tools.importing.design import Design
+from lizdrog_tools.importing.fans import FanQueries
 from lizdrog_tools.importing.queries import Queries
 from lizdrog_tools.importing.report import Place, Report
 from lizdrog_tools.importing.sdc_commands import TimingCommands
@@ -66,13 +67,15 @@ class Runner:
     def __init__(self, design: Design, report: Report, folder: pathlib.Path):
         self.session = Session(design, report)
         self.constraints, self.folder = Constraints(), folder
-        self.timing, self.queries = TimingCommands(self.session, self.constraints), Queries(self.session)
+        self.timing = TimingCommands(self.session, self.constraints)
+        self.queries = Queries(self.session, self.constraints)
         self.originals: dict[str, str] = {}
         self.copies = 0
         self.fault: tuple[str, Place] | None = None
         self.work = tempfile.TemporaryDirectory()
         self.commands = {
             **self.queries.commands,
+            **FanQueries(self.session, self.constraints).commands,
             **self.timing.commands,
             "source": self.source,
             "current_design": self.current_design,

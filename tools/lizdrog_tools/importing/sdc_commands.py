@@ -398,7 +398,12 @@ class TimingCommands:
         value = self.first_number(said, self.time)
         for port in self.ports(said, "input"):
             self.constraints.slews.setdefault(port, {}).update(dict.fromkeys(self.corners(said), value))
-            self.constraints.drives.pop(port, None)
+            if self.constraints.drives.pop(port, None):
+                self.session.lose(
+                    "transition-beside-drive",
+                    f"the port {port} has a driving cell: timers differ in whether that or a transition behind it "
+                    "counts; leave out one (accepted: the transition counts)",
+                )
 
     def set_load(self, words: list[str]) -> None:
         said = self.session.parse(

@@ -39,7 +39,8 @@ class Session:
     # ------------------------------------------------------------------------------------------ words
 
     def parse(self, words: list[str], options: dict[str, int]) -> Words:
-        """The words of a command, by how many values each option takes; a beginning that fits one option stands for it."""
+        """The words of a command, by how many values each option takes; a beginning that fits one option stands for
+        it."""
         found, rest = Words(set(), {}, []), list(words)
         while rest:
             word = rest.pop(0)

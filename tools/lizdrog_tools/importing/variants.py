@@ -2,6 +2,7 @@
 import copy
 import dataclasses
 import functools
+from collections.abc import Iterable
 from decimal import Decimal
 
 from lizdrog_tools.importing.boolean import Function, NoFunction, Value, sense_word
@@ -68,8 +69,7 @@ class Constants:
 
     def matters(self, cell: Cell, tied: set[str]) -> bool:
         """Whether arcs or tests change by which an arrival could go on: none does from a tied pin."""
-        made = copy.deepcopy(cell)
-        self.apply(made, "late")
+        made = varied(cell, [self])
 
         def live(one: Cell) -> list[tuple]:
             return [
@@ -103,6 +103,14 @@ class Constants:
 
 
 Change = Cut | Undelayed | Constants
+
+
+def varied(cell: Cell, changes: Iterable[Change]) -> Cell:
+    """A copy of a cell with changes; its times are those of the late side."""
+    made = copy.deepcopy(cell)
+    for it in changes:
+        it.apply(made, "late")
+    return made
 
 
 def fixed(value: Decimal) -> Table:

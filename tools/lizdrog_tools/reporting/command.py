@@ -1,7 +1,7 @@
 """Writes one page (HTML) of the answers of corners, or of one run, for people to look at.
 
   report.py FILE.toml [--results FOLDER] --out PAGE.html
-      the answers that `corners FILE.toml` has kept; `corners FILE.toml --paths 10` asks what the page shows best
+      the answers that `corners FILE.toml` has kept; `corners FILE.toml --paths 10 --ecos` asks what the page shows best
   report.py SCRIPT OUTPUT [--netlist NETLIST --library LIBRARY --sdc SDC --journal SAVED] [--session N] --out PAGE.html
       one run; the documents are for cells, nets, clocks and the parts of required times
 
@@ -65,6 +65,7 @@ def of_project(file: pathlib.Path, results: pathlib.Path | None) -> Source:
         {it.name: it.late for it in project.corners},
         {it.name: it.sdc for it in project.corners},
         saved,
+        [it for it in kept_answers(project, "ecos") if it.is_there()],
     )
 
 

@@ -14,6 +14,7 @@ from lizdrog_tools.reporting.clocks import Clock, capture_clocks, read_clocks
 from lizdrog_tools.reporting.histogram import histogram, picoseconds
 from lizdrog_tools.reporting.path_picture import bar, path_picture
 from lizdrog_tools.reporting.paths import ShownPath, Times, shown_path
+from lizdrog_tools.reporting.replay import Replay
 from lizdrog_tools.verilog import read_netlist
 
 MOST_ENDPOINTS = 2000
@@ -31,6 +32,7 @@ class Source:
     libraries: dict[str, pathlib.Path]
     constraints: dict[str, pathlib.Path]
     saved: dict[str, list[list[str]]]
+    replayed: list[CornerAnswers] = dataclasses.field(default_factory=list)
 
 
 @dataclasses.dataclass(frozen=True)
@@ -60,11 +62,12 @@ class EndpointRow:
 
 @dataclasses.dataclass(frozen=True)
 class EcoRow:
-    """An ECO: its number, who made it, and what it changed."""
+    """An ECO: its number, its edits, what it changed of worst and total slacks, and what endpoints it moved most."""
 
     number: int
     changes: list[str]
     results: list[str]
+    moved: list[str]
 
 
 class Page:
@@ -78,6 +81,8 @@ class Page:
         self.names = [it.name for it in self.merged.there]
         self.clocks = self.clocks_of_endpoints()
         self.paths = list(self.shown_paths())
+        finals = {it.name: it.output.final for it in self.merged.there}
+        self.replay = Replay(source.replayed, source.saved, finals)
 
     # -------------------------------------------------------------------------------------------- documents
 
@@ -230,7 +235,12 @@ class Page:
             ecos = self.source.saved.get(corner.name, []) + corner.output.ecos
             edited = self.edited(corner) if ecos else None
             for number, edits in enumerate(ecos, 1):
-                yield EcoRow(number, [described(edit, edited) for edit in edits], list(self.results_of(number)))
+                edits = [described(edit, edited) for edit in edits]
+                if self.replay.has(number):
+                    results = list(self.replay.totals(number)) or ["no worst or total slack changed"]
+                    yield EcoRow(number, edits, results, self.replay.moved(number) or ["none of those asked"])
+                else:
+                    yield EcoRow(number, edits, list(self.results_of(number)), [])
 
     def results_of(self, design: int) -> Iterator[str]:
         """What the corners answered to report_wns and report_tns of a design."""

@@ -1,0 +1,195 @@
+//! What a door hears of an input's bytes, and what it writes.
+
+use live_doors::{Door, Lost, OpenDoor};
+use std::alloc::Global;
+use std::io;
+use std::io::{BufReader, ErrorKind, Read, Write};
+use std::process::Abort;
+
+/// This byte, so many times, and then a text.
+fn repeated(rt: &impl Abort, alloc: Global, count: usize, text: &str) -> Vec<u8> {
+    let mut bytes = Vec::new(alloc);
+    bytes.resize(count, b'x').expect(rt, "memory");
+    bytes
+        .extend_from_slice(text.as_bytes())
+        .expect(rt, "memory");
+    bytes
+}
+
+/// Asserts the next line by its length and its first byte, or that there is none.
+fn assert_heard<D: Door>(
+    rt: &impl Abort,
+    alloc: Global,
+    door: &mut D,
+    wanted: Option<(usize, u8)>,
+) {
+    let heard = door.hear(alloc).expect(rt, "a line or the end");
+    let seen = match heard {
+        None => None,
+        Some(line) => match line.first() {
+            Some(byte) => Some((line.len(), *byte)),
+            None => Some((0, b' ')),
+        },
+    };
+    assert_eq!(rt; seen, wanted);
+}
+
+#[test]
+fn an_input_is_heard_line_by_line(rt: HostRuntime) {
+    let alloc = rt.alloc();
+    let mut written = Vec::new(alloc);
+    let mut door = OpenDoor::new(alloc, b"take\n\n  at\r\nlast".as_slice(), &mut written);
+    let mut lines = Vec::new(alloc);
+    while let Some(line) = door.hear(alloc).expect(&rt, "a line or the end") {
+        lines.push(line).expect(&rt, "memory");
+        if lines.len() > 9 {
+            break;
+        }
+    }
+    assert_eq!(rt; lines.len(), 4);
+    assert_eq!(rt; lines[0].as_slice(), b"take".as_slice());
+    assert_eq!(rt; lines[1].as_slice(), b"".as_slice());
+    assert_eq!(rt; lines[2].as_slice(), b"  at\r".as_slice());
+    assert_eq!(rt; lines[3].as_slice(), b"last".as_slice());
+}
+
+/// Asserts what is heard of a line of so many bytes, and of the line behind it.
+fn assert_long(rt: &impl Abort, alloc: Global, count: usize, kept: usize) {
+    let bytes = repeated(rt, alloc, count, "\nnext");
+    let input = BufReader::new(alloc, bytes.as_slice()).expect(rt, "memory");
+    let mut written = Vec::new(alloc);
+    let mut door = OpenDoor::new(alloc, input, &mut written);
+    assert_heard(rt, alloc, &mut door, Some((kept, b'x')));
+    assert_heard(rt, alloc, &mut door, Some((4, b'n')));
+    assert_heard(rt, alloc, &mut door, None);
+}
+
+#[test]
+fn of_a_long_line_one_byte_more_than_its_limit_is_kept(rt: HostRuntime) {
+    assert_long(&rt, rt.alloc(), 1, 1);
+    assert_long(&rt, rt.alloc(), 8_192, 8_192);
+    assert_long(&rt, rt.alloc(), 65_536, 65_536);
+    assert_long(&rt, rt.alloc(), 65_537, 65_537);
+    assert_long(&rt, rt.alloc(), 200_000, 65_537);
+}
+
+#[test]
+fn a_long_last_line_needs_no_line_feed(rt: HostRuntime) {
+    let alloc = rt.alloc();
+    let bytes = repeated(&rt, alloc, 200_000, "");
+    let mut written = Vec::new(alloc);
+    let mut door = OpenDoor::new(alloc, bytes.as_slice(), &mut written);
+    assert_heard(&rt, alloc, &mut door, Some((65_537, b'x')));
+    assert_heard(&rt, alloc, &mut door, None);
+    assert_heard(&rt, alloc, &mut door, None);
+}
+
+/// An input that gives `a`, is interrupted, gives `b`, a line feed and `c`, each by a call of its own, and is
+/// then at its end; the call of this number, from 1, fails.
+#[derive(Drop)]
+struct Pieces {
+    turn: u8,
+    fails: u8,
+}
+
+impl Read for Pieces {
+    fn read(&mut self, buf: &mut [u8]) -> io::Result<usize> {
+        self.turn = self.turn.saturating_add(1);
+        if self.turn == self.fails {
+            return Err(io::Error::from(ErrorKind::BrokenPipe));
+        }
+        let byte = match self.turn {
+            1 => b'a',
+            2 => return Err(io::Error::from(ErrorKind::Interrupted)),
+            3 => b'b',
+            4 => b'\n',
+            5 => b'c',
+            _ => return Ok(0),
+        };
+        match buf.first_mut() {
+            Some(first) => {
+                *first = byte;
+                Ok(1)
+            }
+            None => Ok(0),
+        }
+    }
+}
+
+/// How many lines are heard before the end or a fault, where the call of a number fails.
+fn lines_heard(rt: &impl Abort, alloc: Global, fails: u8) -> (usize, Option<Lost>) {
+    let input = BufReader::new(alloc, Pieces { turn: 0, fails }).expect(rt, "memory");
+    let mut written = Vec::new(alloc);
+    let mut door = OpenDoor::new(alloc, input, &mut written);
+    let mut count = 0;
+    for _ in 0..9 {
+        match door.hear(alloc) {
+            Ok(Some(_)) => count += 1,
+            Ok(None) => return (count, None),
+            Err(lost) => return (count, Some(lost)),
+        }
+    }
+    (count, None)
+}
+
+#[test]
+fn a_fault_of_the_input_ends_the_hearing(rt: HostRuntime) {
+    let alloc = rt.alloc();
+    assert_eq!(rt; lines_heard(&rt, alloc, 0), (2, None));
+    assert_eq!(rt; lines_heard(&rt, alloc, 1), (0, Some(Lost::Input)));
+    assert_eq!(rt; lines_heard(&rt, alloc, 2), (0, Some(Lost::Input)));
+    assert_eq!(rt; lines_heard(&rt, alloc, 3), (0, Some(Lost::Input)));
+    assert_eq!(rt; lines_heard(&rt, alloc, 4), (0, Some(Lost::Input)));
+    assert_eq!(rt; lines_heard(&rt, alloc, 5), (1, Some(Lost::Input)));
+    assert_eq!(rt; lines_heard(&rt, alloc, 6), (1, Some(Lost::Input)));
+}
+
+/// An output that takes one byte at a time, as many as it has room for, and is interrupted before each.
+#[derive(Drop)]
+struct Narrow<'a> {
+    to: &'a mut Vec<u8>,
+    room: usize,
+    is_interrupted: bool,
+}
+
+impl Write for Narrow<'_> {
+    fn write(&mut self, piece: &[u8]) -> io::Result<usize> {
+        self.is_interrupted = !self.is_interrupted;
+        if self.is_interrupted {
+            return Err(io::Error::from(ErrorKind::Interrupted));
+        }
+        let Some(byte) = piece.first() else {
+            return Ok(0);
+        };
+        if self.room <= self.to.len() {
+            return Err(io::Error::from(ErrorKind::BrokenPipe));
+        }
+        self.to.push(*byte)?;
+        Ok(1)
+    }
+
+    fn flush(&mut self) -> io::Result<()> {
+        Ok(())
+    }
+}
+
+/// Asserts what is written of a piece where the output has so much room.
+fn assert_said(rt: &impl Abort, alloc: Global, room: usize, wanted: Result<(), Lost>, text: &str) {
+    let mut written = Vec::new(alloc);
+    let output = Narrow {
+        to: &mut written,
+        room,
+        is_interrupted: false,
+    };
+    let mut door = OpenDoor::new(alloc, b"".as_slice(), output);
+    let piece = Vec::from_slice(alloc, b"take 1 0\n").expect(rt, "memory");
+    assert_eq!(rt; door.say(&piece), wanted);
+    assert_eq!(rt; written.as_slice(), text.as_bytes());
+}
+
+#[test]
+fn a_piece_is_written_whole_or_a_prefix_of_it(rt: HostRuntime) {
+    assert_said(&rt, rt.alloc(), 9, Ok(()), "take 1 0\n");
+    assert_said(&rt, rt.alloc(), 4, Err(Lost::Output), "take");
+    assert_said(&rt, rt.alloc(), 0, Err(Lost::Output), "");
+}

@@ -1,0 +1,319 @@
+//! Two sessions whose notes are kept in a file before they are told of them.
+
+ghost use Rattle.std.specs.Prelude.{◌≡◌, ℕ, ◌+◌, ◌<◌, [], Some, length, All, IfSome, slice_get};
+ghost use Rattle.timing_defs.specs.Documents.{no_derates};
+ghost use Rattle.version_board.specs.Callers.{meaning, IsSeatOf, IsSame, IsNew};
+ghost use Rattle.live_journal.specs.Desk.{IsBoardOf};
+
+use crate::notes::{Here, Log, Note, add, empty};
+use live_journal::{Desk, Left, Room, Unkept, keep_shared};
+use sta_outside::MemSink;
+use std::alloc::Global;
+use std::marker::Brand;
+use std::process::Abort;
+use std::sync::{Arc, Mutex, Wait};
+use std::thread::{Threads, join};
+use timing_defs::Derates;
+use version_board::{Begun, Board, Seat, Stands};
+
+/// A board of two sessions and a desk, and what the file can take.
+#[derive(Drop)]
+struct Opened {
+    board: Board<Log>,
+    one: Seat<Log>,
+    two: Seat<Log>,
+    third: Seat<Log>,
+}
+
+/// What is left at the end: the board's list, the file, and whether each put went well.
+#[derive(Drop)]
+struct Ended {
+    log: Arc<Log>,
+    file: MemSink,
+    kept: u64,
+    sound: bool,
+}
+
+/// The board and its three seats.
+fn seated(board: Board<Log>, mut seats: Vec<Seat<Log>>) -> Opened
+    requires three { length seats.items ≡ 3 }
+    requires seats { let l = ⟦<Log as Stands>⟧ in All (IsSeatOf (meaning l.entries l.from l.origin l.by) board) seats.items }
+    requires new { (k : ℕ) → k < 3 → IfSome (slice_get seats.items k) (IsNew (k + 1)) }
+    ensures board { result.board ≡ board }
+    ensures one { let l = ⟦<Log as Stands>⟧ in IsSeatOf (meaning l.entries l.from l.origin l.by) board result.one × IsNew 1 result.one }
+    ensures two { let l = ⟦<Log as Stands>⟧ in IsSeatOf (meaning l.entries l.from l.origin l.by) board result.two × IsNew 2 result.two }
+    ensures third { let l = ⟦<Log as Stands>⟧ in IsSeatOf (meaning l.entries l.from l.origin l.by) board result.third × IsNew 3 result.third }
+{
+    let third = seats.pop().unwrap();
+    let two = seats.pop().unwrap();
+    let one = seats.pop().unwrap();
+    Opened {
+        board,
+        one,
+        two,
+        third,
+    }
+}
+
+fn begun(rt: &impl Abort, alloc: Global) -> Opened
+    ensures board { (result.board.seats ≡ 3) × (result.board.opening.first ≡ 0) }
+    ensures one { let l = ⟦<Log as Stands>⟧ in IsSeatOf (meaning l.entries l.from l.origin l.by) result.board result.one × IsNew 1 result.one }
+    ensures two { let l = ⟦<Log as Stands>⟧ in IsSeatOf (meaning l.entries l.from l.origin l.by) result.board result.two × IsNew 2 result.two }
+    ensures third { let l = ⟦<Log as Stands>⟧ in IsSeatOf (meaning l.entries l.from l.origin l.by) result.board result.third × IsNew 3 result.third }
+{
+    let value = empty(rt, alloc, 0);
+    let Begun { board, seats } = Board::begin(alloc, 0, value, 3).expect(rt, "memory");
+    seated(board, seats)
+}
+
+fn sink(rt: &impl Abort, alloc: Global, room: usize, fails: &[u64]) -> MemSink
+    ensures { result.bytes.items ≡ [] }
+{
+    let fails = Vec::from_slice(alloc, fails).expect(rt, "memory");
+    MemSink::new(alloc, room, fails).expect(rt, "memory")
+}
+
+/// Adds so many notes, and has each kept before the next. Gives the number of the last that was kept.
+fn keep_each<R: Wait + Abort, B: Room<Here>>(
+    rt: &R,
+    alloc: Global,
+    board: &Board<Log>,
+    desk: &Mutex<Desk<Log, MemSink, B>>,
+    mut seat: Seat<Log>,
+    who: u8,
+    count: u64,
+) -> (Seat<Log>, u64)
+    requires board { let l = ⟦<Log as Stands>⟧ in IsBoardOf (meaning l.entries l.from l.origin l.by) B.about board.now }
+    requires seat { let l = ⟦<Log as Stands>⟧ in IsSeatOf (meaning l.entries l.from l.origin l.by) board.now seat × (who ≡ seat.view.number) }
+    ensures { let l = ⟦<Log as Stands>⟧ in IsSeatOf (meaning l.entries l.from l.origin l.by) board.now result.0 }
+{
+    let mut told = 0;
+    for _ in 0..count {
+        let number = add(rt, alloc, board, &mut seat, who);
+        if keep_shared(rt, alloc, desk, board, number).is_ok() {
+            assert!(rt; number <= desk.lock(rt).kept());
+            told = number;
+        }
+    }
+    (seat, told)
+}
+
+/// Two threads add so many notes each.
+fn keep_beside<R: Threads + Wait + Abort + Sync, B: Room<Here> + Send + Sync>(
+    rt: &R,
+    alloc: Global,
+    board: &Board<Log>,
+    desk: &Mutex<Desk<Log, MemSink, B>>,
+    one: Seat<Log>,
+    two: Seat<Log>,
+    count: u64,
+) -> ((Seat<Log>, u64), (Seat<Log>, u64))
+    requires board { let l = ⟦<Log as Stands>⟧ in IsBoardOf (meaning l.entries l.from l.origin l.by) B.about board.now }
+    requires one { let l = ⟦<Log as Stands>⟧ in IsSeatOf (meaning l.entries l.from l.origin l.by) board.now one × (one.view.number ≡ 1) }
+    requires two { let l = ⟦<Log as Stands>⟧ in IsSeatOf (meaning l.entries l.from l.origin l.by) board.now two × (two.view.number ≡ 2) }
+    ensures one { let l = ⟦<Log as Stands>⟧ in IsSeatOf (meaning l.entries l.from l.origin l.by) board.now result.0.0 }
+    ensures two { let l = ⟦<Log as Stands>⟧ in IsSeatOf (meaning l.entries l.from l.origin l.by) board.now result.1.0 }
+{
+    join(
+        rt,
+        || -> (Seat<Log>, u64)
+            requires { IsBoardOf (meaning (λ (l : Log). l.notes.items) (λ (l : Log). l.first) (λ (l : Log). record {}) (λ (n : Note). n.seat)) B.about board.now × IsSeatOf (meaning (λ (l : Log). l.notes.items) (λ (l : Log). l.first) (λ (l : Log). record {}) (λ (n : Note). n.seat)) board.now one × (one.view.number ≡ 1) }
+            ensures { IsSeatOf (meaning (λ (l : Log). l.notes.items) (λ (l : Log). l.first) (λ (l : Log). record {}) (λ (n : Note). n.seat)) board.entry.now result.0 }
+        { keep_each(rt, alloc, board, desk, one, 1, count) },
+        || -> (Seat<Log>, u64)
+            requires { IsBoardOf (meaning (λ (l : Log). l.notes.items) (λ (l : Log). l.first) (λ (l : Log). record {}) (λ (n : Note). n.seat)) B.about board.now × IsSeatOf (meaning (λ (l : Log). l.notes.items) (λ (l : Log). l.first) (λ (l : Log). record {}) (λ (n : Note). n.seat)) board.now two × (two.view.number ≡ 2) }
+            ensures { IsSeatOf (meaning (λ (l : Log). l.notes.items) (λ (l : Log). l.first) (λ (l : Log). record {}) (λ (n : Note). n.seat)) board.entry.now result.0 }
+        { keep_each(rt, alloc, board, desk, two, 2, count) },
+    )
+}
+
+/// Closes the board with all seats.
+fn closed<B: Room<Here>>(
+    rt: &impl Abort,
+    alloc: Global,
+    board: Board<Log>,
+    desk: Desk<Log, MemSink, B>,
+    one: Seat<Log>,
+    two: Seat<Log>,
+) -> Ended
+    requires board { let l = ⟦<Log as Stands>⟧ in (board.seats ≡ 3) × IsBoardOf (meaning l.entries l.from l.origin l.by) B.about board }
+    requires seats { let l = ⟦<Log as Stands>⟧ in IsSeatOf (meaning l.entries l.from l.origin l.by) board one × IsSeatOf (meaning l.entries l.from l.origin l.by) board two }
+{
+    let Left {
+        seat,
+        file,
+        kept,
+        sound,
+    } = desk.into_parts();
+    let mut seats = Vec::with_capacity(alloc, 3).expect(rt, "memory");
+    seats.push_reserved(one);
+    seats.push_reserved(two);
+    seats.push_reserved(seat);
+    Ended {
+        log: board.close(seats),
+        file,
+        kept,
+        sound,
+    }
+}
+
+/// Two sessions at a new board add notes beside each other, and have each kept. Gives the numbers that were told last, too.
+fn kept_beside<R: Threads + Wait + Abort + Sync, B: Room<Here> + Send + Sync>(
+    rt: &R,
+    alloc: Global,
+    opened: Opened,
+    file: MemSink,
+    count: u64,
+) -> (Ended, u64, u64)
+    requires about { B.about ≡ record { table = opened.board.id; first = 0; origin = Some (record {}); number = 3; before = Some []; derates = no_derates } }
+    requires file { file.bytes.items ≡ [] }
+    requires board { (opened.board.seats ≡ 3) × (opened.board.opening.first ≡ 0) }
+    requires one { let l = ⟦<Log as Stands>⟧ in IsSeatOf (meaning l.entries l.from l.origin l.by) opened.board opened.one × (opened.one.view.number ≡ 1) }
+    requires two { let l = ⟦<Log as Stands>⟧ in IsSeatOf (meaning l.entries l.from l.origin l.by) opened.board opened.two × (opened.two.view.number ≡ 2) }
+    requires third { let l = ⟦<Log as Stands>⟧ in IsSeatOf (meaning l.entries l.from l.origin l.by) opened.board opened.third × IsNew 3 opened.third }
+{
+    let Opened {
+        board,
+        one,
+        two,
+        third,
+    } = opened;
+    let desk = Mutex::new(Desk::<Log, MemSink, B>::begin(third, file, Derates::none(), 0));
+    let ((one, told), (two, told_too)) = keep_beside(rt, alloc, &board, &desk, one, two, count);
+    let desk = desk.into_inner();
+    (closed(rt, alloc, board, desk, one, two), told, told_too)
+}
+
+/// The lines of notes.
+fn lines(rt: &impl Abort, alloc: Global, log: &Log) -> Vec<u8> {
+    let mut bytes = Vec::new(alloc);
+    for note in log.notes.as_slice() {
+        bytes.push(note.seat).expect(rt, "memory");
+        bytes.push(10).expect(rt, "memory");
+    }
+    bytes
+}
+
+#[test]
+fn what_two_threads_are_told_stands_in_the_file(rt: HostRuntime) {
+    let alloc = rt.alloc();
+    let opened = begun(&rt, alloc);
+    let file = sink(&rt, alloc, 4000, &[]);
+    let (ended, one, two) = kept_beside::<HostRuntime, Brand>(&rt, alloc, opened, file, 500);
+    assert!(rt; ended.sound);
+    assert_eq!(rt; ended.kept, 1000);
+    assert_eq!(rt; one.max(two), 1000);
+    assert_eq!(rt;
+        ended.file.bytes(),
+        lines(&rt, alloc, &ended.log).as_slice()
+    );
+}
+
+#[test]
+fn behind_a_put_that_fails_nothing_is_told_or_written(rt: HostRuntime) {
+    let alloc = rt.alloc();
+    let opened = begun(&rt, alloc);
+    let file = sink(&rt, alloc, 4000, &[5]);
+    let (ended, one, two) = kept_beside::<HostRuntime, Brand>(&rt, alloc, opened, file, 100);
+    assert!(rt; !ended.sound);
+    assert_eq!(rt; ended.file.fault_count(), 1);
+    assert_eq!(rt; ended.log.notes.len(), 200);
+    assert!(rt; one.max(two) == ended.kept);
+    assert_eq!(rt; ended.file.bytes().len() as u64 / 2, ended.kept);
+    let all = lines(&rt, alloc, &ended.log);
+    assert!(rt; all.as_slice().starts_with(ended.file.bytes()));
+}
+
+/// One session adds notes, and asks for the numbers 1, 2 to 3 at once, 4, and 1 again. Gives the four answers.
+fn kept_in_turn<R: Wait + Abort, B: Room<Here>>(
+    rt: &R,
+    alloc: Global,
+    opened: Opened,
+    file: MemSink,
+) -> (Ended, [Result<(), Unkept>; 4])
+    requires about { B.about ≡ record { table = opened.board.id; first = 0; origin = Some (record {}); number = 3; before = Some []; derates = no_derates } }
+    requires file { file.bytes.items ≡ [] }
+    requires board { (opened.board.seats ≡ 3) × (opened.board.opening.first ≡ 0) }
+    requires one { let l = ⟦<Log as Stands>⟧ in IsSeatOf (meaning l.entries l.from l.origin l.by) opened.board opened.one × (opened.one.view.number ≡ 1) }
+    requires two { let l = ⟦<Log as Stands>⟧ in IsSeatOf (meaning l.entries l.from l.origin l.by) opened.board opened.two × (opened.two.view.number ≡ 2) }
+    requires third { let l = ⟦<Log as Stands>⟧ in IsSeatOf (meaning l.entries l.from l.origin l.by) opened.board opened.third × IsNew 3 opened.third }
+{
+    let Opened {
+        board,
+        mut one,
+        mut two,
+        third,
+    } = opened;
+    let mut desk = Desk::<Log, MemSink, B>::begin(third, file, Derates::none(), 0);
+    add(rt, alloc, &board, &mut one, 1);
+    let first = desk.keep(rt, alloc, &board, 1);
+    add(rt, alloc, &board, &mut two, 2);
+    add(rt, alloc, &board, &mut one, 1);
+    let second = desk.keep(rt, alloc, &board, 2);
+    add(rt, alloc, &board, &mut two, 2);
+    let third = desk.keep(rt, alloc, &board, 4);
+    let last = desk.keep(rt, alloc, &board, 1);
+    (
+        closed(rt, alloc, board, desk, one, two),
+        [first, second, third, last],
+    )
+}
+
+/// Asserts the four answers, the number that is kept, and what stands in the file, where a sink has this room and these puts fail.
+fn assert_kept<R: Wait + Abort>(
+    rt: &R,
+    alloc: Global,
+    room: usize,
+    fails: &[u64],
+    wanted: [Result<(), Unkept>; 4],
+    kept: u64,
+    written: &[u8],
+) {
+    let opened = begun(rt, alloc);
+    let file = sink(rt, alloc, room, fails);
+    let (ended, answers) = kept_in_turn::<R, Brand>(rt, alloc, opened, file);
+    assert_eq!(rt; answers, wanted);
+    assert_eq!(rt; ended.kept, kept);
+    assert_eq!(rt; ended.file.bytes(), written);
+}
+
+const FAILED: Result<(), Unkept> = Err(Unkept::Failed);
+
+#[test]
+fn notes_of_one_look_are_put_at_once(rt: HostRuntime) {
+    assert_kept(
+        &rt,
+        rt.alloc(),
+        100,
+        &[4],
+        [Ok(()), Ok(()), Ok(()), Ok(())],
+        4,
+        b"\x01\n\x02\n\x01\n\x02\n",
+    );
+}
+
+#[test]
+fn a_desk_never_writes_behind_a_failed_put(rt: HostRuntime) {
+    assert_kept(
+        &rt,
+        rt.alloc(),
+        100,
+        &[2],
+        [Ok(()), FAILED, FAILED, Ok(())],
+        1,
+        b"\x01\n",
+    );
+}
+
+#[test]
+fn a_put_that_fails_may_leave_a_beginning(rt: HostRuntime) {
+    assert_kept(
+        &rt,
+        rt.alloc(),
+        5,
+        &[],
+        [Ok(()), FAILED, FAILED, Ok(())],
+        1,
+        b"\x01\n\x02\n\x01",
+    );
+}

@@ -1,0 +1,9 @@
+//! Tests of the journal desk, by its public calls.
+#![tactic(auto)]
+
+#[cfg(test)]
+mod blocks;
+#[cfg(test)]
+mod desks;
+#[cfg(test)]
+mod notes;

@@ -1,0 +1,5 @@
+-- What the contracts of doors, halls and journals cite.
+pub mod Doors
+pub mod InMemory
+pub mod Lines
+pub mod Marks

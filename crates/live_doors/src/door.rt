@@ -1,0 +1,85 @@
+//! The door of a session: what comes in and what goes out, in one order.
+
+ghost use Rattle.std.specs.Prelude.{◌≡◌, ℕ, ◌≤◌, List, [], ◌∷◌, IfOk, IfErr, IfSome, OnOk, OnErr, length, option_map, vec_items};
+ghost use Rattle.std.specs.declared.option.Option.{Option};
+ghost use Rattle.live_doors.specs.Doors.{Deed, kept, said, Hears, Loses, Grows, SaysPart, HasCause, IsUntouched};
+ghost use Rattle.live_doors.specs.Lines.{kept_length};
+ghost use Rattle.sta_outside.specs.Shelf.{Rose};
+
+use std::alloc::Global;
+use thiserror::Error;
+
+/// What a call of a door lost.
+#[derive(Debug, Clone, Copy, PartialEq, Eq, Drop, Error)]
+pub enum Lost {
+    /// The input failed.
+    #[error("the input failed")]
+    Input,
+    /// The output failed.
+    #[error("the output failed")]
+    Output,
+    /// Want of memory.
+    #[error("out of memory")]
+    Memory,
+}
+
+/// The two directions of a session, with the mark of its journal between them, so that their order is told.
+pub trait Door {
+    /// The lines to come, where the door tells them.
+    ghost left: { Self → Option (List (List ℕ)) };
+
+    /// What was done at it, where the door tells it.
+    ghost trace: { Self → Option (List Deed) };
+
+    /// How often it failed. The count stands still at `2^64 - 1`.
+    ghost faults: { Self → ℕ };
+
+    /// The next line, without its line feed; none at the input's end. Waits until it is there. Of a line of
+    /// more than 65,536 bytes the first 65,537 are kept.
+    ///
+    /// # Errors
+    ///
+    /// `Input` only where the count of faults rose, and `Memory`; no line was heard.
+    fn hear(&mut self, alloc: Global) -> Result<Option<Vec<u8>>, Lost>
+        ensures line { IfOk result (λ got. Hears (left self.old) (left self.new) (trace self.old) (trace self.new) (option_map vec_items got)) }
+        ensures within { IfOk result (λ got. IfSome got (λ line. length line.items ≤ kept_length)) }
+        ensures quiet { OnOk result (faults self.new ≡ faults self.old) }
+        ensures none { OnErr result (Loses (left self.old) (left self.new) [] × Grows (trace self.old) (trace self.new) []) }
+        ensures cause { IfErr result (λ lost. HasCause lost (faults self.old) (faults self.new)) };
+
+    /// Writes a piece and hands it on.
+    ///
+    /// # Errors
+    ///
+    /// `Output`, where the count of faults rose; nothing or a prefix of the piece was written.
+    fn say(&mut self, piece: &Vec<u8>) -> Result<(), Lost>
+        ensures same { Loses (left self.old) (left self.new) [] }
+        ensures whole { OnOk result (Grows (trace self.old) (trace self.new) (said piece.now.items ∷ [])) }
+        ensures quiet { OnOk result (faults self.new ≡ faults self.old) }
+        ensures partly { OnErr result (SaysPart (trace self.old) (trace self.new) piece.now.items) }
+        ensures cause { OnErr result (Rose (faults self.old) (faults self.new)) }
+        ensures lost { IfErr result (λ lost. lost ≡ Lost.Output) };
+
+    /// Notes that all entries up to a number stand in the journal; the caller has seen to it.
+    fn note(&mut self, number: u64)
+        ensures same { Loses (left self.old) (left self.new) [] }
+        ensures kept { Grows (trace self.old) (trace self.new) (kept number ∷ []) }
+        ensures quiet { faults self.new ≡ faults self.old };
+}
+
+/// Where sessions find their doors.
+pub trait Hall<D: Door> {
+    /// The lines that come in at a seat, where the hall tells them.
+    ghost lines: { Self → ℕ → Option (List (List ℕ)) };
+
+    /// Opens the door of a seat, its input first; seats count from 1. Waits until both ends are there, so each
+    /// session's own thread opens its door.
+    ///
+    /// # Errors
+    ///
+    /// What could not be opened, or `Memory`.
+    fn open(&self, alloc: Global, seat: u32) -> Result<D, Lost>
+        ensures lines { IfOk result (λ door. D.left door ≡ lines self.now seat) }
+        ensures untouched { IfOk result (λ door. IsUntouched (D.trace door)) }
+        ensures sound { IfOk result (λ door. D.faults door ≡ 0) };
+}

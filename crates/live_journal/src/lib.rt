@@ -1,0 +1,26 @@
+//! The desk that keeps the entries of a board in a file before anybody is told of them.
+//!
+//! `Desk::keep` sees to it that all entries up to a number stand in the file; threads that share a desk call it by `keep_shared`.
+//! The desk has a seat of its own at the board, so the file's order is the board's. `Stands` gives the entries and `Saves` their
+//! texts. A put that fails is the last: what stands in the file then is a beginning of the texts.
+//!
+//! `check_end` refuses a saved journal whose last line lacks its line feed. `saved_goes_on` tells how blocks are read that stand
+//! behind a saved journal. A version's entries are kept in blocks of one entry each.
+#![tactic(auto)]
+
+mod blocks;
+mod desks;
+mod ends;
+mod laws;
+mod rest;
+mod rooms;
+mod saving;
+mod versions;
+
+pub use blocks::single_blocks;
+pub use desks::{Desk, Left, Unkept, keep_shared};
+pub use ends::check_end;
+pub use laws::{file_goes_on, saved_goes_on, torn_is_refused};
+pub use rest::put_rest;
+pub use rooms::Room;
+pub use saving::Saves;

@@ -1,0 +1,5 @@
+pub mod DoorLaws
+pub mod TalkLaws
+pub mod TurnLaws
+pub mod JoinLaws
+pub mod MomentLaws

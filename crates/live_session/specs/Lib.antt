@@ -1,0 +1,3 @@
+pub mod Talks
+pub mod Turns
+pub mod Moments

@@ -1,0 +1,7 @@
+mod AppLemmas
+mod ByRows
+mod NumberLemmas
+mod Pairs
+mod PlainWalk
+mod PlainLive
+mod PlainJournal
