@@ -111,6 +111,7 @@ def main():
     parser.add_argument("names", nargs="*", metavar="CRATE")
     given = parser.parse_args()
     tell, rt = teller(given.log), rt_library()
+    rt.Crate.stamp = lambda crate: sum_of(rt, crate, {})
     crates = [it for it in rt.crates_below(str(TOP)) if it.makes_rlib()]
     unknown = sorted(set(given.names) - {it.name for it in crates})
     if unknown:
