@@ -8,10 +8,10 @@ use Rattle.std.proofs.lemmas.List.{take-append-drop, take-append-le, drop-append
 use Rattle.std.proofs.Math.Seq.{take-length, take-append_seam, take-append-add}
 use Rattle.timing_defs.specs.declared.constraints.Derates.{Derates}
 use Rattle.timing_defs.specs.declared.edits.Entry.{Entry}
-use Rattle.timing_defs.specs.Saved.{block_text}
 use Rattle.sta_outside.specs.Sink.{Appends, AppendsPrefix}
 use Rattle.eco_journal.specs.Blocks.{blocks_text}
 use Rattle.live_journal.specs.Desk.{single, HasText, HasFile}
+use Rattle.live_journal.specs.Joins.{single_joins}
 
 -- two pieces, one behind the other
 appends_both : (a b c : Option (List ℕ)) (xs ys : List ℕ) → Appends a b xs → Appends b c ys → Appends a c (xs ++ ys)
@@ -97,16 +97,6 @@ module _ {E : Type 0} (text : ℕ → List E → List ℕ) (joins : (n : ℕ) (x
 pub nothing_put : {E : Type 0} (text : ℕ → List E → List ℕ) → ((n : ℕ) → text n [] ≡ []) → (old : Option (List ℕ)) (first : ℕ) (seen : List E)
     → HasText text old old first seen 0 true
 nothing_put text none old first seen = subst (λ w. Appends old old w) (sym (none first)) (appends_nothing old)
-
--- blocks of one entry each, one behind another
-pub single_joins : (d : Derates) (n : ℕ) (xs ys : List Entry)
-    → blocks_text d n (single (xs ++ ys)) ≡ blocks_text d n (single xs) ++ blocks_text d (n + length xs) (single ys)
-single_joins d n [] ys = let same : n ≡ n + length {A = Entry} [] = omega arith in ap (λ m. blocks_text d m (single ys)) same
-single_joins d n (e ∷ es) ys =
-    let here = n + length (e ∷ []) in
-    let same : here + length es ≡ n + length (e ∷ es) = omega arith in
-    ap (λ w. block_text n d (e ∷ []) ++ w) (single_joins d here es ys ∙ ap (λ m. blocks_text d here (single es) ++ blocks_text d m (single ys)) same)
-    ∙ sym (append_assoc (block_text n d (e ∷ [])) (blocks_text d here (single es)) (blocks_text d (n + length (e ∷ es)) (single ys)))
 
 pub file_longer : (old new : Option (List ℕ)) (d : Derates) (first : ℕ) (seen all : List Entry) (n : ℕ) (sound : Bool) → n ≤ length seen
     → IsPrefix seen all → HasFile old new d first seen n sound → HasFile old new d first all n sound

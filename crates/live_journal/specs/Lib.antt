@@ -1,3 +1,4 @@
 pub mod Desk
 pub mod Ends
 pub mod Laws
+pub mod Joins

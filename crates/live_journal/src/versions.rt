@@ -13,7 +13,7 @@ use version_board::Stands;
 
 impl Saves for Version {
     ghost use Rattle.std.specs.Prelude.{refl};
-    ghost use Rattle.live_journal.proofs.Texts.{single_joins};
+    ghost use Rattle.live_journal.specs.Joins.{single_joins};
 
     ghost text = { λ derates from entries. blocks_text derates from (single entries) };
 
