@@ -35,6 +35,8 @@ impl Answering for Accepting {
 
     ghost ran = { λ _ _ _. ⊤ };
 
+    ghost stands = { λ _. ⊤ };
+
     fn answer(&mut self, alloc: Global, command: &Command) -> Result<Row, Unanswered> {
         if self.count >= self.answers || self.count >= 1_000 || self.number >= 1_000 {
             return Err(Unanswered::Memory);

@@ -8,6 +8,7 @@ use std::process::Abort;
 use std::sync::Wait;
 
 /// What comes of a session that hears these lines: its story, how it ended, and whether all its replies are answers.
+#[derive(Clone, Copy, Drop)]
 struct Case<'a> {
     lines: &'a str,
     /// The call of the door that fails, from 1; none at 0.
@@ -164,4 +165,26 @@ fn want_of_memory_ends_the_session(rt: HostRuntime) {
         )
     };
     assert_case(&rt, rt.alloc(), &case);
+}
+
+#[test]
+fn a_line_that_is_too_long_is_told(rt: HostRuntime) {
+    let alloc = rt.alloc();
+    let mut lines = Vec::new(alloc);
+    let mut long = Vec::new(alloc);
+    long.resize(65_537, b'y').expect(&rt, "memory");
+    lines.push(long).expect(&rt, "memory");
+    lines
+        .append(&mut lines_of(&rt, alloc, "take"))
+        .expect(&rt, "memory");
+    let mut door = MemDoor::new(alloc, lines, Vec::new(alloc));
+    let mut session = Accepting::new(100, 100);
+    let outcome = talked(&rt, alloc, &mut door, &mut session, true);
+    let story = story(&rt, alloc, &door);
+    assert_eq!(rt;
+        story.ends_with(b"y\nerror C2 1\n< take\nkept 0\n1 0 taken\n"),
+        true
+    );
+    assert_eq!(rt; outcome.end, TalkEnd::Closed);
+    assert_eq!(rt; outcome.clean, false);
 }
