@@ -1,6 +1,6 @@
 //! What matches ask for.
 
-ghost use Rattle.std.specs.Prelude.{◌≡◌, ◌≤◌, IfOk, IfSome, option_map, option_and_then, map, length, ◌+◌};
+ghost use Rattle.std.specs.Prelude.{◌≡◌, ◌+◌, ◌<◌, ◌≤◌, ◌∷◌, IfOk, IfSome, MatchOption, option_map, option_and_then, map, length};
 ghost use Rattle.clap.specs.Matches.{found_of};
 ghost use Rattle.clap.specs.Walk.{rows_of, first_of};
 ghost use Rattle.command_words.specs.Command.{Names, names_in, workers_in};
@@ -58,19 +58,37 @@ fn workers_of(matches: &ArgMatches<'_>) -> Option<u32>
     }
 }
 
+/// The first two names as a pair, and the names behind them; none where there are not two.
+fn first_pair<'a, 'b>(names: &'b [&'a str]) -> Option<(Pair<'a>, &'b [&'a str])>
+    ensures pair { MatchOption result (length names.now < 2) (λ found. map (λ s. s.now) names.now ≡ found.0.input.now ∷ found.0.output.now ∷ map (λ s. s.now) found.1.now) }
+    ensures rest { IfSome result (λ found. length found.1.now + 2 ≡ length names.now) }
+{
+    let (input, behind) = names.split_first()?;
+    let (output, rest) = behind.split_first()?;
+    Some((
+        Pair {
+            input: *input,
+            output: *output,
+        },
+        rest,
+    ))
+}
+
 /// Names in turns as pairs; none where one is left over.
-#[tactic(auto, using(crate::proofs::Pairs::pair_behind, crate::proofs::Pairs::pairs_ended))]
 fn paired<'a>(alloc: Global, names: &[&'a str]) -> Result<Option<Vec<Pair<'a>>>, AllocError>
     ensures pairs { IfOk result (λ found. option_map (λ pairs. map pair_words pairs.items) found ≡ pairs_of (map (λ s. s.now) names.now)) }
     ensures count { IfOk result (λ found. IfSome found (λ pairs. length pairs.items + length pairs.items ≤ length names.now)) }
 {
     let mut pairs = Vec::new(alloc);
     let mut left = names;
-    while let [input, output, rest @ ..] = left {
-        pairs.push(Pair { input, output })?;
+    'taking: while let Some((pair, rest)) = first_pair(left) {
+        pairs.push(pair)?;
         left = rest;
     }
-    Ok(if left.is_empty() { Some(pairs) } else { None })
+    if left.is_empty() {
+        return Ok(Some(pairs));
+    }
+    Ok(None)
 }
 
 /// Names as pairs, where they are at most 16.

@@ -5,10 +5,10 @@ use Rattle.live_words.specs.Command.{pairs_of}
 use Rattle.live_words.proofs.Pairs.{behind}
 use Rattle.live_words.proofs.matched.paired.Given as goal
 
-abbrev pub invariant-loop-left : goal.invariant-loop-left
-invariant-loop-left l =
+abbrev pub invariant-taking : goal.invariant-taking
+invariant-taking l =
     (behind (map pair_words l.pairs.items) (map (λ s. s.now) l.left) ≡ pairs_of (map (λ s. s.now) l.names))
     × (length l.pairs.items + length l.pairs.items + length l.left ≤ length l.names)
 
-abbrev pub decreases-loop-left : goal.decreases-loop-left
-decreases-loop-left l = length l.left
+abbrev pub decreases-taking : goal.decreases-taking
+decreases-taking l = length l.left
