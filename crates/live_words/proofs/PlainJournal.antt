@@ -1,10 +1,9 @@
 -- A plain live run with a journal: its words are taken, and are the values of the command's words in order.
-use Rattle.std.proofs.Common.{◌≡◌, ◌≤◌, true, false, List, [], ◌∷◌, ◌++◌, length, refl, ap, ◌∙◌, arith}
-use Rattle.std.specs.Prelude.{Some, None, is_some, option_map, codes}
+use Rattle.std.proofs.Common.{◌≡◌, ◌≤◌, false, List, [], ◌∷◌, ◌++◌, length, refl, ap, ◌∙◌, arith}
+use Rattle.std.specs.Prelude.{Some, None, codes}
 use Rattle.std.specs.List.{fold}
 use Rattle.clap.specs.Walk.{Rule, Text, Walk, idle, positional, option, Held, Row, walked, walk_from, nothing_held, finished, rows_after}
-use Rattle.clap.specs.Simple.{built, names_of, entered, subcommand_of}
-use Rattle.clap.specs.Faults.{walk_fault, turn_fault, defaults_fault, level_fault, entered_fault, fault_of}
+use Rattle.clap.specs.Faults.{walk_fault, turn_fault, defaults_fault, level_fault}
 use Rattle.clap.proofs.OnLiterals.{clap_on_literals}
 use Rattle.command_words.specs.Plain.{IsPlain, ArePlain}
 use Rattle.command_words.specs.Numbers.{within}

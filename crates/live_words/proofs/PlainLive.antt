@@ -1,6 +1,6 @@
 -- A plain live run: its words are taken, and are the values of the command's words in order.
 use Rattle.std.proofs.Common.{◌≡◌, ℕ, suc, ◌≤◌, Bool, true, false, List, [], ◌∷◌, ◌++◌, length, refl, ap, sym, ◌∙◌, arith, append_assoc, append-nil}
-use Rattle.std.specs.Prelude.{Some, None, is_some, option_map, ◌==◌, codes}
+use Rattle.std.specs.Prelude.{Some, None, is_some, ◌==◌, codes}
 use Rattle.std.specs.List.{fold}
 use Rattle.std.specs.Prelude.{nat_lt}
 use Rattle.std.proofs.lemmas.Bool.{le-ltb}

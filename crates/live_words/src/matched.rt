@@ -1,12 +1,12 @@
 //! What matches ask for.
 
-ghost use Rattle.std.specs.Prelude.{◌≡◌, ◌+◌, ◌<◌, ◌≤◌, ◌∷◌, IfOk, IfSome, MatchOption, option_map, option_and_then, map, length};
+ghost use Rattle.std.specs.Prelude.{◌≡◌, ◌+◌, ◌≤◌, IfOk, IfSome, option_map, option_and_then, map, length};
 ghost use Rattle.clap.specs.Matches.{found_of};
 ghost use Rattle.clap.specs.Walk.{rows_of, first_of};
 ghost use Rattle.command_words.specs.Command.{Names, names_in, workers_in};
 ghost use Rattle.live_words.specs.Asked.{IsInRange, asked_words, pair_words};
 ghost use Rattle.live_words.specs.Command.{few_pairs, live_in, pairs_in, pairs_of};
-ghost use Rattle.live_words.specs.Matched.{names_words};
+ghost use Rattle.live_words.specs.Matched.{names_words, pairs_behind};
 
 use crate::asked::{LiveWords, Pair};
 use crate::numbers::number_within;
@@ -58,20 +58,30 @@ fn workers_of(matches: &ArgMatches<'_>) -> Option<u32>
     }
 }
 
-/// The first two names as a pair, and the names behind them; none where there are not two.
-fn first_pair<'a, 'b>(names: &'b [&'a str]) -> Option<(Pair<'a>, &'b [&'a str])>
-    ensures pair { MatchOption result (length names.now < 2) (λ found. map (λ s. s.now) names.now ≡ found.0.input.now ∷ found.0.output.now ∷ map (λ s. s.now) found.1.now) }
-    ensures rest { IfSome result (λ found. length found.1.now + 2 ≡ length names.now) }
+/// Pairs, and the names in turns as pairs behind them; none where a name is left over.
+#[tactic(auto, using(crate::proofs::Pairs::no_names, crate::proofs::Pairs::pair_more))]
+fn paired_behind<'a>(
+    pairs: Vec<Pair<'a>>,
+    names: &[&'a str],
+) -> Result<Option<Vec<Pair<'a>>>, AllocError>
+    ensures pairs { IfOk result (λ found. option_map (λ all. map pair_words all.items) found ≡ pairs_behind (map pair_words pairs.entry.items) (map (λ s. s.now) names.now)) }
+    ensures count { IfOk result (λ found. IfSome found (λ all. length all.items + length all.items ≤ length pairs.entry.items + length pairs.entry.items + length names.now)) }
 {
-    let (input, behind) = names.split_first()?;
-    let (output, rest) = behind.split_first()?;
-    Some((
-        Pair {
-            input: *input,
-            output: *output,
-        },
-        rest,
-    ))
+    match names {
+        [] => Ok(Some(pairs)),
+        [_] => {
+            drop(pairs);
+            Ok(None)
+        }
+        [input, output, rest @ ..] => {
+            let mut pairs = pairs;
+            pairs.push(Pair {
+                input: *input,
+                output: *output,
+            })?;
+            paired_behind(pairs, rest)
+        }
+    }
 }
 
 /// Names in turns as pairs; none where one is left over.
@@ -79,16 +89,7 @@ fn paired<'a>(alloc: Global, names: &[&'a str]) -> Result<Option<Vec<Pair<'a>>>,
     ensures pairs { IfOk result (λ found. option_map (λ pairs. map pair_words pairs.items) found ≡ pairs_of (map (λ s. s.now) names.now)) }
     ensures count { IfOk result (λ found. IfSome found (λ pairs. length pairs.items + length pairs.items ≤ length names.now)) }
 {
-    let mut pairs = Vec::new(alloc);
-    let mut left = names;
-    'taking: while let Some((pair, rest)) = first_pair(left) {
-        pairs.push(pair)?;
-        left = rest;
-    }
-    if left.is_empty() {
-        return Ok(Some(pairs));
-    }
-    Ok(None)
+    paired_behind(Vec::new(alloc), names)
 }
 
 /// Names as pairs, where they are at most 16.
