@@ -1,9 +1,8 @@
 -- A beginning of blocks of one entry each, behind a saved journal: where it ends in a line feed, whole blocks are read or none.
-use Rattle.std.proofs.Common.{◌≡◌, ◌⊎◌, ℕ, suc, ◌+◌, ◌-◌, ◌^◌, ◌<◌, ◌≤◌, Bool, true, false, List, [], ◌∷◌, ◌++◌, length, take, drop, refl, sym, ap, subst, ◌∙◌, arith, append_assoc, append-nil, length-append, inl, inr}
-use Rattle.std.specs.Prelude.{Option, Some, None, Result, Ok, Err, codes, decimal, ◌==◌, nat_le}
+use Rattle.std.proofs.Common.{◌≡◌, ◌⊎◌, ℕ, suc, ◌+◌, ◌-◌, ◌^◌, ◌<◌, ◌≤◌, true, List, [], ◌∷◌, ◌++◌, length, take, refl, sym, ap, subst, ◌∙◌, arith, append_assoc, append-nil, length-append, inl, inr}
+use Rattle.std.specs.Prelude.{None, Result, Ok, Err, codes, decimal, ◌==◌, nat_le}
 use Rattle.std.specs.List.{list_all}
 use mathlib.Core.List.{IsPrefix}
-use Rattle.std.proofs.lemmas.List.{take-append-drop}
 use Rattle.timing_defs.specs.Output.{number, line, edit_text, entry_text, entries_text}
 use Rattle.timing_defs.specs.Saved.{derates_text, block_text}
 use Rattle.timing_defs.specs.declared.codes.Code.TheVariants.{JournalBadLine}
@@ -13,7 +12,7 @@ use Rattle.timing_defs.specs.declared.constraints.Derates.{Derates}
 use Rattle.timing_defs.specs.declared.edits.Edit.{Edit}
 use Rattle.timing_defs.specs.declared.edits.Entry.{Entry}
 use Rattle.eco_journal.specs.Lines.{Part, cut_lines, placed, words_of}
-use Rattle.eco_journal.specs.Journal.{Text, State, block, factors, Head, entry_head, entries_left, edits_left, at_line, edit_at, at_end, entries, saved_of, head_of}
+use Rattle.eco_journal.specs.Journal.{Text, block, factors, entry_head, entries_left, edits_left, edit_at, at_end, entries, saved_of}
 use Rattle.eco_journal.specs.Written.{IsEntry, AreEntries, IsEdit, AreEdits, edits_text}
 use Rattle.eco_journal.specs.Blocks.{AreFactors, blocks_text}
 use Rattle.eco_journal.proofs.Joined.{graphic, joined, is_printed, printed_line}
