@@ -14,10 +14,9 @@ use Rattle.live_session.specs.declared.replies.Manner.{Manner}
 use Rattle.live_session.specs.declared.replies.Reply.{Reply}
 use Rattle.live_session.specs.declared.replies.TalkEnd.{TalkEnd}
 use Rattle.live_session.specs.declared.replies.TalkEnd.TheVariants.{Closed, Deaf, Mute, Unkept, Wanting, Full}
-use Rattle.live_session.specs.declared.talking.Round.{Round}
 use Rattle.live_session.specs.declared.talking.Round.TheVariants.{Goes, Ends}
-use Rattle.live_session.specs.Talks.{Telling, AtDoor, AreKept, AreReplies, commands_in, rows_in, deeds_of, told_of, dialogue, heard_items, IsTalk, IsCutTalk, IsUnanswered, IsCut, IsFull, Talked, is_clean, are_clean}
-use Rattle.live_session.specs.Turns.{Extends, Remains, IsFilled, IsAsked, IsQuiet, Does, IsCutReply, Replies, Reads, reading_on, item_of, IsUnread, HearsAt, Stops, Rounds, IsTalking}
+use Rattle.live_session.specs.Talks.{Telling, AtDoor, AreKept, AreReplies, commands_in, rows_in, deeds_of, told_of, dialogue, IsTalk, IsCutTalk, IsUnanswered, Talked, is_clean, are_clean}
+use Rattle.live_session.specs.Turns.{Extends, Remains, IsFilled, IsAsked, IsQuiet, Does, IsCutReply, item_of, HearsAt, Rounds, IsTalking}
 use Rattle.live_session.proofs.DoorLaws.{grows_more, loses_more, grows_same, loses_same}
 use Rattle.live_session.proofs.TurnLaws.{clean_one}
 use Rattle.live_session.proofs.TalkLaws.{commands_more, rows_more, replies_more, items_more, kept_more, place_more, dialogue_more, dialogue_end}

@@ -1,12 +1,11 @@
 -- Beginnings of what is done at a door.
 use Rattle.std.proofs.Common.{◌≡◌, ℕ, ◌+◌, ◌≤◌, ◌++◌, List, [], ◌∷◌, length, map, take, true, false, refl, sym, ap, ◌∙◌, subst, arith, append_assoc, length-append, inl, inr}
-use Rattle.std.specs.Prelude.{Bool, Option, Some, None, slice_get, ◌⊎◌}
+use Rattle.std.specs.Prelude.{Bool, Option, Some, None, ◌⊎◌}
 use Rattle.std.proofs.lemmas.List.{append-nil, append_cancel_right, map-append}
-use mathlib.Core.List.{IsPrefix}
 use Rattle.live_doors.specs.Doors.{Deed, heard, kept, said, IsPartOf}
 use Rattle.script_reader.specs.declared.live.Item.{Item}
 use Rattle.script_reader.specs.Scripts.{outside}
-use Rattle.script_reader.specs.Live.{LivePlace, stands, live_line, live_end, item_list, items, place_behind, all_items}
+use Rattle.script_reader.specs.Live.{LivePlace, stands, live_line, item_list, items, place_behind}
 use Rattle.live_session.specs.declared.replies.Manner.{Manner}
 use Rattle.live_session.specs.declared.replies.Reply.{Reply}
 use Rattle.live_session.specs.declared.replies.Reply.TheVariants.{Row as row, Error as error}

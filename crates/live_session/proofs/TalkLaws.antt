@@ -1,18 +1,15 @@
 -- The rounds of a session, one behind the other.
-use Rattle.std.proofs.Common.{◌≡◌, ℕ, ◌+◌, ◌++◌, List, [], ◌∷◌, length, true, false, refl, sym, ap, ◌∙◌, subst, arith, append_assoc, length-append}
-use Rattle.std.specs.Prelude.{Bool, Option, Some, None}
+use Rattle.std.proofs.Common.{◌≡◌, ℕ, ◌+◌, ◌++◌, List, [], ◌∷◌, length, true, false, refl, sym, ap, ◌∙◌, arith, append_assoc}
+use Rattle.std.specs.Prelude.{Option, Some, None}
 use Rattle.std.proofs.lemmas.List.{append-nil}
-use Rattle.timing_defs.specs.declared.scripts.Command.{Command}
-use Rattle.timing_defs.specs.declared.scripts.Row.{Row}
-use Rattle.live_doors.specs.Doors.{Deed, heard, said, Loses, Grows}
+use Rattle.live_doors.specs.Doors.{heard}
 use Rattle.script_reader.specs.declared.live.Item.{Item}
 use Rattle.script_reader.specs.declared.live.Item.TheVariants.{Asked, Faulty}
-use Rattle.script_reader.specs.Scripts.{outside}
-use Rattle.script_reader.specs.Live.{LivePlace, Behind, stands, live_line, live_end, item_list, items, place_behind, all_items}
+use Rattle.script_reader.specs.Live.{LivePlace, live_line, live_end, item_list, items, place_behind}
 use Rattle.live_session.specs.declared.replies.Manner.{Manner}
 use Rattle.live_session.specs.declared.replies.Reply.{Reply}
 use Rattle.live_session.specs.declared.replies.Reply.TheVariants.{Row as row, Error as error}
-use Rattle.live_session.specs.Talks.{Telling, AreReplies, IsReply, commands_in, rows_in, deeds_of, told_of, rest_of, end_item, dialogue, heard_items, AreKept}
+use Rattle.live_session.specs.Talks.{Telling, AreReplies, commands_in, rows_in, told_of, rest_of, dialogue, AreKept}
 
 pub commands_more : (a b : List Item) → commands_in (a ++ b) ≡ commands_in a ++ commands_in b
 commands_more [] b = refl

@@ -1,11 +1,11 @@
 -- What one line of a session comes to, step by step.
 use Rattle.std.proofs.Common.{◌≡◌, ℕ, ◌++◌, List, [], ◌∷◌, refl, subst, inl, inr}
-use Rattle.std.specs.Prelude.{Bool, Option, Some, None, Result, Ok, Err, IfSome}
+use Rattle.std.specs.Prelude.{Bool, Option, Some, None, Ok, IfSome}
 use Rattle.std.proofs.lemmas.Bool.{cases_Bool}
 use Rattle.sta_outside.specs.Shelf.{Rose}
 use Rattle.timing_defs.specs.declared.scripts.Command.{Command}
 use Rattle.timing_defs.specs.declared.scripts.Row.{Row}
-use Rattle.live_doors.specs.Doors.{Deed, Loses, Grows, Hears, SaysPart}
+use Rattle.live_doors.specs.Doors.{Loses, Grows, SaysPart}
 use Rattle.script_reader.specs.declared.live.Item.{Item}
 use Rattle.script_reader.specs.Scripts.{outside, inside, drafted, tried}
 use Rattle.script_reader.specs.Live.{Reading, LivePlace, stands, passing_eco, passing_draft, live_end}
@@ -15,7 +15,7 @@ use Rattle.live_session.specs.declared.replies.TalkEnd.{TalkEnd}
 use Rattle.live_session.specs.declared.replies.TalkEnd.TheVariants.{Closed, Deaf, Mute, Unkept, Wanting, Full}
 use Rattle.live_session.specs.declared.talking.Round.{Round}
 use Rattle.live_session.specs.declared.talking.Round.TheVariants.{Goes, Ends}
-use Rattle.live_session.specs.Talks.{Telling, AtDoor, at_door, IsKept, reply_text, marks_of, is_clean, are_clean}
+use Rattle.live_session.specs.Talks.{Telling, AtDoor, IsKept, reply_text, marks_of, is_clean, are_clean}
 use Rattle.live_session.specs.Turns.{Tells, Answers, Replies, Reads, HearsAt, Rounds}
 use Rattle.live_session.proofs.DoorLaws.{grows_more, loses_more}
 

@@ -1,6 +1,6 @@
 //! What a session replies, and what it asks of the session behind it.
 
-ghost use Rattle.std.specs.Prelude.{◌≡◌, ℕ, OnOk, List, [], ◌∷◌, true};
+ghost use Rattle.std.specs.Prelude.{ℕ, OnOk, List};
 ghost use Rattle.timing_defs.specs.declared.scripts.Command.{Command};
 ghost use Rattle.timing_defs.specs.declared.scripts.Row.{Row};
 ghost use Rattle.script_reader.specs.LiveKept.{CanBeAnswered};

@@ -3,7 +3,6 @@
 ghost use Rattle.std.specs.Prelude.{◌≡◌, ◌&&◌, List, [], true, IfOk, IfSome, OnOk, OnErr, Some, None};
 ghost use Rattle.timing_defs.specs.declared.scripts.Command.{Command};
 ghost use Rattle.timing_defs.specs.declared.scripts.Row.{Row};
-ghost use Rattle.script_reader.specs.Live.{beginning};
 ghost use Rattle.script_reader.specs.LiveKept.{CanBeAnswered};
 ghost use Rattle.live_doors.specs.Doors.{Grows, Loses};
 ghost use Rattle.live_session.specs.Talks.{Talked, at_door, telling, reply_text, marks_of, is_clean, IsKept};

@@ -1,7 +1,5 @@
 //! A session at a door in memory, and what was done there as text.
 
-ghost use Rattle.std.specs.Prelude.{◌≡◌, true};
-
 use live_doors::{Done, MemDoor};
 use live_session::{Answering, Manner, Outcome, Unanswered, Untold, talk};
 use std::alloc::Global;

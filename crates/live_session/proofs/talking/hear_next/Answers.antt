@@ -1,8 +1,7 @@
 use Rattle.std.proofs.Common.{rules, subst, sym}
-use Rattle.std.specs.Prelude.{IfSome, None, Some}
+use Rattle.std.specs.Prelude.{IfSome}
 use Rattle.script_reader.specs.LiveKept.{CanBeAnswered}
 use Rattle.live_session.specs.Talks.{at_door, telling}
-use Rattle.live_session.specs.Turns.{Replies}
 use Rattle.live_session.proofs.TurnLaws.{line_round, end_round, end_runs}
 use Rattle.live_session.proofs.talking.hear_next.Goals as goal
 

@@ -1,4 +1,4 @@
-use Rattle.std.proofs.Common.{rules, subst, sym}
+use Rattle.std.proofs.Common.{subst, sym}
 use Rattle.std.specs.Prelude.{Some}
 use Rattle.live_session.specs.Talks.{at_door, telling}
 use Rattle.live_session.specs.Turns.{Replies}

@@ -1,4 +1,3 @@
-use Rattle.std.proofs.Common.{rules, refl}
 use Rattle.live_session.specs.Talks.{at_door, telling}
 use Rattle.live_session.proofs.TurnLaws.{cut_told}
 use Rattle.live_session.proofs.talking.tell.Goals as goal
