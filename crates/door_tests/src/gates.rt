@@ -24,7 +24,7 @@ impl Clock for Counting {
 
     fn sleep(&self, duration: Duration) {
         self.slept
-            .fetch_add(duration.as_millis() as u64, Ordering::SeqCst);
+            .fetch_add(duration.subsec_millis() as u64, Ordering::SeqCst);
     }
 }
 

@@ -117,19 +117,18 @@ impl Read for Pieces {
 }
 
 /// How many lines are heard before the end or a fault, where the call of a number fails.
-fn lines_heard(rt: &impl Abort, alloc: Global, fails: u8) -> (usize, Option<Lost>) {
+fn lines_heard(rt: &impl Abort, alloc: Global, fails: u8) -> (u8, Option<Lost>) {
     let input = BufReader::new(alloc, Pieces { turn: 0, fails }).expect(rt, "memory");
     let mut written = Vec::new(alloc);
     let mut door = OpenDoor::new(alloc, input, &mut written);
-    let mut count = 0;
-    for _ in 0..9 {
+    for heard in 0..9 {
         match door.hear(alloc) {
-            Ok(Some(_)) => count += 1,
-            Ok(None) => return (count, None),
-            Err(lost) => return (count, Some(lost)),
+            Ok(Some(_)) => {}
+            Ok(None) => return (heard, None),
+            Err(lost) => return (heard, Some(lost)),
         }
     }
-    (count, None)
+    (9, None)
 }
 
 #[test]
