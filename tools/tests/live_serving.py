@@ -26,6 +26,12 @@ SECONDS = 20
 MARK = b"#lizdrog "
 
 
+def take_signals():
+    """Takes signals that the tests' caller may ignore, as one in the background does."""
+    for number in (signal.SIGINT, signal.SIGHUP):
+        signal.signal(number, signal.SIG_DFL)
+
+
 class Serving:
     """A running server; its clients; how it ended."""
 
@@ -47,6 +53,7 @@ class Serving:
             stdin=subprocess.DEVNULL,
             stdout=subprocess.PIPE,
             stderr=subprocess.PIPE,
+            preexec_fn=take_signals,
         )
         self.said, self.ready = [], threading.Event()
         self.thread = threading.Thread(target=self.hear, daemon=True)

@@ -14,7 +14,7 @@ import time
 import unittest
 
 import common
-from live_serving import SECONDS, Serving
+from live_serving import SECONDS, Serving, take_signals
 
 EXAMPLE = common.TOP / "examples" / "two-engineers"
 WORDS = ["early.lib", "late.lib", "design.v", "design.sdc", "none", "1"]
@@ -303,6 +303,7 @@ class Terminal:
     def __init__(self, words, folder, **surroundings):
         self.process, self.file = pty.fork()
         if not self.process:
+            take_signals()
             os.chdir(folder)
             os.execve(
                 sys.executable,
