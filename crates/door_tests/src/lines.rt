@@ -1,9 +1,9 @@
-//! What a door hears of an input's bytes, and what it writes.
+//! What a door hears of an input's bytes.
 
 use live_doors::{Door, Lost, OpenDoor};
 use std::alloc::Global;
 use std::io;
-use std::io::{BufReader, ErrorKind, Read, Write};
+use std::io::{BufReader, ErrorKind, Read};
 use std::process::Abort;
 
 /// This byte, so many times, and then a text.
@@ -34,23 +34,24 @@ fn assert_heard<D: Door>(
     assert_eq!(rt; seen, wanted);
 }
 
+/// Asserts the bytes of the next line.
+fn assert_line<D: Door>(rt: &impl Abort, alloc: Global, door: &mut D, wanted: &[u8]) {
+    match door.hear(alloc).expect(rt, "a line or the end") {
+        Some(line) => assert_eq!(rt; line.as_slice(), wanted),
+        None => assert!(rt; false),
+    }
+}
+
 #[test]
 fn an_input_is_heard_line_by_line(rt: HostRuntime) {
     let alloc = rt.alloc();
     let mut written = Vec::new(alloc);
     let mut door = OpenDoor::new(alloc, b"take\n\n  at\r\nlast".as_slice(), &mut written);
-    let mut lines = Vec::new(alloc);
-    while let Some(line) = door.hear(alloc).expect(&rt, "a line or the end") {
-        lines.push(line).expect(&rt, "memory");
-        if lines.len() > 9 {
-            break;
-        }
-    }
-    assert_eq!(rt; lines.len(), 4);
-    assert_eq!(rt; lines[0].as_slice(), b"take".as_slice());
-    assert_eq!(rt; lines[1].as_slice(), b"".as_slice());
-    assert_eq!(rt; lines[2].as_slice(), b"  at\r".as_slice());
-    assert_eq!(rt; lines[3].as_slice(), b"last".as_slice());
+    assert_line(&rt, alloc, &mut door, b"take".as_slice());
+    assert_line(&rt, alloc, &mut door, b"".as_slice());
+    assert_line(&rt, alloc, &mut door, b"  at\r".as_slice());
+    assert_line(&rt, alloc, &mut door, b"last".as_slice());
+    assert_heard(&rt, alloc, &mut door, None);
 }
 
 /// Asserts what is heard of a line of so many bytes, and of the line behind it.
@@ -141,54 +142,4 @@ fn a_fault_of_the_input_ends_the_hearing(rt: HostRuntime) {
     assert_eq!(rt; lines_heard(&rt, alloc, 4), (0, Some(Lost::Input)));
     assert_eq!(rt; lines_heard(&rt, alloc, 5), (1, Some(Lost::Input)));
     assert_eq!(rt; lines_heard(&rt, alloc, 6), (1, Some(Lost::Input)));
-}
-
-/// An output that takes one byte at a time, as many as it has room for, and is interrupted before each.
-#[derive(Drop)]
-struct Narrow<'a> {
-    to: &'a mut Vec<u8>,
-    room: usize,
-    is_interrupted: bool,
-}
-
-impl Write for Narrow<'_> {
-    fn write(&mut self, piece: &[u8]) -> io::Result<usize> {
-        self.is_interrupted = !self.is_interrupted;
-        if self.is_interrupted {
-            return Err(io::Error::from(ErrorKind::Interrupted));
-        }
-        let Some(byte) = piece.first() else {
-            return Ok(0);
-        };
-        if self.room <= self.to.len() {
-            return Err(io::Error::from(ErrorKind::BrokenPipe));
-        }
-        self.to.push(*byte)?;
-        Ok(1)
-    }
-
-    fn flush(&mut self) -> io::Result<()> {
-        Ok(())
-    }
-}
-
-/// Asserts what is written of a piece where the output has so much room.
-fn assert_said(rt: &impl Abort, alloc: Global, room: usize, wanted: Result<(), Lost>, text: &str) {
-    let mut written = Vec::new(alloc);
-    let output = Narrow {
-        to: &mut written,
-        room,
-        is_interrupted: false,
-    };
-    let mut door = OpenDoor::new(alloc, b"".as_slice(), output);
-    let piece = Vec::from_slice(alloc, b"take 1 0\n").expect(rt, "memory");
-    assert_eq!(rt; door.say(&piece), wanted);
-    assert_eq!(rt; written.as_slice(), text.as_bytes());
-}
-
-#[test]
-fn a_piece_is_written_whole_or_a_prefix_of_it(rt: HostRuntime) {
-    assert_said(&rt, rt.alloc(), 9, Ok(()), "take 1 0\n");
-    assert_said(&rt, rt.alloc(), 4, Err(Lost::Output), "take");
-    assert_said(&rt, rt.alloc(), 0, Err(Lost::Output), "");
 }
