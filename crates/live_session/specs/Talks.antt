@@ -21,7 +21,7 @@ use Rattle.live_session.specs.declared.replies.Reply.TheVariants.{Row as row, Er
 use Rattle.live_session.specs.declared.replies.TalkEnd.{TalkEnd}
 use Rattle.live_session.specs.declared.replies.TalkEnd.TheVariants.{Closed, Deaf, Mute, Unkept, Wanting, Full}
 
--- how replies are told, and what is known of a number once it was kept: all entries up to it stand in the journal
+-- how replies are told, and the statement, of the keeper's choice, that holds of a number once kept
 pub record Telling : Type 1 where
   pub manner : Manner
   pub known : ℕ → Type 0
