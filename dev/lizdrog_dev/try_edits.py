@@ -43,7 +43,7 @@ from lizdrog_tools.places import TOP, WORK
 PARTS = ("src", "specs", "proofs")
 CONSTANT = re.compile(r"^ *(?:pub(?:\([^)]*\))? )?const (\w+):")
 HEAD = re.compile(r"^(?P<room> *)(?:pub(?:\([^)]*\))? )?(?:const |unsafe )*fn (?P<name>\w+)", re.M)
-IMPL = re.compile(r"^impl(?:<[^>]*>)? (?P<words>[^{]*?)(?: where [^{]*)?\s*\{", re.M)
+IMPL = re.compile(r"^impl(?:<(?:[^<>]|<(?:[^<>]|<[^<>]*>)*>)*>)? (?P<words>[^{]*?)(?: where [^{]*)?\s*\{", re.M)
 # Of a line of a check: what was said of a function.
 SAID = re.compile(r"^fn (\S+): (.*)$", re.M)
 FAULT = re.compile(r"^(?:note: )?(?:\./)?(\S+?):(\d+):(?:\d+:)? (.*)$", re.M)

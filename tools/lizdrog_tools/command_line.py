@@ -1,8 +1,11 @@
 """The words of the command `lizdrog`: its options, and what is surely wrong with the rest. It imports nothing, so that
 each call begins at once."""
 
-LEAST_WORDS = {"run": 7, "generate": 3}
+LEAST_WORDS = {"run": 7, "live": 6, "generate": 3}
+# Commands on a design: they take a saved journal or a project file, and their sixth word is the number of workers.
+ON_DESIGN = ("run", "live")
 MOST_SCRIPTS = 16
+MOST_PAIRS = 16
 MOST_WORKERS = 32
 # Options with a value, and those without, before the command.
 VALUED = ("--program",)
@@ -50,14 +53,23 @@ def misfit(words: list[str]) -> str | None:
     if not words or words[0] not in LEAST_WORDS:
         return f"there is no command {words[0]}" if words else "a command is missing"
     name, least = words[0], LEAST_WORDS[words[0]]
-    words, journal = without_journal(words) if name == "run" else (words, None)
+    words, journal = without_journal(words) if name in ON_DESIGN else (words, None)
     after = f" after --journal {journal}" if journal else ""
     if len(words) <= least:
-        return f"{name} takes {least} words{' or more' if name == 'run' else ''}{after}, and here are {len(words) - 1}"
-    is_plain = name == "run" and not any(it.startswith("-") for it in words)
+        more = " or more" if name in ON_DESIGN else ""
+        return f"{name} takes {least} words{more}{after}, and here are {len(words) - 1}"
+    is_plain = name in ON_DESIGN and not any(it.startswith("-") for it in words)
     if is_plain and not is_number(words[6], MOST_WORKERS):
         return f"WORKERS, the sixth word{after}, is a number from 1 to {MOST_WORKERS}, and here it is {words[6]}"
-    return None
+    return misfit_pairs(words[7:]) if is_plain and name == "live" else None
+
+
+def misfit_pairs(names: list[str]) -> str | None:
+    """Why these are no names of the inputs and outputs of a live server's sessions."""
+    if len(names) % 2:
+        return f"behind WORKERS come IN and OUT of each session, two and two, and here is {names[-1]} alone"
+    count = len(names) // 2
+    return f"live takes {MOST_PAIRS} pairs IN OUT at most, and here are {count}" if count > MOST_PAIRS else None
 
 
 def is_number(word: str, most: int) -> bool:
@@ -70,6 +82,6 @@ def doubts(words: list[str]) -> str:
     words, _ = without_journal(words)
     if any(it.startswith("-") for it in words):
         return ("a word that begins with - is written after the word --, and the one option is --journal NAME after "
-                "run; standard input is /dev/stdin")
+                f"{'live' if words[0] == 'live' else 'run'}; standard input is /dev/stdin")
     is_long = words[0] == "run" and len(words) > LEAST_WORDS["run"] + MOST_SCRIPTS
     return f"run takes {MOST_SCRIPTS} scripts at most" if is_long else "these words are no command"

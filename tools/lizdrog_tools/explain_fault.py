@@ -12,6 +12,7 @@ import sys
 
 from lizdrog_tools.command_line import without_journal
 from lizdrog_tools.files import line_and_column, raw_text, tool
+from lizdrog_tools.kinds import misplaced
 from lizdrog_tools.liberty import Group, Library, liberty_tokens, read_groups
 from lizdrog_tools.sdc import pin_word, read_commands
 from lizdrog_tools.spef import SPEF_VALUE, Spef
@@ -22,15 +23,6 @@ FAULTS = DOCS / "FAULTS.md"
 ROLES = {"early": 1, "late": 2, "netlist": 3, "sdc": 4, "spef": 5}
 WIDTH = 150
 ORDER = "EARLY LATE NETLIST SDC SPEF WORKERS SCRIPT.."
-COMMENTS = re.compile(r"^\s*[#`][^\n]*|//[^\n]*|/\*.*?\*/|\(\*.*?\*\)", re.S | re.M)
-KINDS = [
-    (r"\s*library\b", "a library (Liberty)", ("early", "late")),
-    (r"\s*module\b", "a netlist (Verilog)", ("netlist",)),
-    (r"\s*\*SPEF", "parasitics (SPEF)", ("spef",)),
-    (r"\s*(create_clock|set_units|set_input|set_output|set sdc_version)", "constraints (SDC)", ("sdc",)),
-    (r"\s*(report_|repower_|insert_|begin_eco|take\b|await\b)", "a script", ("script",)),
-    (r"journal [0-9]", "a journal, or an output", ("journal", "script")),
-]
 
 
 def rows_of_faults():
@@ -120,9 +112,9 @@ def hints(role, code, place, text, line):
         return ["  the file begins with a byte order mark, which is not read: take its first three bytes away"]
     if text.startswith(("\xff\xfe", "\xfe\xff")):
         return ["  the file is UTF-16, which is not read: iconv -f UTF-16 -t ASCII FILE"]
-    for pattern, kind, roles in KINDS:
-        if re.match(pattern, COMMENTS.sub("", text[:100000])) and role.rstrip("0123456789") not in roles:
-            return [f"  the file looks like {kind}, and is in the place of {role}: the order is run {ORDER}"]
+    kind = misplaced(text, role.rstrip("0123456789"))
+    if kind:
+        return [f"  the file looks like {kind}, and is in the place of {role}: the order is run {ORDER}"]
     if role.startswith("script"):
         return [f"  {it}" for it in script_hints(code, line, text.split("\n")[:place - 1])]
     if role == "sdc":

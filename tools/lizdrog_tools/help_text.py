@@ -10,16 +10,17 @@ USAGE = """Lizdrog, a static timing server.
   lizdrog [--proved] run [--journal NAME] FILE.toml [WORKERS] SCRIPT [SCRIPT ..]
       FILE.toml    names the five documents: early, late, netlist, sdc, spef
   lizdrog import [-o FOLDER] PROJECT.toml   a design as tools write it (Tcl, hierarchy, libraries, .gz) as a folder with these
-  lizdrog generate NUMBER GATES EDITS
-      a design of GATES gates and four sessions with EDITS resizes in all, drawn from NUMBER; both are multiples of 4
+  lizdrog live [--journal NAME] EARLY LATE NETLIST SDC SPEF WORKERS [IN OUT ..]    answers each line at once: a prompt on the design
+  lizdrog generate NUMBER GATES EDITS   a design of GATES gates and four sessions with EDITS resizes in all, drawn from NUMBER
   lizdrog test       try this clone: examples, tools and the program against a plain timer     install PREFIX  run without a clone
   lizdrog --build    build the program without proof now, in minutes (`rt ci` proves it and builds it, in hours)
   lizdrog --version  the commit, the toolchain, and whether the program that would run is proved    --help  this, and the commands"""
-MORE = """  lizdrog corners | report | summary FILE.toml ..    several corners of a design, a page of their answers, sums; each has --help
+MORE = """  lizdrog serve DESIGN.. --listen unix:PATH, connect PATH    a live server that several people attach to; each has --help
+  lizdrog corners | report | summary FILE.toml ..    several corners of a design, a page of their answers, sums; each has --help
   --proved           refuse to run a program that is not proved    --program FILE   run this program, whatever it is
-Status: 0 all rows are answers, 1 some row is refused, no or not yet, 2 wrong words, 3 a document or the design has a fault or a saved
-edit is refused, 4 a document cannot be fetched, 5 the output cannot be written, 6 no memory. What the codes mean: docs/FAULTS.md.
-70 comes from the command itself: it found no program to run, and says why."""
+Status: 0 all rows are answers, 1 some row is refused, no or not yet, or some line of `live` is wrong, 2 wrong words, 3 a document or
+the design has a fault or a saved edit is refused, 4 a document cannot be fetched, 5 the output or a journal cannot be written, 6 no
+memory. What the codes mean: docs/FAULTS.md. 70 comes from the command itself: it found no program to run, and says why."""
 
 # The words of each command of a script, an example, and what it asks or does. docs/SCRIPTS.md says all of it.
 QUESTIONS = [
@@ -63,6 +64,18 @@ GENERATE = """  lizdrog generate NUMBER GATES EDITS
 
 It prints one line: how many gates and edits, how many edits were accepted, and worst and total negative slack of setup and hold after
 them. For example `lizdrog generate 7 400 40`."""
+LIVE = """  lizdrog [--proved] live [--journal NAME] EARLY LATE NETLIST SDC SPEF WORKERS [IN OUT ..]
+  lizdrog [--proved] live [--journal NAME] FILE.toml [WORKERS] [IN OUT ..]
+
+It reads the documents once, answers each line before it reads the next, and ends with its input. It says nothing before the first
+answer; `take` is answered at once. Rows are those of `run`; a wrong line is answered by `error CODE LINE`, and the session goes on.
+
+      IN OUT   1 to 16 pairs of FIFOs or files, each a session; without a pair there is one, on standard input and output
+      NAME     a journal, which an empty file begins (: >NAME); each accepted ECO stands there, on disk, before anybody is told of it
+
+Status: as for `run`. 1 is also some error; 4 also an IN that can not be read; 5 also an OUT that can not be written, and a journal that
+can not be written or that another server holds. `lizdrog serve` and `lizdrog connect` are for people: a prompt with history and names.
+docs/LIVE.md walks through it."""
 INSTALL = """  lizdrog install PREFIX
 
 It copies the program that would run, the tools, the pages and the examples to PREFIX/lib/lizdrog, and puts PREFIX/bin/lizdrog there.
@@ -98,5 +111,7 @@ def of(command: str) -> str:
     """The help for a command, or for all."""
     if command == "run":
         return f"{USAGE.split('  lizdrog generate')[0].rstrip()}\n\n{script_commands()}"
+    if command == "live":
+        return f"{LIVE}\n\n{script_commands()}"
     known = {"generate": GENERATE, "import": IMPORT, "install": INSTALL, "test": TEST}
     return known.get(command) or f"{USAGE}\n{MORE}\n\n{script_commands()}"

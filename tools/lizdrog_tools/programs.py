@@ -16,6 +16,7 @@ LIVE_PROVED = f"{TOP}/crates/timing_live/out/timing_live"
 LIVE_QUICK = f"{FOLDER}/timing_live"
 LIVE_INSTALLED = f"{TOP}/program/timing_live"
 LIVE_BESIDE = {PROVED: LIVE_PROVED, QUICK: LIVE_QUICK, INSTALLED: LIVE_INSTALLED}
+LIVE_CRATE = f"{TOP}/crates/timing_live"
 ABOUT_INSTALLED = f"{TOP}/program/about"
 # What a program is made of; and what it was proved to do, which is all that a proof is about. (Another proof of the
 # same is no change.)
@@ -129,9 +130,9 @@ def proved_is_current(program: str = PROVED, name: str = "proved") -> bool:
 
 
 def quick_is_current() -> bool:
-    """Whether the program without proof is of the sources as they are."""
-    kept = Kept.read("quick")
-    return bool(kept.sources) and is_program(QUICK) and is_of(kept, "quick", sources(MADE_OF))
+    """Whether the programs without proof are there, and of the sources as they are."""
+    kept, wanted = Kept.read("quick"), [QUICK, *([LIVE_QUICK] if os.path.isdir(LIVE_CRATE) else [])]
+    return bool(kept.sources) and all(map(is_program, wanted)) and is_of(kept, "quick", sources(MADE_OF))
 
 
 def build(say) -> None:
@@ -190,25 +191,28 @@ def choose(wants_proved: bool, may_build: bool, say) -> str:
     return QUICK
 
 
-def choose_live(wants_proved: bool) -> str:
-    """The live server to run, which is never built here."""
+def choose_live(wants_proved: bool, may_build: bool, say) -> str:
+    """The live server to run."""
     if is_program(INSTALLED):
         if not is_program(LIVE_INSTALLED):
             raise Stop("this installed copy has no live server: install it anew from a clone where that is built")
         if wants_proved and not about_installed().startswith("proved"):
             raise Stop("the programs that are installed here were built without proof")
         return LIVE_INSTALLED
+    if not os.path.isdir(LIVE_CRATE):
+        raise Stop("this version has no live server: its sources have no crates/timing_live")
     if proved_is_current(LIVE_PROVED, "proved_live"):
         return LIVE_PROVED
-    if not wants_proved and is_program(LIVE_QUICK) and quick_is_current():
-        return LIVE_QUICK
-    if not os.path.isdir(f"{TOP}/crates/timing_live") and not is_program(LIVE_QUICK):
-        raise Stop("this version has no live server yet: its parts are proved, and the program that joins them is missing")
-    found = next(filter(is_program, [LIVE_PROVED, *([] if wants_proved else [LIVE_QUICK])]), None)
-    none = f"there is no {'proved ' if wants_proved else ''}live server here"
-    more = "" if wants_proved else f", and `lizdrog --build` builds {LIVE_QUICK} without proof"
-    why = f"the sources are newer than {found}" if found else none
-    raise Stop(f"{why}: `rt ci` in {TOP} proves and builds {LIVE_PROVED}{more}")
+    if wants_proved:
+        stale = "the sources are newer than the proved live server" if is_program(LIVE_PROVED) else (
+            "there is no proved live server here")
+        raise Stop(f"{stale}: `rt ci` in {TOP} proves and builds it")
+    if not quick_is_current():
+        if any(map(is_program, (PROVED, QUICK, LIVE_PROVED, LIVE_QUICK))) and not may_build:
+            raise Stop(f"there is no live server of the sources as they are: `rt ci` in {TOP} proves and builds it "
+                       "(hours at worst), `lizdrog --build` builds it without proof (minutes); nothing was run")
+        build(say)
+    return LIVE_QUICK
 
 
 def about_installed() -> str:
@@ -236,15 +240,27 @@ def commit() -> str:
     return name + (" with changes" if first_line("git", "status", "--porcelain", "--", "crates", "crates.txt") else "")
 
 
+def version_of_live() -> list[str]:
+    """Which live server would run, in no line or one."""
+    if not os.path.isdir(LIVE_CRATE):
+        return []
+    if proved_is_current(LIVE_PROVED, "proved_live"):
+        return [f"proved live server {LIVE_PROVED}"]
+    if quick_is_current():
+        return [f"live server without proof {LIVE_QUICK}"]
+    return ["no live server of these sources is built"]
+
+
 def version() -> list[str]:
     """The commit, the toolchain and the program that would run; and whether it is without proof."""
     if is_program(INSTALLED):
         about = about_installed()
         return [f"lizdrog installed in {TOP}; {about}", *([] if about.startswith("proved") else [WITHOUT_PROOF])]
     head = f"lizdrog commit {commit()}; {first_line('rt', 'version') or 'no toolchain here'}"
+    live = version_of_live()
     if proved_is_current():
-        return [f"{head}; proved program {PROVED}"]
+        return [f"{head}; proved program {PROVED}", *live]
     if quick_is_current():
         return [f"{head}; program without proof {QUICK} (built with {Kept.read('quick').kit})",
-                f"{WITHOUT_PROOF}; `rt ci` in {TOP} proves its sources and builds it"]
-    return [f"{head}; no program of these sources is built"]
+                f"{WITHOUT_PROOF}; `rt ci` in {TOP} proves its sources and builds it", *live]
+    return [f"{head}; no program of these sources is built", *live]

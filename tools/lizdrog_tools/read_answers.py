@@ -270,13 +270,6 @@ class Edited:
         made.nets[pin] = net
         self.put(made.name, made)
 
-    def connect(self, word: str, net: str | None) -> None:
-        """Connects a pin with a net, or opens it."""
-        instance, pin = self.pin(word)
-        made = instance.copied()
-        made.nets[pin] = net
-        self.put(made.name, made)
-
     def edit(self, words):
         name, instances = words[0], self.netlist.instances
         if name == "repower_gate":

@@ -131,6 +131,9 @@ def serve(given: dict, words: list[str]) -> int:
     program = given["program"]
     if program and given["proved"]:
         raise Stop("--program and --proved do not go together: nothing is known of the proof of a program that is given")
+    if words[:1] == ["live"]:
+        from lizdrog_tools import run_live
+        return run_live.run(program or programs.choose_live(given["proved"], given["build"], say), words)
     program = program or programs.choose(given["proved"], given["build"], say)
     if not words:
         return 0
@@ -156,7 +159,7 @@ def other_command(words: list[str], is_proved: bool) -> int | None:
 
 
 def project_words(words: list[str]) -> list[str]:
-    """The seven words of a run by a project file."""
+    """The words of a run, or of a live server, by a project file."""
     from lizdrog_tools import run_project
     return run_project.expanded(words) if run_project.is_project(words) else words
 
@@ -178,7 +181,7 @@ def answer(words: list[str]) -> int:
     status = other_command(words or [], given["proved"])
     if status is not None:
         return status
-    if words and words[0] == "run" and any(it.endswith(".toml") for it in words):
+    if words and words[0] in command_line.ON_DESIGN and any(it.endswith(".toml") for it in words):
         from lizdrog_tools import files
         try:
             words = project_words(words)

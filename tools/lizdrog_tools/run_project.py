@@ -1,8 +1,9 @@
-"""The words of `lizdrog run FILE.toml [WORKERS] SCRIPT..`: the documents that a project file names, in their order."""
+"""The words of `lizdrog run FILE.toml [WORKERS] SCRIPT..`, and of `live`: the documents that a project file names, in
+their order."""
 import os
 import tomllib
 
-from lizdrog_tools.command_line import without_journal
+from lizdrog_tools.command_line import ON_DESIGN, without_journal
 from lizdrog_tools.files import InputFault, read_text
 
 DOCUMENTS = ("early", "late", "netlist", "sdc", "spef")
@@ -12,7 +13,7 @@ MOST_DIGITS = 2
 def is_project(words: list[str]) -> bool:
     """Whether a run names a project file in the place of its documents."""
     plain, _ = without_journal(words)
-    return plain[:1] == ["run"] and len(plain) > 1 and plain[1].endswith(".toml")
+    return len(plain) > 1 and plain[0] in ON_DESIGN and plain[1].endswith(".toml")
 
 
 def document(name: str, table: dict, key: str) -> str:
@@ -51,4 +52,4 @@ def expanded(words: list[str]) -> list[str]:
     rest = plain[2:]
     if rest and rest[0].isdecimal() and len(rest[0]) <= MOST_DIGITS:
         workers, rest = rest[0], rest[1:]
-    return ["run", *(["--journal", journal] if journal is not None else []), *documents, workers, *rest]
+    return [plain[0], *(["--journal", journal] if journal is not None else []), *documents, workers, *rest]

@@ -39,6 +39,13 @@ class Project(unittest.TestCase):
             status = command.called([str(self.folder / "p.toml")])
         return status, errors.getvalue().replace(f"{self.folder}/", "")
 
+    def assert_noted(self, note, **changed):
+        """All is expressed, and one note is printed beside it."""
+        status, errors = self.run_import(**changed)
+        self.assertEqual(status, 0, errors)
+        self.assertEqual(errors.count("\n"), 1, errors)
+        self.assertIn(f"import: note: {note}", errors)
+
     def made(self, name):
         """A file that the import wrote."""
         return (self.folder / "p.import" / name).read_text()

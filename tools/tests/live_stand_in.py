@@ -6,7 +6,8 @@ live_stand_in.py live [--journal NAME] EARLY LATE NETLIST SDC SPEF WORKERS [IN O
 It speaks the lines of the live program over FIFOs. Each answer is that of a run of the batch program that
 LIZDROG_STAND_IN_PROGRAM names, made anew for each command; where none is named answers are canned, and an edit with the
 word ABSENT is refused. LIZDROG_STAND_IN_FAULT makes it a wrong one, to see that a trial finds that: `unkept` puts no
-ECO into the journal, `unpassed` does not pass over what stands behind a wrong line of a group.
+ECO into the journal, `unpassed` does not pass over what stands behind a wrong line of a group, `shifted` counts the
+commands from 2.
 """
 import fcntl
 import os
@@ -18,6 +19,8 @@ import sys
 import tempfile
 import threading
 import time
+
+from lizdrog_tools.check_sessions import in_order
 
 ARITIES = {
     "report_slew": (3, 3),
@@ -136,11 +139,16 @@ class Batch:
         return re.search(r"(?m)^final .*\n", self.run(ecos, [])[1]).group()
 
 
+class Unkept(Exception):
+    """The journal takes no more."""
+
+
 class Server:
     """The ECOs of all sessions, and the journal's file."""
 
     def __init__(self, batch, file):
         self.batch, self.file, self.ecos, self.lock, self.status = batch, file, [], threading.Lock(), 0
+        self.is_sound = True
 
     @property
     def newest(self):
@@ -151,7 +159,7 @@ class Server:
         with self.lock:
             said = self.batch.answer(self.ecos, lines)
             if said and said.startswith("accepted"):
-                edits = [" ".join(it.split()) for it in (lines[1:-1] if lines[0] == "begin_eco" else lines)]
+                edits = [in_order(" ".join(it.split())) for it in (lines[1:-1] if lines[0] == "begin_eco" else lines)]
                 self.keep(session, edits)
                 self.ecos.append(edits)
             return said, self.newest
@@ -161,8 +169,18 @@ class Server:
         if self.file and FAULT != "unkept":
             head = f"journal 2 {self.newest} 1\n{self.batch.derates}\n"
             entry = f"entry {self.newest + 1} session {session} edits {len(edits)}\n"
-            os.write(self.file, (head + entry + "".join(f"{it}\n" for it in edits)).encode("latin-1"))
+            self.put((head + entry + "".join(f"{it}\n" for it in edits)).encode("latin-1"))
+
+    def put(self, data):
+        """All of it, on disk; behind a put that failed there is no other."""
+        try:
+            while data and self.is_sound:
+                data = data[os.write(self.file, data) :]
             os.fsync(self.file)
+        except OSError:
+            self.is_sound, self.status = False, 5
+        if not self.is_sound:
+            raise Unkept
 
 
 class Session:
@@ -220,8 +238,11 @@ class Session:
                 self.group = None
             else:
                 return self.close(begin, [*lines, "commit_eco"])
-        elif is_draft and not in_group and words == [end]:
-            return self.close(begin, [*lines, end])
+        elif is_draft and words == [end]:
+            if not in_group:
+                return self.close(begin, [*lines, end])
+            self.open = None
+            return self.wrong("C1")
         elif is_draft and not in_group and words == ["begin_eco"]:
             self.group, self.trials = self.line, self.trials + 1
         elif in_group and fits(words, EDITS):
@@ -252,7 +273,7 @@ class Session:
             return self.wrong("C1")
         if said.split(" ")[0].strip() in ("refused", "no", "not_yet"):
             self.server.status = max(self.server.status, 1)
-        return f"{self.commands} {self.held} {said}"
+        return f"{self.commands + (FAULT == 'shifted')} {self.held} {said}"
 
     def answer(self, lines):
         name, *rest = lines[0].split()
@@ -274,7 +295,10 @@ class Session:
     def talk(self, source, sink):
         """Answers each line before it reads the next."""
         for line in iter(source.readline, b""):
-            said = self.hear(line)
+            try:
+                said = self.hear(line)
+            except Unkept:
+                return
             if said and not self.say(sink, said):
                 return
         if self.open is not None:
@@ -312,8 +336,8 @@ def main():
         if text and not text.endswith(b"\n"):
             print(f"fault journal J1 {len(text)}")
             return 3
-        file = os.open(journal, os.O_WRONLY | os.O_APPEND)
         try:
+            file = os.open(journal, os.O_WRONLY | os.O_APPEND)
             fcntl.flock(file, fcntl.LOCK_EX | fcntl.LOCK_NB)
         except OSError:
             return 5

@@ -214,7 +214,7 @@ class Jobs(StandIn):
         self.assertEqual(
             (status, lines[2]), (3, f"bad     failed with status 3: late.lib:7: a word is wrong (log: {log})")
         )
-        self.assertRegex(lines[3], r"^slow    timed out after 0\.[0-9] s \(log: .*/slow/log\)$")
+        self.assertRegex(lines[3], r"^slow    timed out after \d+\.\d s \(log: .*/slow/log\)$")
 
     @unittest.skipUnless(shutil.which("parallel"), "GNU parallel is not installed: apt-get install parallel")
     def test_by_parallel(self):

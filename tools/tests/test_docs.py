@@ -22,7 +22,7 @@ TRIED = common.DEV / "cases" / "crates.tsv"
 # The crate of a file that pages name without one.
 RULES = "timing_rules"
 # Definitions or laws alone, and the program.
-NO_EDITS = (RULES, "bounded_changes", "timing_shell")
+NO_EDITS = (RULES, "bounded_changes", "timing_shell", "timing_live")
 
 
 def index_rows():

@@ -32,14 +32,15 @@ class Help(unittest.TestCase):
         self.assertIn(f"session 1 rows {len(examples)}\n", out)
 
     def test_all_of_it_is_narrow(self):
-        for command in ("", "run", "generate", "install", "test"):
+        for command in ("", "run", "live", "generate", "install", "test"):
             for line in help_text.of(command).split("\n"):
                 self.assertLessEqual(len(line), 140, line)
 
     def test_which_help_is_asked(self):
         asked = command_line.asked_help
         for words, command in ((["--help"], ""), (["-h"], ""), (["help"], ""), (["help", "run"], "run"),
-                               (["run", "-h"], "run"), (["generate", "--help"], "generate"), (["run", "help"], None),
+                               (["run", "-h"], "run"), (["generate", "--help"], "generate"), (["live", "--help"], "live"),
+                               (["run", "help"], None),
                                ([], None)):
             self.assertEqual(asked(words), command, words)
 

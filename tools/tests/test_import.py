@@ -39,7 +39,7 @@ class ProjectFile(Project):
                 "top.sdc": CLOCK + "set_input_delay 10 -clock clk d\nset_output_delay 5 -clock clk [get_ports q]\n",
             }
         )
-        self.assertEqual(self.run_import(spef="top.spef"), (0, ""))
+        self.assert_noted("top.spef: 4 of 5 driven nets have no parasitics here", spef="top.spef")
         names = {it.name for it in (self.folder / "p.import").iterdir()}
         self.assertEqual(
             names,

@@ -172,7 +172,8 @@ class Libraries(Project):
             (
                 "capacitance : 1; }\n  pin (Z)",
                 "capacitance : 1; rise_capacitance : 1.1; }\n  pin (Z)",
-                "cells.lib:3: pin-capacitance: cell BUF: rise_capacitance or fall_capacitance of A differ",
+                "cells.lib:3: pin-capacitance: cell BUF: rise_capacitance or fall_capacitance of A differ from the "
+                "capacitance, which alone is read, by up to 0.1 fF",
             ),
             (
                 "timing_sense : positive_unate;",
@@ -285,7 +286,7 @@ STAGE_SPEF = """*SPEF "IEEE 1481-1998"
 *END
 """
 TOP_SPEF = (
-    STAGE_SPEF.partition("*NAME_MAP")[0].replace("PF", "FF").replace("KOHM", "OHM")
+    STAGE_SPEF.partition("*NAME_MAP")[0].replace("PF", "FF").replace("KOHM", "OHM").replace("leaf", "top")
     + """*D_NET d 2
 *CONN
 *P d I
@@ -327,7 +328,9 @@ def rows_of(text, net):
 class Parasitics(Project):
     def test_one_file_is_written_as_it_is(self):
         self.write({"top.spef": common.SPEF})
-        self.assertEqual(self.run_import(spef="top.spef"), (0, ""))
+        self.assert_noted(
+            "top.spef: 4 of 5 driven nets have no parasitics here, such as clk, d, q, n1", spef="top.spef"
+        )
         rows, total = rows_of(self.made("parasitics.spef"), "n2")
         self.assertEqual(
             rows, [["1", "n2:1", "2.5"], ["2", "r2:D", "1"], ["1", "g1:Z", "n2:1", "100"], ["2", "n2:1", "r2:D", "50"]]
@@ -337,8 +340,8 @@ class Parasitics(Project):
     @needs_yosys
     def test_blocks_are_joined_to_the_nets_above(self):
         self.write({"top.v": LEAVES, "top.spef": TOP_SPEF, "leaf.spef": STAGE_SPEF})
-        self.assertEqual(
-            self.run_import(top="top", spef=["top.spef", {"file": "leaf.spef", "instance": "u1"}]), (0, "")
+        self.assert_noted(
+            "top.spef: 3 of 5 driven nets", top="top", spef=["top.spef", {"file": "leaf.spef", "instance": "u1"}]
         )
         rows, total = rows_of(self.made("parasitics.spef"), "d")
         end = next(row[2] for row in rows if row[-1] == "15")
@@ -355,10 +358,41 @@ class Parasitics(Project):
     @needs_yosys
     def test_a_level_without_wires(self):
         self.write({"top.v": LEAVES, "leaf.spef": STAGE_SPEF})
-        self.assertEqual(self.run_import(top="top", spef=[{"file": "leaf.spef", "instance": "u1"}]), (0, ""))
+        self.assert_noted(
+            "leaf.spef: 3 of 5 driven nets", top="top", spef=[{"file": "leaf.spef", "instance": "u1"}]
+        )
         rows, _ = rows_of(self.made("parasitics.spef"), "d")
         self.assertEqual(sorted(row[3] for row in rows if len(row) == 4), ["0", "20", "30"])
         self.assertIn("spef-join", self.kinds("changed"))
+
+    @needs_yosys
+    def test_the_parasitics_of_a_block_have_its_instance(self):
+        self.write({"top.v": LEAVES, "top.spef": TOP_SPEF, "leaf.spef": STAGE_SPEF})
+        status, errors = self.run_import(top="top", spef=["top.spef", "leaf.spef"])
+        self.assertEqual(status, 2, errors)
+        self.assertTrue(
+            errors.startswith(
+                "import: leaf.spef:2: spef-design: *DESIGN is leaf, as the block u1 is, and the project names no "
+                "instance\n"
+            ),
+            errors,
+        )
+
+    def test_a_file_in_the_place_of_another(self):
+        self.write({"top.spef": common.SPEF})
+        for key, file, kind in (
+            ("library", "top.v", "a netlist (Verilog)"),
+            ("netlist", "cells.lib", "a library (Liberty)"),
+            ("sdc", "top.v", "a netlist (Verilog)"),
+            ("sdc", "top.spef", "parasitics (SPEF)"),
+            ("spef", "top.sdc", "constraints (SDC)"),
+        ):
+            with self.subTest(key):
+                named = "a library" if key == "library" else key
+                self.assertEqual(
+                    self.run_import(**{key: file}),
+                    (2, f"import: {file}: the file looks like {kind}, and the project names it as {named}\n"),
+                )
 
     def test_what_is_wrong_with_parasitics(self):
         for old, new, said in (

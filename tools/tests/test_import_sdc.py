@@ -426,6 +426,7 @@ class Timing(Constraints):
             "set_dont_touch [get_cells g1]",
             "set_max_area 0",
             "set_wire_load_mode top",
+            "set_disable_clock_gating_check [get_cells g1]",
             "set_operating_conditions typical",
         ):
             self.assertEqual(self.sdc_lines(text + "\n"), [], text)

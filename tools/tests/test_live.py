@@ -499,28 +499,53 @@ class Checked(Live):
 class Trials(Live):
     """bench/live_trial.py passes a right server and finds wrong ones."""
 
-    def trial(self, fault):
-        program = live_serving.REAL or live_serving.STAND_IN
+    def trial(self, *words, fault="", answers=True):
         surroundings = {
             **os.environ,
-            "LIZDROG_STAND_IN_PROGRAM": str(common.PROGRAM),
+            "LIZDROG_STAND_IN_PROGRAM": str(common.PROGRAM) if answers else "",
             "LIZDROG_STAND_IN_FAULT": fault,
         }
-        words = ["--program", program, "--batch", common.PROGRAM, "--seconds", "3", "--pause", "0.01", "--kills", "2"]
+        program = live_serving.REAL or live_serving.STAND_IN
+        words = [*words, "--program", program, "--batch", common.PROGRAM, *self.words]
         return common.run(
-            common.BENCH / "live_trial.py", *words, *self.words, cwd=self.folder, env=surroundings, timeout=SECONDS * 5
+            common.BENCH / "live_trial.py", *words, cwd=self.folder, env=surroundings, timeout=SECONDS * 5
         )
 
+    WORK = ("work", "--seconds", "3", "--pause", "0.01")
+
     def test_a_right_server(self):
-        status, out, err = self.trial("")
-        self.assertEqual((status, err), (0, ""))
-        self.assertRegex(out, r"^work: check_sessions: \d+ rows of 4 sessions, \d+ ECOs: each answer is that of one ")
-        self.assertRegex(out, r"\nkills: 2, behind which \d+ ECOs stand, and each that was told; ")
+        for words, said in (
+            (self.WORK, r"^work: check_sessions: \d+ rows of 4 sessions, \d+ ECOs: each answer is that of one "),
+            (("kills", "--kills", "2"), r"^kills: 2, behind which \d+ ECOs stand, and each that was told; "),
+            (("same", "--count", "2"), "^same: 2 random scripts: 2 the same rows$"),
+        ):
+            status, out, err = self.trial(*words)
+            self.assertEqual((status, err), (0, ""), words)
+            self.assertRegex(out, said)
+
+    def test_bad_sessions_and_files_that_fail(self):
+        for words, said in (
+            (("hostile", "--bytes", "4000000"), r"^hostile: \d+ answers beside six bad sessions, "),
+            (("full",), r"^full: a limit of files: \d+ were told and \d+ stand; .* its session alone$"),
+        ):
+            status, out, err = self.trial(*words, answers=False)
+            self.assertEqual((status, err), (0, ""), words)
+            self.assertRegex(out, said)
+
+    @live_serving.needs_live
+    def test_more_of_the_program(self):
+        for words in (("same", "--count", "12"), ("kills", "--kills", "10"), ("hostile", "--bytes", "200000000")):
+            status, out, err = self.trial(*words)
+            self.assertEqual((status, err), (0, ""), words)
 
     @unittest.skipIf(live_serving.REAL, "the stand-in alone has faults to order")
     def test_wrong_servers(self):
-        for fault, said in (("unkept", ", and the journal has None"), ("unpassed", "live_trial: ")):
-            status, _, err = self.trial(fault)
+        for words, fault, said in (
+            (self.WORK, "unkept", ", and the journal has None"),
+            (self.WORK, "unpassed", "live_trial: "),
+            (("same", "--count", "1"), "shifted", "live_trial: seed 1: rows differ: "),
+        ):
+            status, _, err = self.trial(*words, fault=fault)
             self.assertEqual(status, 1, fault)
             self.assertIn(said, err)
 
@@ -588,17 +613,22 @@ class Words(Live):
         shutil.copy(common.TOP / "lizdrog", top)
         (top / "crates").mkdir()
         (top / "crates.txt").write_text("")
-        status, _, err = common.run(top / "lizdrog", "serve", *self.words, "--listen", "unix:s", cwd=self.folder)
-        self.assertEqual(status, 70)
-        self.assertIn("this version has no live server yet", err)
-        (top / "crates" / "timing_live").mkdir()
-        for proved, said in ((["--proved"], "there is no proved live server here"), ([], "lizdrog --build")):
-            status, out, err = common.run(
-                top / "lizdrog", "serve", *self.words, "--listen", "unix:s", *proved, cwd=self.folder
-            )
+        (self.folder / "bin").mkdir()
+        for name in ("bash", "readlink"):
+            os.symlink(shutil.which(name), self.folder / "bin" / name)
+        os.symlink(sys.executable, self.folder / "bin" / "python3")
+        surroundings = {"PATH": str(self.folder / "bin")}
+        listen = [top / "lizdrog", "serve", *self.words, "--listen", "unix:s"]
+        for is_there, option, said in (
+            (False, [], "this version has no live server: its sources have no crates/timing_live"),
+            (True, ["--proved"], "there is no proved live server here: `rt ci` in "),
+            (True, [], "no `rt` on the PATH"),
+        ):
+            if is_there:
+                (top / "crates" / "timing_live").mkdir(exist_ok=True)
+            status, out, err = common.run(*listen, *option, cwd=self.folder, env=surroundings)
             self.assertEqual((status, out), (70, ""))
             self.assertIn(said, err)
-            self.assertIn("crates/timing_live/out/timing_live", err)
         status, _, err = common.run(top / "lizdrog", "connect", "unix:s", cwd=self.folder)
         self.assertEqual(status, 4)
         self.assertIn("no server answers at unix:s", err)

@@ -244,6 +244,7 @@ class Scripts(Connected):
         for text, said in (
             ("take\nrnu\n", "s.eco:2: there is no command rnu: nothing was sent"),
             ("take\nbegin_eco\nremove_net n1\n", "s.eco: `begin_eco` has no end: nothing was sent"),
+            ("begin_eco x\nremove_net n1\n", "s.eco:1: begin_eco stands alone in its line: nothing was sent"),
         ):
             (self.folder / "s.eco").write_text(text)
             self.assertEqual(self.connect(serving, "source s.eco\n")[:2], (1, f"  {said}\n"))

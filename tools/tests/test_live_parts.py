@@ -190,8 +190,8 @@ class Seats(unittest.TestCase):
         self.assertEqual(self.handed(), ["take"])
 
     def test_an_end_of_a_draft_inside_a_group(self):
-        """It is wrong there, and the draft goes on to the next one; but behind an earlier wrong line it is the end."""
-        for error, rest in ((4, ["end_what_if", "take"]), (2, ["end_what_if"])):
+        """It is wrong there, and it is the draft's end, whether an earlier line was wrong or not."""
+        for error in (4, 2):
             self.setUp()
             self.say(
                 "begin_what_if",
@@ -203,7 +203,9 @@ class Seats(unittest.TestCase):
             )
             self.assertEqual(len(self.handed()), 4)
             self.told(f"error C1 {error}")
-            self.assertEqual(self.handed(), rest)
+            self.assertEqual(self.handed(), ["end_what_if"])
+            self.told("error C1 5")
+            self.assertEqual(self.handed(), ["take"])
 
     def test_what_is_left_open_is_closed(self):
         for lines, closing in (

@@ -54,7 +54,7 @@ class Map(unittest.TestCase):
     def test_change_of_a_crate(self):
         status, out, _ = script("crate_map", "shell_session")
         self.assertEqual(status, 0)
-        self.assertIn("shell_session timing_shell shell_tests", out)
+        self.assertIn("shell_session timing_shell live_tests shell_tests", out)
         self.assertEqual(script("crate_map", "no_such_crate")[0], 2)
 
 

@@ -200,7 +200,7 @@ class Histograms(unittest.TestCase):
         self.assertIn("worst -1.500 ps, total negative -1.500 ps, 1 of 4 fail", labels)
         self.assertEqual(text.count('class="zero"'), 1)
         self.assertEqual((text.count('class="failing" x'), text.count('class="met" x')), (2, 2))
-        self.assertIn('<rect class="paper" width="760"', text)
+        self.assertIn('<rect class="paper" width="620"', text)
 
     def test_no_line_at_zero_where_it_is_not_in_sight(self):
         self.assertNotIn('class="zero"', histogram.histogram("hold", [4000, 9000]).file())
@@ -427,9 +427,12 @@ class PageOfCorners(unittest.TestCase):
             else:
                 self.assertRegex(line[1], r"^failed with status 3: .*accumulator\.sdc:1:1: P1")
         self.assertEqual(seen["slack"], answers["endpoints"]["setup"][0]["slack"])
+        worst = answers["endpoints"]["setup"][0]
         self.assertEqual(
-            [seen["card"][it] for it in ("slack", "corner")], [f"{answers['worst']['setup']['slack']} ps", "slow"]
+            seen["card"],
+            {"slack": f"{worst['slack']} ps", "pin": worst["pin"], "corner": worst["corner"], "link": "#path-1"},
         )
+        self.assertEqual((seen["linked"], seen["title"]), ("#path-1", "Timing of accumulator"))
 
 
 CELLS = """
@@ -438,7 +441,10 @@ CELLS = """
   const card = document.getElementById("worst-setup");
   const parts = document.querySelector("#path-1 table.parts").tBodies[0].rows;
   return { endpoints: cells("endpoints"), corners: cells("corners"), slack: texts(parts[parts.length - 1])[1],
-    card: { slack: card.querySelector(".number").textContent, corner: card.querySelector("b").textContent } };
+    card: { slack: card.querySelector(".number").textContent, pin: card.querySelector("b").textContent,
+      corner: card.querySelectorAll("b")[1].textContent, link: card.querySelector("a").getAttribute("href") },
+    linked: document.querySelector("#endpoints a").getAttribute("href"),
+    title: document.querySelector("h1").textContent };
 """
 
 

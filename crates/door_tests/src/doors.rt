@@ -1,5 +1,6 @@
 //! What a door in memory tells, and each of its calls failing in turn.
 
+use crate::keepers::Keeping;
 use live_doors::{Done, Door, Hall, Lost, MemDoor, MemHall, MemSeat};
 use std::alloc::Global;
 use std::process::Abort;
@@ -29,7 +30,7 @@ fn talk<D: Door>(rt: &impl Abort, alloc: Global, door: &mut D) -> Option<Lost> {
             Ok(Some(_)) => {}
             Err(lost) => return Some(lost),
         }
-        door.note(number);
+        door.note(&Keeping { number }, number);
         if let Err(lost) = door.say(&answer) {
             return Some(lost);
         }

@@ -28,31 +28,54 @@ impl Clock for Counting {
     }
 }
 
-/// How long the looks of sessions at numbers pause, in milliseconds.
-fn pauses(looks: &[(u32, u64)]) -> u64 {
+/// How long sessions pause in all, in milliseconds: each looks at a number, or has answered its command where there is
+/// none.
+fn pauses(steps: &[(u32, Option<u64>)]) -> u64 {
     let clock = Counting {
         slept: AtomicU64::new(0),
     };
     let gate = LiveGate::new(&clock);
-    for (session, number) in looks {
-        gate.at(Point::Looked {
-            session: *session,
-            number: *number,
-        });
-        gate.at(Point::Taken {
-            session: *session,
-            number: *number,
-        });
+    for (session, step) in steps {
+        let session = *session;
+        match *step {
+            Some(number) => {
+                gate.at(Point::Looked { session, number });
+                gate.at(Point::Taken { session, number });
+            }
+            None => gate.at(Point::Answered {
+                session,
+                command: 1,
+            }),
+        }
     }
     clock.slept.load(Ordering::SeqCst)
 }
 
 #[test]
 fn a_session_that_sees_nothing_new_pauses(rt: HostRuntime) {
-    assert_eq!(rt; pauses(&[(1, 0)]), 0);
-    assert_eq!(rt; pauses(&[(1, 0), (1, 0)]), 1);
-    assert_eq!(rt; pauses(&[(1, 4), (2, 4), (16, 4)]), 0);
-    assert_eq!(rt; pauses(&[(1, 4), (1, 5), (1, 6)]), 0);
-    assert_eq!(rt; pauses(&[(1, 4), (16, 4), (1, 4), (16, 4), (16, 4)]), 3);
-    assert_eq!(rt; pauses(&[(17, 4), (17, 4)]), 0);
+    assert_eq!(rt; pauses(&[(1, Some(0))]), 0);
+    assert_eq!(rt; pauses(&[(1, Some(0)), (1, Some(0))]), 1);
+    assert_eq!(rt; pauses(&[(1, Some(4)), (2, Some(4)), (16, Some(4))]), 0);
+    assert_eq!(rt; pauses(&[(1, Some(4)), (1, Some(5)), (1, Some(6))]), 0);
+    assert_eq!(rt;
+        pauses(&[
+            (1, Some(4)),
+            (16, Some(4)),
+            (1, Some(4)),
+            (16, Some(4)),
+            (16, Some(4))
+        ]),
+        3
+    );
+    assert_eq!(rt; pauses(&[(17, Some(4)), (17, Some(4)), (17, None)]), 0);
+}
+
+#[test]
+fn the_first_look_of_a_command_pauses_nobody(rt: HostRuntime) {
+    assert_eq!(rt; pauses(&[(1, Some(4)), (1, None), (1, Some(4))]), 0);
+    assert_eq!(rt; pauses(&[(1, Some(4)), (2, None), (1, Some(4))]), 1);
+    assert_eq!(rt;
+        pauses(&[(1, Some(4)), (1, None), (1, Some(4)), (1, Some(4))]),
+        1
+    );
 }

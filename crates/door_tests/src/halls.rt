@@ -1,5 +1,6 @@
 //! Doors of files, and of the standard input and output.
 
+use crate::keepers::Keeping;
 use live_doors::{Door, Hall, Lost, NamedHall, StandardHall};
 use sta_outside::{FileShelf, Shelf};
 use std::alloc::Global;
@@ -29,7 +30,7 @@ fn a_door_of_two_files_hears_one_and_writes_the_other(rt: HostRuntime) {
     let mut door = opened(alloc, &hall, 2).expect(&rt, "a door");
     let first = door.hear(alloc).expect(&rt, "a line").expect(&rt, "a line");
     assert_eq!(rt; first.as_slice(), b"take".as_slice());
-    door.note(1);
+    door.note(&Keeping { number: 1 }, 1);
     assert_eq!(rt; door.say(&first), Ok(()));
     let second = door.hear(alloc).expect(&rt, "a line").expect(&rt, "a line");
     assert_eq!(rt; second.as_slice(), b"ask".as_slice());

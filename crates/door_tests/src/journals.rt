@@ -34,15 +34,14 @@ fn a_journal_is_appended_to_and_has_one_holder(rt: HostRuntime) {
 }
 
 #[test]
-fn a_journal_is_made_where_it_is_missing_and_its_folder_is_not(rt: HostRuntime) {
-    let path = "door_tests_new_journal.txt";
-    let made = AppendSink::open(&rt, path).is_ok();
+fn a_journal_that_is_missing_is_not_made(rt: HostRuntime) {
+    let path = "door_tests_missing_journal.txt";
+    let missing = AppendSink::open(&rt, path).err();
+    assert_eq!(rt; missing, Some(NotOpened::Missing));
     let fetched = FileShelf::new(&rt).fetch(rt.alloc(), path);
-    fs::remove_file(&rt, path).expect(&rt, "no file");
-    assert!(rt; made, "a new file");
-    assert_eq!(rt; fetched.expect(&rt, "a document").len(), 0);
+    assert!(rt; fetched.is_err(), "no file");
     let missing = AppendSink::open(&rt, "missing_folder/journal.txt").err();
-    assert_eq!(rt; missing, Some(NotOpened::Unreachable));
+    assert_eq!(rt; missing, Some(NotOpened::Missing));
     assert_eq!(rt;
         AppendSink::open(&rt, ".").err(),
         Some(NotOpened::Unreachable)

@@ -10,6 +10,8 @@ mod halls;
 #[cfg(test)]
 mod journals;
 #[cfg(test)]
+mod keepers;
+#[cfg(test)]
 mod lines;
 #[cfg(test)]
 mod words;

@@ -1,12 +1,13 @@
 //! Two sessions whose notes are kept in a file before they are told of them.
 
-ghost use Rattle.std.specs.Prelude.{◌≡◌, ℕ, ◌+◌, ◌<◌, [], Some, length, All, IfSome, slice_get};
+ghost use Rattle.std.specs.Prelude.{◌≡◌, ℕ, ◌+◌, ◌<◌, ◌≤◌, [], Some, length, All, IfSome, slice_get};
 ghost use Rattle.timing_defs.specs.Documents.{no_derates};
 ghost use Rattle.version_board.specs.Callers.{meaning, IsSeatOf, IsSame, IsNew};
 ghost use Rattle.live_journal.specs.Desk.{IsBoardOf};
+ghost use Rattle.live_journal.specs.Receipts.{nothing, knowing};
 
 use crate::notes::{Here, Log, Note, add, empty};
-use live_journal::{Desk, Left, Room, Unkept, keep_shared};
+use live_journal::{Cell, Desk, Keeper, Left, Receipt, Room, Unkept, keep_shared, open_cell};
 use sta_outside::MemSink;
 use std::alloc::Global;
 use std::marker::Brand;
@@ -16,13 +17,27 @@ use std::thread::{Threads, join};
 use timing_defs::Derates;
 use version_board::{Begun, Board, Seat, Stands};
 
-/// A board of two sessions and a desk, and what the file can take.
+/// A board of two sessions and a desk, and a cell for their receipts.
 #[derive(Drop)]
 struct Opened {
     board: Board<Log>,
     one: Seat<Log>,
     two: Seat<Log>,
     third: Seat<Log>,
+    cell: Cell,
+    keeper: Keeper,
+    ghost new: { keeper ≡ knowing cell.table.shared.table_id nothing },
+}
+
+/// A session: its seat with its number, what it knows of the file, and the last number that it was told.
+#[derive(Drop)]
+struct Session<B: Room<Here>> {
+    seat: Seat<Log>,
+    who: u8,
+    receipt: Receipt<B, Here>,
+    told: u64,
+    ghost numbered: { who ≡ seat.view.number },
+    ghost stands: { told ≤ receipt.upto },
 }
 
 /// What is left at the end: the board's list, the file, and whether each put went well.
@@ -34,8 +49,8 @@ struct Ended {
     sound: bool,
 }
 
-/// The board and its three seats.
-fn seated(board: Board<Log>, mut seats: Vec<Seat<Log>>) -> Opened
+/// The board and its three seats, with a new cell.
+fn seated(rt: &impl Abort, alloc: Global, board: Board<Log>, mut seats: Vec<Seat<Log>>) -> Opened
     requires three { length seats.items ≡ 3 }
     requires seats { let l = ⟦<Log as Stands>⟧ in All (IsSeatOf (meaning l.entries l.from l.origin l.by) board) seats.items }
     requires new { (k : ℕ) → k < 3 → IfSome (slice_get seats.items k) (IsNew (k + 1)) }
@@ -47,11 +62,14 @@ fn seated(board: Board<Log>, mut seats: Vec<Seat<Log>>) -> Opened
     let third = seats.pop().unwrap();
     let two = seats.pop().unwrap();
     let one = seats.pop().unwrap();
+    let (cell, keeper) = open_cell(alloc).expect(rt, "memory");
     Opened {
         board,
         one,
         two,
         third,
+        cell,
+        keeper,
     }
 }
 
@@ -63,7 +81,7 @@ fn begun(rt: &impl Abort, alloc: Global) -> Opened
 {
     let value = empty(rt, alloc, 0);
     let Begun { board, seats } = Board::begin(alloc, 0, value, 3).expect(rt, "memory");
-    seated(board, seats)
+    seated(rt, alloc, board, seats)
 }
 
 fn sink(rt: &impl Abort, alloc: Global, room: usize, fails: &[u64]) -> MemSink
@@ -73,29 +91,61 @@ fn sink(rt: &impl Abort, alloc: Global, room: usize, fails: &[u64]) -> MemSink
     MemSink::new(alloc, room, fails).expect(rt, "memory")
 }
 
-/// Adds so many notes, and has each kept before the next. Gives the number of the last that was kept.
+/// A session that was told nothing yet.
+fn begun_session<R: Wait, B: Room<Here>>(
+    rt: &R,
+    cell: &Cell,
+    desk: &mut Desk<Log, MemSink, B>,
+    seat: Seat<Log>,
+    who: u8,
+) -> Session<B>
+    requires cell { cell.now.table.shared.table_id ≡ B.about.cell }
+    requires number { who ≡ seat.view.number }
+    ensures { result.seat ≡ seat }
+{
+    let receipt = desk.first_receipt(rt, cell);
+    Session {
+        seat,
+        who,
+        receipt,
+        told: 0,
+    }
+}
+
+/// Adds so many notes, and has each kept before the next.
 fn keep_each<R: Wait + Abort, B: Room<Here>>(
     rt: &R,
     alloc: Global,
     board: &Board<Log>,
+    cell: &Cell,
     desk: &Mutex<Desk<Log, MemSink, B>>,
-    mut seat: Seat<Log>,
-    who: u8,
+    session: Session<B>,
     count: u64,
-) -> (Seat<Log>, u64)
+) -> Session<B>
     requires board { let l = ⟦<Log as Stands>⟧ in IsBoardOf (meaning l.entries l.from l.origin l.by) B.about board.now }
-    requires seat { let l = ⟦<Log as Stands>⟧ in IsSeatOf (meaning l.entries l.from l.origin l.by) board.now seat × (who ≡ seat.view.number) }
-    ensures { let l = ⟦<Log as Stands>⟧ in IsSeatOf (meaning l.entries l.from l.origin l.by) board.now result.0 }
+    requires cell { cell.now.table.shared.table_id ≡ B.about.cell }
+    requires seat { let l = ⟦<Log as Stands>⟧ in IsSeatOf (meaning l.entries l.from l.origin l.by) board.now session.seat }
+    ensures { let l = ⟦<Log as Stands>⟧ in IsSeatOf (meaning l.entries l.from l.origin l.by) board.now result.seat }
 {
-    let mut told = 0;
+    let Session {
+        mut seat,
+        who,
+        mut receipt,
+        mut told,
+    } = session;
     for _ in 0..count {
         let number = add(rt, alloc, board, &mut seat, who);
-        if keep_shared(rt, alloc, desk, board, number).is_ok() {
+        if keep_shared(rt, alloc, desk, cell, board, &mut receipt, number).is_ok() {
             assert!(rt; number <= desk.lock(rt).kept());
             told = number;
         }
     }
-    (seat, told)
+    Session {
+        seat,
+        who,
+        receipt,
+        told,
+    }
 }
 
 /// Two threads add so many notes each.
@@ -103,28 +153,52 @@ fn keep_beside<R: Threads + Wait + Abort + Sync, B: Room<Here> + Send + Sync>(
     rt: &R,
     alloc: Global,
     board: &Board<Log>,
+    cell: &Cell,
     desk: &Mutex<Desk<Log, MemSink, B>>,
-    one: Seat<Log>,
-    two: Seat<Log>,
+    sessions: (Session<B>, Session<B>),
     count: u64,
-) -> ((Seat<Log>, u64), (Seat<Log>, u64))
+) -> (Session<B>, Session<B>)
     requires board { let l = ⟦<Log as Stands>⟧ in IsBoardOf (meaning l.entries l.from l.origin l.by) B.about board.now }
-    requires one { let l = ⟦<Log as Stands>⟧ in IsSeatOf (meaning l.entries l.from l.origin l.by) board.now one × (one.view.number ≡ 1) }
-    requires two { let l = ⟦<Log as Stands>⟧ in IsSeatOf (meaning l.entries l.from l.origin l.by) board.now two × (two.view.number ≡ 2) }
-    ensures one { let l = ⟦<Log as Stands>⟧ in IsSeatOf (meaning l.entries l.from l.origin l.by) board.now result.0.0 }
-    ensures two { let l = ⟦<Log as Stands>⟧ in IsSeatOf (meaning l.entries l.from l.origin l.by) board.now result.1.0 }
+    requires cell { cell.now.table.shared.table_id ≡ B.about.cell }
+    requires one { let l = ⟦<Log as Stands>⟧ in IsSeatOf (meaning l.entries l.from l.origin l.by) board.now sessions.0.seat }
+    requires two { let l = ⟦<Log as Stands>⟧ in IsSeatOf (meaning l.entries l.from l.origin l.by) board.now sessions.1.seat }
+    ensures one { let l = ⟦<Log as Stands>⟧ in IsSeatOf (meaning l.entries l.from l.origin l.by) board.now result.0.seat }
+    ensures two { let l = ⟦<Log as Stands>⟧ in IsSeatOf (meaning l.entries l.from l.origin l.by) board.now result.1.seat }
 {
+    let (one, two) = sessions;
     join(
         rt,
-        || -> (Seat<Log>, u64)
-            requires { IsBoardOf (meaning (λ (l : Log). l.notes.items) (λ (l : Log). l.first) (λ (l : Log). record {}) (λ (n : Note). n.seat)) B.about board.now × IsSeatOf (meaning (λ (l : Log). l.notes.items) (λ (l : Log). l.first) (λ (l : Log). record {}) (λ (n : Note). n.seat)) board.now one × (one.view.number ≡ 1) }
-            ensures { IsSeatOf (meaning (λ (l : Log). l.notes.items) (λ (l : Log). l.first) (λ (l : Log). record {}) (λ (n : Note). n.seat)) board.entry.now result.0 }
-        { keep_each(rt, alloc, board, desk, one, 1, count) },
-        || -> (Seat<Log>, u64)
-            requires { IsBoardOf (meaning (λ (l : Log). l.notes.items) (λ (l : Log). l.first) (λ (l : Log). record {}) (λ (n : Note). n.seat)) B.about board.now × IsSeatOf (meaning (λ (l : Log). l.notes.items) (λ (l : Log). l.first) (λ (l : Log). record {}) (λ (n : Note). n.seat)) board.now two × (two.view.number ≡ 2) }
-            ensures { IsSeatOf (meaning (λ (l : Log). l.notes.items) (λ (l : Log). l.first) (λ (l : Log). record {}) (λ (n : Note). n.seat)) board.entry.now result.0 }
-        { keep_each(rt, alloc, board, desk, two, 2, count) },
+        || -> Session<B>
+            requires { IsBoardOf (meaning (λ (l : Log). l.notes.items) (λ (l : Log). l.first) (λ (l : Log). record {}) (λ (n : Note). n.seat)) B.about board.now × (cell.now.table.shared.table_id ≡ B.about.cell) × IsSeatOf (meaning (λ (l : Log). l.notes.items) (λ (l : Log). l.first) (λ (l : Log). record {}) (λ (n : Note). n.seat)) board.now one.seat }
+            ensures { IsSeatOf (meaning (λ (l : Log). l.notes.items) (λ (l : Log). l.first) (λ (l : Log). record {}) (λ (n : Note). n.seat)) board.entry.now result.seat }
+        { keep_each(rt, alloc, board, cell, desk, one, count) },
+        || -> Session<B>
+            requires { IsBoardOf (meaning (λ (l : Log). l.notes.items) (λ (l : Log). l.first) (λ (l : Log). record {}) (λ (n : Note). n.seat)) B.about board.now × (cell.now.table.shared.table_id ≡ B.about.cell) × IsSeatOf (meaning (λ (l : Log). l.notes.items) (λ (l : Log). l.first) (λ (l : Log). record {}) (λ (n : Note). n.seat)) board.now two.seat }
+            ensures { IsSeatOf (meaning (λ (l : Log). l.notes.items) (λ (l : Log). l.first) (λ (l : Log). record {}) (λ (n : Note). n.seat)) board.entry.now result.seat }
+        { keep_each(rt, alloc, board, cell, desk, two, count) },
     )
+}
+
+/// What a session was told stands in the file. Gives its seat, and the last number that it was told.
+fn confirmed<R: Wait, B: Room<Here>>(
+    rt: &R,
+    cell: &Cell,
+    desk: &mut Desk<Log, MemSink, B>,
+    session: Session<B>,
+) -> (Seat<Log>, u64)
+    requires cell { cell.now.table.shared.table_id ≡ B.about.cell }
+    ensures same { desk.new ≡ desk.old }
+    ensures seat { result.0 ≡ session.seat }
+    ensures told { (result.1 ≡ session.told) × (result.1 ≤ desk.new.kept) }
+{
+    let Session {
+        seat,
+        who: _,
+        receipt,
+        told,
+    } = session;
+    desk.confirm(rt, cell, receipt);
+    (seat, told)
 }
 
 /// Closes the board with all seats.
@@ -138,6 +212,7 @@ fn closed<B: Room<Here>>(
 ) -> Ended
     requires board { let l = ⟦<Log as Stands>⟧ in (board.seats ≡ 3) × IsBoardOf (meaning l.entries l.from l.origin l.by) B.about board }
     requires seats { let l = ⟦<Log as Stands>⟧ in IsSeatOf (meaning l.entries l.from l.origin l.by) board one × IsSeatOf (meaning l.entries l.from l.origin l.by) board two }
+    ensures { result.kept ≡ desk.kept }
 {
     let Left {
         seat,
@@ -165,22 +240,30 @@ fn kept_beside<R: Threads + Wait + Abort + Sync, B: Room<Here> + Send + Sync>(
     file: MemSink,
     count: u64,
 ) -> (Ended, u64, u64)
-    requires about { B.about ≡ record { table = opened.board.id; first = 0; origin = Some (record {}); number = 3; before = Some []; derates = no_derates } }
+    requires about { B.about ≡ record { table = opened.board.id; first = 0; origin = Some (record {}); number = 3; before = Some []; derates = no_derates; cell = opened.cell.table.shared.table_id } }
     requires file { file.bytes.items ≡ [] }
     requires board { (opened.board.seats ≡ 3) × (opened.board.opening.first ≡ 0) }
     requires one { let l = ⟦<Log as Stands>⟧ in IsSeatOf (meaning l.entries l.from l.origin l.by) opened.board opened.one × (opened.one.view.number ≡ 1) }
     requires two { let l = ⟦<Log as Stands>⟧ in IsSeatOf (meaning l.entries l.from l.origin l.by) opened.board opened.two × (opened.two.view.number ≡ 2) }
     requires third { let l = ⟦<Log as Stands>⟧ in IsSeatOf (meaning l.entries l.from l.origin l.by) opened.board opened.third × IsNew 3 opened.third }
+    ensures told { (result.1 ≤ result.0.kept) × (result.2 ≤ result.0.kept) }
 {
     let Opened {
         board,
         one,
         two,
         third,
+        cell,
+        keeper,
     } = opened;
-    let desk = Mutex::new(Desk::<Log, MemSink, B>::begin(third, file, Derates::none(), 0));
-    let ((one, told), (two, told_too)) = keep_beside(rt, alloc, &board, &desk, one, two, count);
-    let desk = desk.into_inner();
+    let mut desk = Desk::<Log, MemSink, B>::begin(third, file, Derates::none(), 0, keeper);
+    let one = begun_session(rt, &cell, &mut desk, one, 1);
+    let two = begun_session(rt, &cell, &mut desk, two, 2);
+    let shared = Mutex::new(desk);
+    let (one, two) = keep_beside(rt, alloc, &board, &cell, &shared, (one, two), count);
+    let mut desk = shared.into_inner();
+    let (one, told) = confirmed(rt, &cell, &mut desk, one);
+    let (two, told_too) = confirmed(rt, &cell, &mut desk, two);
     (closed(rt, alloc, board, desk, one, two), told, told_too)
 }
 
@@ -231,7 +314,7 @@ fn kept_in_turn<R: Wait + Abort, B: Room<Here>>(
     opened: Opened,
     file: MemSink,
 ) -> (Ended, [Result<(), Unkept>; 4])
-    requires about { B.about ≡ record { table = opened.board.id; first = 0; origin = Some (record {}); number = 3; before = Some []; derates = no_derates } }
+    requires about { B.about ≡ record { table = opened.board.id; first = 0; origin = Some (record {}); number = 3; before = Some []; derates = no_derates; cell = opened.cell.table.shared.table_id } }
     requires file { file.bytes.items ≡ [] }
     requires board { (opened.board.seats ≡ 3) × (opened.board.opening.first ≡ 0) }
     requires one { let l = ⟦<Log as Stands>⟧ in IsSeatOf (meaning l.entries l.from l.origin l.by) opened.board opened.one × (opened.one.view.number ≡ 1) }
@@ -243,8 +326,10 @@ fn kept_in_turn<R: Wait + Abort, B: Room<Here>>(
         mut one,
         mut two,
         third,
+        cell: _,
+        keeper,
     } = opened;
-    let mut desk = Desk::<Log, MemSink, B>::begin(third, file, Derates::none(), 0);
+    let mut desk = Desk::<Log, MemSink, B>::begin(third, file, Derates::none(), 0, keeper);
     add(rt, alloc, &board, &mut one, 1);
     let first = desk.keep(rt, alloc, &board, 1);
     add(rt, alloc, &board, &mut two, 2);

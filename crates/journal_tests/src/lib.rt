@@ -7,3 +7,5 @@ mod blocks;
 mod desks;
 #[cfg(test)]
 mod notes;
+#[cfg(test)]
+mod sinks;

@@ -10,7 +10,7 @@ use crate::log::Log;
 use crate::writing::write_whole;
 use sta_outside::{PutFault, Sink};
 use std::fs::{File, OpenFile, TryLockError};
-use std::io::Write;
+use std::io::{ErrorKind, Write};
 use std::rt::Files;
 use thiserror::Error;
 
@@ -20,6 +20,9 @@ pub enum NotOpened {
     /// Another process holds the file's lock.
     #[error("the file is locked")]
     Locked,
+    /// There is no such file.
+    #[error("the file is missing")]
+    Missing,
     /// The file can not be opened to append, or not locked.
     #[error("the file can not be opened")]
     Unreachable,
@@ -56,18 +59,19 @@ impl<F> AppendSink<F> {
 }
 
 impl AppendSink<File> {
-    /// Opens a file to append, and takes its lock, which goes with the sink. A file that is missing is made.
+    /// Opens a file to append, and takes its lock, which goes with the sink.
     ///
     /// # Errors
     ///
-    /// `Locked` where another process holds the lock, else `Unreachable`.
+    /// `Locked` where another process holds the lock, `Missing` where there is no such file, else `Unreachable`.
     pub fn open<R: Files<File = File>>(rt: &R, name: &str) -> Result<AppendSink<File>, NotOpened>
         ensures sound { IfOk result (λ sink. sink.faults ≡ 0) }
         ensures untouched { IfOk result (λ sink. put_bytes sink.told.items ≡ []) }
     {
-        let opened = File::options().append(true).create(true).open(rt, name);
-        let Ok(file) = opened else {
-            return Err(NotOpened::Unreachable);
+        let file = match File::options().append(true).open(rt, name) {
+            Ok(file) => file,
+            Err(fault) if fault.kind() == ErrorKind::NotFound => return Err(NotOpened::Missing),
+            Err(_) => return Err(NotOpened::Unreachable),
         };
         match file.try_lock() {
             Ok(()) => Ok(AppendSink::over(file)),

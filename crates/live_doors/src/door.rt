@@ -23,6 +23,12 @@ pub enum Lost {
     Memory,
 }
 
+/// Who keeps a session's journal.
+pub trait Keeper {
+    /// The number up to which all entries stand in the journal for certain.
+    ghost safe: { Self → ℕ };
+}
+
 /// The two directions of a session, with the mark of its journal between them, so that their order is told.
 pub trait Door {
     /// The lines to come, where the door tells them.
@@ -60,8 +66,9 @@ pub trait Door {
         ensures cause { OnErr result (Rose (faults self.old) (faults self.new)) }
         ensures lost { IfErr result (λ lost. lost ≡ Lost.Output) };
 
-    /// Notes that all entries up to a number stand in the journal; the caller has seen to it.
-    fn note(&mut self, number: u64)
+    /// Notes that all entries up to a number stand in the journal, as its keeper knows.
+    fn note<K: Keeper>(&mut self, keeper: &K, number: u64)
+        requires stood { number ≤ K.safe keeper.now }
         ensures same { Loses (left self.old) (left self.new) [] }
         ensures kept { Grows (trace self.old) (trace self.new) (kept number ∷ []) }
         ensures quiet { faults self.new ≡ faults self.old };

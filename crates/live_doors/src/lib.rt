@@ -18,7 +18,7 @@ mod record;
 mod writing;
 
 pub use append_sink::{AppendSink, NotOpened};
-pub use door::{Door, Hall, Lost};
+pub use door::{Door, Hall, Keeper, Lost};
 pub use halls::{NamedDoor, NamedHall, Printed, StandardDoor, StandardHall};
 pub use live_gate::LiveGate;
 pub use mem_door::{MemDoor, MemHall, MemSeat};

@@ -14,7 +14,8 @@ const PAUSE: u64 = 1;
 /// No version has this number.
 const NONE: u64 = u64::MAX;
 
-/// A gate that pauses a session whose look finds the number of its look before.
+/// A gate that pauses a session whose look finds the number of its look before, where both are of one command. At
+/// `Point::Answered`, which sessions raise behind each row, it forgets what the session saw.
 #[derive(Drop)]
 pub struct LiveGate<'a, R: Clock> {
     rt: &'a R,
@@ -30,21 +31,32 @@ impl<'a, R: Clock> LiveGate<'a, R> {
         }
     }
 
-    /// Notes what a session sees, and tells whether it saw the same before.
+    /// Notes what a session sees, and tells whether it saw the same before, for the same command.
     fn sees_again(&self, session: u32, number: u64) -> bool {
         match self.seen.get(session as usize) {
             Some(place) => place.swap(number, Ordering::SeqCst) == number,
             None => false,
         }
     }
+
+    /// Forgets what a session saw.
+    fn forget(&self, session: u32) {
+        if let Some(place) = self.seen.get(session as usize) {
+            place.store(NONE, Ordering::SeqCst);
+        }
+    }
 }
 
 impl<R: Clock + Sync> Gate for LiveGate<'_, R> {
     fn at(&self, point: Point) {
-        if let Point::Looked { session, number } = point {
-            if self.sees_again(session, number) {
-                thread::sleep(self.rt, Duration::from_millis(PAUSE));
+        match point {
+            Point::Looked { session, number } => {
+                if self.sees_again(session, number) {
+                    thread::sleep(self.rt, Duration::from_millis(PAUSE));
+                }
             }
+            Point::Answered { session, .. } => self.forget(session),
+            _ => {}
         }
     }
 }

@@ -7,7 +7,7 @@ ghost use Rattle.live_doors.specs.Lines.{kept_length};
 ghost use Rattle.live_doors.specs.Marks.{deeds};
 ghost use Rattle.sta_outside.specs.Shelf.{Rose};
 
-use crate::door::{Door, Hall, Lost};
+use crate::door::{Door, Hall, Keeper, Lost};
 use crate::lines::KEPT_LENGTH;
 use crate::plan::Plan;
 use crate::record::{Done, Record};
@@ -116,7 +116,7 @@ impl Door for MemDoor {
         Ok(())
     }
 
-    fn note(&mut self, number: u64)
+    fn note<K: Keeper>(&mut self, _keeper: &K, number: u64)
         ensures same { Loses (Some (kept_lines (drop self.old.next self.old.lines.items))) (Some (kept_lines (drop self.new.next self.new.lines.items))) [] }
         ensures kept { Grows (Some (deeds self.old.account.history)) (Some (deeds self.new.account.history)) (kept number ∷ []) }
         ensures quiet { self.new.plan.faults ≡ self.old.plan.faults }

@@ -7,7 +7,7 @@ ghost use Rattle.live_doors.specs.Lines.{kept_length, ReadsLine};
 ghost use Rattle.live_doors.specs.Marks.{IsCut, deeds};
 ghost use Rattle.sta_outside.specs.Shelf.{Rose};
 
-use crate::door::{Door, Lost};
+use crate::door::{Door, Keeper, Lost};
 use crate::history::History;
 use crate::lines::next_line;
 use crate::writing::write_whole;
@@ -95,7 +95,7 @@ impl<B: BufRead, W: Write> Door for OpenDoor<B, W> {
         }
     }
 
-    fn note(&mut self, number: u64)
+    fn note<K: Keeper>(&mut self, _keeper: &K, number: u64)
         ensures kept { Grows (Some (deeds self.old.history)) (Some (deeds self.new.history)) (kept number ∷ []) }
         ensures quiet { self.new.faults ≡ self.old.faults }
     {

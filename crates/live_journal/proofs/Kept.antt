@@ -8,6 +8,8 @@ use Rattle.version_board.specs.Callers.{Sitting, IsSame}
 use Rattle.eco_journal.specs.Blocks.{blocks_text}
 use Rattle.timing_defs.specs.declared.edits.Entry.{Entry}
 use Rattle.live_journal.specs.Desk.{single, Setting, Keeping, IsDesk, HasText, HasFile}
+use Rattle.live_journal.specs.declared.cells.Known.{Known}
+use Rattle.live_journal.specs.Receipts.{known, IsAtMost}
 use Rattle.live_journal.proofs.Texts.{prefix_length, longer, put_whole, put_partly, file_longer}
 
 module _ {E O : Type 0} (text : Derates → ℕ → List E → List ℕ) (joins : (d : Derates) (n : ℕ) (xs ys : List E) → text d n (xs ++ ys) ≡ text d n xs ++ text d (n + length xs) ys) (s : Setting O) where
@@ -66,6 +68,12 @@ module _ {E O : Type 0} (text : Derates → ℕ → List E → List ℕ) (joins 
         written = put_partly (text s.derates) (joins s.derates) s.before d.file file s.first (d.kept - s.first) d.seat.view.seen (sound_text d h sound)
             (subst (AppendsPrefix d.file file) (not_there d h) put);
       }
+
+module _ {E O : Type 0} (text : Derates → ℕ → List E → List ℕ) (s : Setting O) where
+  -- what was known before is known after a put of all that was seen
+  pub knows_more : (d : Keeping E O) (k : Known) (upto : ℕ) → IsDesk text s d → upto ≡ s.first + length d.seat.view.seen
+      → IsAtMost k (known d.kept d.sound) → IsAtMost k (known upto d.sound)
+  knows_more d k upto h all low = let few = h.few in let most = low.0 in (omega (arith, few, most, all), low.1)
 
 -- what the file has of the board's list, once the board was closed
 pub file_closed : {O : Type 0} (s : Setting O) (d : Keeping Entry O) (all : List Entry) → IsDesk (λ derates from es. blocks_text derates from (single es)) s d

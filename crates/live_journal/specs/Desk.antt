@@ -39,8 +39,12 @@ module _ {E : Type 0} where
 abbrev pub HasFile : Option (List ℕ) → Option (List ℕ) → Derates → ℕ → List Entry → ℕ → Bool → Type 0
 HasFile old new derates first J n sound = HasText (λ from es. blocks_text derates from (single es)) old new first J n sound
 
+-- the name of no table
+abbrev no_table : TableId
+no_table = record { words = 0; slots = 0; views_name = 0; atom = 0; block = 0; offset = 0; slot_names = [] }
+
 -- what a desk is tied to: the board, its first number and its origin, the number of the desk's seat, the file as it was at
--- first, and the factors of the blocks
+-- first, the factors of the blocks, and the cell of its receipts
 pub record Setting (O : Type 0) : Type 0 where
   pub table : TableId
   pub first : ℕ
@@ -48,16 +52,18 @@ pub record Setting (O : Type 0) : Type 0 where
   pub number : ℕ
   pub before : Option (List ℕ)
   pub derates : Derates
+  pub cell : TableId
 
 -- the setting of no desk
 abbrev pub nowhere : {O : Type 0} → Setting O
 nowhere = record {
-  table = record { words = 0; slots = 0; views_name = 0; atom = 0; block = 0; offset = 0; slot_names = [] };
+  table = no_table;
   first = 0;
   origin = None;
   number = 0;
   before = None;
   derates = no_derates;
+  cell = no_table;
 }
 
 -- what contracts see of a desk: its seat, the number up to which all entries stand in the file, whether each put went well,

@@ -1,11 +1,15 @@
 //! The desk.
 
-ghost use Rattle.std.specs.Prelude.{◌≡◌, ◌+◌, ◌-◌, ◌<◌, ◌≤◌, true, length, drop, IfOk, OnOk};
+ghost use Rattle.std.specs.Prelude.{◌≡◌, ◌+◌, ◌-◌, ◌<◌, ◌≤◌, true, false, length, drop, IfOk, OnOk, IfErr};
 ghost use Rattle.std.specs.Arc.{arc_value};
 ghost use mathlib.Core.List.{IsPrefix};
 ghost use Rattle.version_board.specs.Callers.{meaning, IsSeatOf, IsSame};
+ghost use Rattle.live_journal.specs.declared.desks.Unkept.TheVariants.{Failed};
 ghost use Rattle.live_journal.specs.Desk.{keeping, IsBoardOf, IsSeatAt, IsDesk, Keeps, Puts};
+ghost use Rattle.live_journal.specs.Receipts.{nothing, known, knowing, IsAtMost};
 
+use crate::cells::{Cell, Keeper, Known};
+use crate::receipts::Receipt;
 use crate::rooms::Room;
 use crate::saving::Saves;
 use sta_outside::{PutFault, Sink};
@@ -37,18 +41,20 @@ pub struct Desk<T: Saves, F: Sink, B: Room<<T as Stands>::Origin>> {
     derates: Derates,
     kept: u64,
     sound: bool,
+    keeper: Keeper,
     room: PhantomData<B>,
 }
 
 impl<T: Saves, F: Sink, B: Room<<T as Stands>::Origin>> Model for Desk<T, F, B> {
     ghost use Rattle.std.specs.Prelude.{◌≡◌};
     ghost use Rattle.live_journal.specs.Desk.{Keeping, keeping, IsDesk};
+    ghost use Rattle.live_journal.specs.Receipts.{known, IsAtMost};
 
     ghost Value = { Keeping T.Entry T.Origin };
 
     ghost view = { λ d. keeping d.seat d.kept d.sound (F.written d.sink) (F.faults d.sink) };
 
-    ghost invariant = { λ d. (d.derates ≡ B.about.derates) × IsDesk T.text B.about (keeping d.seat d.kept d.sound (F.written d.sink) (F.faults d.sink)) };
+    ghost invariant = { λ d. (d.derates ≡ B.about.derates) × IsDesk T.text B.about (keeping d.seat d.kept d.sound (F.written d.sink) (F.faults d.sink)) × (d.keeper.cell ≡ B.about.cell) × IsAtMost d.keeper.known (known d.kept d.sound) };
 }
 
 /// What is left of a desk: its seat, for the board to close, and the file.
@@ -92,11 +98,18 @@ fn await_number<T: Saves, R: Wait>(
 
 impl<T: Saves, F: Sink + Drop, B: Room<<T as Stands>::Origin>> Desk<T, F, B> {
     /// A desk before anything is put: `first` is the number before the board's first entry.
-    pub fn begin(seat: Seat<T>, sink: F, derates: Derates, first: u64) -> Desk<T, F, B>
+    pub fn begin(
+        seat: Seat<T>,
+        sink: F,
+        derates: Derates,
+        first: u64,
+        keeper: Keeper,
+    ) -> Desk<T, F, B>
         requires seat { IsSeatAt B.about seat }
         requires file { F.written sink ≡ B.about.before }
         requires derates { derates ≡ B.about.derates }
         requires first { first ≡ B.about.first }
+        requires keeper { keeper ≡ knowing B.about.cell nothing }
         ensures { result ≡ keeping seat first true (F.written sink) (F.faults sink) }
     {
         Desk {
@@ -105,6 +118,7 @@ impl<T: Saves, F: Sink + Drop, B: Room<<T as Stands>::Origin>> Desk<T, F, B> {
             derates,
             kept: first,
             sound: true,
+            keeper,
             room: PhantomData,
         }
     }
@@ -204,6 +218,39 @@ impl<T: Saves, F: Sink + Drop, B: Room<<T as Stands>::Origin>> Desk<T, F, B> {
         }
     }
 
+    /// A receipt for all that stands in the file.
+    pub fn first_receipt<R: Wait>(
+        &mut self,
+        rt: &R,
+        cell: &Cell,
+    ) -> Receipt<B, <T as Stands>::Origin>
+        requires cell { cell.now.table.shared.table_id ≡ B.about.cell }
+        ensures same { self.new ≡ self.old }
+        ensures told { result ≡ known self.old.kept self.old.sound }
+    {
+        let known = Known {
+            upto: self.kept,
+            torn: !self.sound,
+        };
+        self.keeper.rise(rt, cell, known);
+        Receipt::of(self.keeper.tell(cell))
+    }
+
+    /// What a receipt tells holds of the file.
+    pub fn confirm<R: Wait>(
+        &mut self,
+        rt: &R,
+        cell: &Cell,
+        receipt: Receipt<B, <T as Stands>::Origin>,
+    )
+        requires cell { cell.now.table.shared.table_id ≡ B.about.cell }
+        ensures same { self.new ≡ self.old }
+        ensures stands { receipt.upto ≤ self.new.kept }
+        ensures torn { receipt.torn ≡ true → self.new.sound ≡ false }
+    {
+        self.keeper.compare(rt, cell, receipt.into_pass());
+    }
+
     /// Takes the desk apart.
     pub fn into_parts(self) -> Left<T, F>
         ensures seat { result.seat ≡ self.seat }
@@ -217,6 +264,7 @@ impl<T: Saves, F: Sink + Drop, B: Room<<T as Stands>::Origin>> Desk<T, F, B> {
             derates: _,
             kept,
             sound,
+            keeper: _,
             room: _,
         } = self;
         Left {
@@ -228,8 +276,8 @@ impl<T: Saves, F: Sink + Drop, B: Room<<T as Stands>::Origin>> Desk<T, F, B> {
     }
 }
 
-/// Sees to it, from any thread, that all entries up to a number stand in the file of a desk that threads share. It waits for the
-/// desk, and then as `Desk::keep` does.
+/// Sees to it, from any thread, that all entries up to a number stand in the file of a desk that threads share, and notes in the
+/// receipt what stands there then. It waits for the desk, and then does as `Desk::keep`.
 ///
 /// # Errors
 ///
@@ -238,10 +286,19 @@ pub fn keep_shared<R: Wait, T: Saves, F: Sink + Drop, B: Room<<T as Stands>::Ori
     rt: &R,
     alloc: Global,
     desk: &Mutex<Desk<T, F, B>>,
+    cell: &Cell,
     board: &Board<T>,
+    receipt: &mut Receipt<B, <T as Stands>::Origin>,
     number: u64,
 ) -> Result<(), Unkept>
     requires board { IsBoardOf (meaning T.entries T.from T.origin T.by) B.about board.now }
+    requires cell { cell.now.table.shared.table_id ≡ B.about.cell }
+    ensures rises { IsAtMost receipt.old receipt.new }
+    ensures kept { OnOk result (number ≤ receipt.new.upto) }
+    ensures torn { IfErr result (λ why. why ≡ Failed → receipt.new.torn ≡ true) }
 {
-    desk.lock(rt).keep(rt, alloc, board, number)
+    let mut desk = desk.lock(rt);
+    let result = desk.keep(rt, alloc, board, number);
+    receipt.take_in(cell, desk.first_receipt(rt, cell));
+    result
 }

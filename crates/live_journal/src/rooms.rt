@@ -1,4 +1,4 @@
-//! What ties a desk to its board and its file.
+//! What ties a desk to its board, its file and its receipts.
 
 ghost use Rattle.live_journal.specs.Desk.{Setting};
 
@@ -6,7 +6,7 @@ use std::marker::Brand;
 use timing_defs::Design;
 
 /// Names the board and the file of a desk: the board, its first number and origin, the number of the desk's seat, the file as it
-/// was at first, and the factors of the blocks. The call that begins the desk picks it, at `Brand`.
+/// was at first, the factors of the blocks, and the cell of its receipts. The call that begins the desk picks it, at `Brand`.
 pub trait Room<O> {
     ghost about: { Setting O };
 }

@@ -1,5 +1,5 @@
 -- A session's rounds joined: what it heard, ran and did so far, and one round more.
-use Rattle.std.proofs.Common.{◌≡◌, ℕ, ◌+◌, ◌-◌, ◌^◌, ◌++◌, List, [], ◌∷◌, length, true, false, refl, sym, ap, ◌∙◌, subst, arith, append_assoc, length-append, inl, inr}
+use Rattle.std.proofs.Common.{◌≡◌, ℕ, ◌+◌, ◌-◌, ◌^◌, ◌≤◌, ◌++◌, List, [], ◌∷◌, length, true, false, refl, sym, ap, ◌∙◌, subst, arith, append_assoc, length-append, inl, inr}
 use Rattle.std.specs.Prelude.{Bool, ◌&&◌, Option, Some, None}
 use Rattle.std.proofs.lemmas.List.{append-nil}
 use Rattle.std.proofs.lemmas.List.Folds.{list_all-append}
@@ -12,10 +12,11 @@ use Rattle.script_reader.specs.Scripts.{outside, inside, drafted, tried}
 use Rattle.script_reader.specs.Live.{Reading, beginning, LivePlace, stands, passing_eco, passing_draft, live_line, live_end, item_list, items, place_behind}
 use Rattle.live_session.specs.declared.replies.Manner.{Manner}
 use Rattle.live_session.specs.declared.replies.Reply.{Reply}
+use Rattle.live_session.specs.declared.replies.Reply.TheVariants.{Row as row, Error as error}
 use Rattle.live_session.specs.declared.replies.TalkEnd.{TalkEnd}
 use Rattle.live_session.specs.declared.replies.TalkEnd.TheVariants.{Closed, Deaf, Mute, Unkept, Wanting, Full}
 use Rattle.live_session.specs.declared.talking.Round.TheVariants.{Goes, Ends}
-use Rattle.live_session.specs.Talks.{Telling, AtDoor, AreKept, AreReplies, commands_in, rows_in, deeds_of, told_of, dialogue, IsTalk, IsCutTalk, IsUnanswered, Talked, is_clean, are_clean}
+use Rattle.live_session.specs.Talks.{Telling, telling, AtDoor, IsKept, AreKept, AreReplies, commands_in, rows_in, deeds_of, told_of, dialogue, IsTalk, IsCutTalk, IsUnanswered, Talked, is_clean, are_clean}
 use Rattle.live_session.specs.Turns.{Extends, Remains, IsFilled, IsAsked, IsQuiet, Does, IsCutReply, item_of, HearsAt, Rounds, IsTalking}
 use Rattle.live_session.proofs.DoorLaws.{grows_more, loses_more, grows_same, loses_same}
 use Rattle.live_session.proofs.TurnLaws.{clean_one}
@@ -67,6 +68,38 @@ and_true false = refl
 told_last : (way : Manner) (what : Option Item) (reply : Reply) → AreReplies (item_list what) (reply ∷ []) → told_of way what (reply ∷ []) ≡ deeds_of way reply
 told_last way None reply g = absurd g
 told_last way (Some item) reply g = refl
+
+-- what was kept of rows stays kept where the number rises
+pub kept_still : (way : Telling) (safe : ℕ) (torn : Bool) (reply : Reply) → way.safe ≤ safe → IsKept way reply → IsKept (telling safe torn way.manner) reply
+kept_still way safe torn (row r) rises kept = λ keeps. let below = kept keeps in omega (arith, below, rises)
+kept_still way safe torn (error wrong) rises kept = tt
+
+pub all_kept_still : (way : Telling) (safe : ℕ) (torn : Bool) (replies : List Reply) → way.safe ≤ safe → AreKept way replies → AreKept (telling safe torn way.manner) replies
+all_kept_still way safe torn [] rises kept = tt
+all_kept_still way safe torn (reply ∷ replies) rises kept =
+    (kept_still way safe torn reply rises kept.0, all_kept_still way safe torn replies rises kept.1)
+
+-- what was told of a session stays so where the number rises
+pub talk_still : (Ran : List Command → List Row → Type 0) (way : Telling) (safe : ℕ) (torn ended : Bool) (old new : AtDoor) (lines : List (List ℕ)) (replies : List Reply)
+    → way.safe ≤ safe → IsTalk Ran way ended old new lines replies → IsTalk Ran (telling safe torn way.manner) ended old new lines replies
+talk_still Ran way safe torn ended old new lines replies rises talk = record {
+  came = talk.came;
+  done = talk.done;
+  stood = all_kept_still way safe torn replies rises talk.stood;
+  suits = talk.suits;
+  ran = talk.ran;
+}
+
+pub talking_still : (Ran : List Command → List Row → Type 0) (way : Telling) (safe : ℕ) (torn : Bool) (old new : AtDoor) (lines : List (List ℕ)) (replies : List Reply)
+    (reading : Reading) (clean : Bool) → way.safe ≤ safe → IsTalking Ran way old new lines replies reading clean
+    → IsTalking Ran (telling safe torn way.manner) old new lines replies reading clean
+talking_still Ran way safe torn old new lines replies reading clean rises so = record {
+  clean_is = so.clean_is;
+  talk = talk_still Ran way safe torn false old new lines replies rises so.talk;
+  place = so.place;
+  count = so.count;
+  faults = so.faults;
+}
 
 module _ (Ran Ran' : List Command → List Row → Type 0) (way : Telling) (old near new : AtDoor) (lines : List (List ℕ)) (replies : List Reply) (reading : Reading) (clean : Bool)
     (so : IsTalking Ran way old near lines replies reading clean) where
@@ -154,6 +187,7 @@ module _ (Ran Ran' : List Command → List Row → Type 0) (way : Telling) (old 
           stood = so.talk.stood;
           suits = subst (λ l. AreReplies l (replies ++ reply ∷ [])) (sym are) (replies_on (item_list what) (reply ∷ []) c.suits);
           ran = ran_on (items (stands outside) 1 (lines ++ line ∷ [])) (item_list what) (reply ∷ []) are c.runs;
+          over = λ never. absurd (cc);
         }
 
   -- the input's end was heard
@@ -188,6 +222,7 @@ module _ (Ran Ran' : List Command → List Row → Type 0) (way : Telling) (old 
       stood = so.talk.stood;
       suits = replies_on (item_list last) (reply ∷ []) c.suits;
       ran = ran_on (items (stands outside) 1 lines ++ item_list last) (item_list last) (reply ∷ []) refl c.runs;
+      over = λ _. ended near.left mid.left new.left hears.0.0 hears.0.1 c.does.0;
     }
 
   -- whether all replies are answers
@@ -278,19 +313,19 @@ module _ (Ran Ran' : List Command → List Row → Type 0) (way : Telling) (old 
   talked Mute answered (inr (inl (mid, hears, (reply, part, c, cut, r, kept)))) =
       (true, lines, replies, reply, part, cut_end mid hears reply answered part c, cut, kept, rose mid hears.1 r, clean_last answered reply c.clean_is)
   talked Mute answered (inr (inr (is, e, q, k))) = absurd (cc)
-  talked Unkept answered (inl (line, mid, hears, inl (reply, c, keeps, same))) = (
+  talked Unkept answered (inl (line, mid, hears, inl (reply, c, unkept, same))) = (
     false,
     lines ++ line ∷ [],
     replies,
     reply,
     cut_on line mid hears reply answered [] c,
-    keeps,
+    unkept,
     stayed mid hears.1 same,
     clean_last answered reply c.clean_is,
   )
   talked Unkept answered (inl (line, mid, hears, inr (e, q, u, k))) = absurd u
-  talked Unkept answered (inr (inl (mid, hears, (reply, c, keeps, same)))) =
-      (true, lines, replies, reply, cut_end mid hears reply answered [] c, keeps, stayed mid hears.1 same, clean_last answered reply c.clean_is)
+  talked Unkept answered (inr (inl (mid, hears, (reply, c, unkept, same)))) =
+      (true, lines, replies, reply, cut_end mid hears reply answered [] c, unkept, stayed mid hears.1 same, clean_last answered reply c.clean_is)
   talked Unkept answered (inr (inr (is, e, q, k))) = absurd (cc)
   talked Wanting answered (inl (line, mid, hears, inl (inl (e, q, k)))) =
       (inr (inl (lines, line, replies, unanswered line mid hears e q, clean_same answered k)), stayed mid hears.1 q.2)

@@ -3,3 +3,4 @@ pub mod TalkLaws
 pub mod TurnLaws
 pub mod JoinLaws
 pub mod MomentLaws
+pub mod AfterLaws

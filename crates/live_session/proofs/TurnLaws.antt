@@ -15,8 +15,8 @@ use Rattle.live_session.specs.declared.replies.TalkEnd.{TalkEnd}
 use Rattle.live_session.specs.declared.replies.TalkEnd.TheVariants.{Closed, Deaf, Mute, Unkept, Wanting, Full}
 use Rattle.live_session.specs.declared.talking.Round.{Round}
 use Rattle.live_session.specs.declared.talking.Round.TheVariants.{Goes, Ends}
-use Rattle.live_session.specs.Talks.{Telling, AtDoor, IsKept, reply_text, marks_of, is_clean, are_clean}
-use Rattle.live_session.specs.Turns.{Tells, Answers, Replies, Reads, HearsAt, Rounds}
+use Rattle.live_session.specs.Talks.{Telling, AtDoor, IsKept, reply_text, marks_of, commands_in, rows_in, is_clean, are_clean}
+use Rattle.live_session.specs.Turns.{Remains, Tells, Answers, Replies, Reads, HearsAt, Rounds}
 use Rattle.live_session.proofs.DoorLaws.{grows_more, loses_more}
 
 -- the output failed within a reply
@@ -41,6 +41,12 @@ clean_one reply = elim (cases_Bool (is_clean reply)) [
   | inl h ↦ rw h refl
   | inr h ↦ rw h refl
 ]
+
+-- what was run stays where a reply is told
+pub answered_on : (Ran Mid New : List Command → List Row → Type 0) (item : Item) (reply : Reply) → Answers Ran Mid item (Ok reply) → Remains Mid New
+    → Answers Ran New item (Ok reply)
+answered_on Ran Mid New item reply a stays =
+    (a.0, λ before above ran. stays (before ++ commands_in (item ∷ [])) (above ++ rows_in (reply ∷ [])) (a.1 before above ran))
 
 module _ (Ran Ran' : List Command → List Row → Type 0) (way : Telling) where
   -- an item has its reply, which is told or not

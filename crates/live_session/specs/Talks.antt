@@ -1,6 +1,6 @@
 -- The conversation of a live session: the replies to what its lines ask, what is done at its door to tell them, and how it ends.
 
-use Rattle.std.specs.Prelude.{ℕ, ◌≡◌, ◌⊎◌, ◌-◌, ◌+◌, ◌^◌, Bool, true, false, IsTrue, List, [], ◌∷◌, ◌++◌, length, Option, Some, None, ⊤}
+use Rattle.std.specs.Prelude.{ℕ, ◌≡◌, ◌⊎◌, ◌-◌, ◌+◌, ◌^◌, ◌≤◌, Bool, true, false, IsTrue, List, [], ◌∷◌, ◌++◌, length, Option, Some, None, ⊤}
 use Rattle.std.specs.List.{list_all}
 use Rattle.sta_outside.specs.Shelf.{Rose}
 use Rattle.timing_defs.specs.declared.constraints.Clock.{Clock}
@@ -21,13 +21,14 @@ use Rattle.live_session.specs.declared.replies.Reply.TheVariants.{Row as row, Er
 use Rattle.live_session.specs.declared.replies.TalkEnd.{TalkEnd}
 use Rattle.live_session.specs.declared.replies.TalkEnd.TheVariants.{Closed, Deaf, Mute, Unkept, Wanting, Full}
 
--- how replies are told, and the statement, of the keeper's choice, that holds of a number once kept
-pub record Telling : Type 1 where
+-- how replies are told, up to which number all entries stand in the journal for certain, and whether a put into it failed
+pub record Telling : Type 0 where
   pub manner : Manner
-  pub known : ℕ → Type 0
+  pub safe : ℕ
+  pub torn : Bool
 
-abbrev pub telling : (ℕ → Type 0) → Manner → Telling
-telling known manner = record { manner = manner; known = known }
+abbrev pub telling : ℕ → Bool → Manner → Telling
+telling safe torn manner = record { manner = manner; safe = safe; torn = torn }
 
 -- the text of a reply: a row as in a batch run, or `error CODE LINE`
 abbrev pub reply_text : List Clock → Reply → List ℕ
@@ -44,14 +45,18 @@ marks_of false reply = []
 abbrev pub deeds_of : Manner → Reply → List Deed
 deeds_of way reply = marks_of way.keeps reply ++ said (reply_text way.clocks reply) ∷ []
 
--- where there is a journal, its keeper has said that all entries up to a row's number stand there
+-- where there is a journal, all entries up to a row's number stand there
 abbrev pub IsKept : Telling → Reply → Type 0
-IsKept way (row r) = IsTrue way.manner.keeps → way.known r.number
+IsKept way (row r) = IsTrue way.manner.keeps → r.number ≤ way.safe
 IsKept way (error wrong) = ⊤
 
 abbrev pub AreKept : Telling → List Reply → Type 0
 AreKept way [] = ⊤
 AreKept way (reply ∷ replies) = IsKept way reply × AreKept way replies
+
+-- a row is not told, since a put into the journal failed
+abbrev pub IsUnkept : Telling → Reply → Type 0
+IsUnkept way reply = (way.manner.keeps ≡ true) × ((r : Row) × (reply ≡ row r)) × (way.torn ≡ true)
 
 -- a row that is an answer: it is not refused, not `no` and not `not_yet`
 abbrev pub is_answer : Answer → Bool
@@ -145,7 +150,8 @@ pub record IsTalk (Ran : List Command → List Row → Type 0) (way : Telling) (
   pub suits : AreReplies (heard_items ended lines) replies
   pub ran : Ran (commands_in (heard_items ended lines)) (rows_in replies)
 
--- the same, where of the last reply no more was done than this part: its command is among the commands, and its row among the rows
+-- the same, where of the last reply no more was done than this part: its command is among the commands, and its row among the rows.
+-- Where the input's end was heard no line is left
 pub record IsCutTalk (Ran : List Command → List Row → Type 0) (way : Telling) (ended : Bool) (old new : AtDoor) (lines : List (List ℕ)) (replies : List Reply)
     (last : Reply) (part : List Deed) : Type 0 where
   pub came : Loses old.left new.left lines
@@ -156,6 +162,7 @@ pub record IsCutTalk (Ran : List Command → List Row → Type 0) (way : Telling
   pub stood : AreKept way replies
   pub suits : AreReplies (heard_items ended lines) (replies ++ last ∷ [])
   pub ran : Ran (commands_in (heard_items ended lines)) (rows_in (replies ++ last ∷ []))
+  pub over : IsTrue ended → IsAtEnd new.left
 
 -- the same, where behind lines that were answered one more was heard, and nothing was done about it
 pub record IsUnanswered (Ran : List Command → List Row → Type 0) (way : Telling) (old new : AtDoor) (lines : List (List ℕ)) (line : List ℕ) (replies : List Reply) : Type 0 where
@@ -164,6 +171,10 @@ pub record IsUnanswered (Ran : List Command → List Row → Type 0) (way : Tell
   pub stood : AreKept way replies
   pub suits : AreReplies (heard_items false lines) replies
   pub ran : Ran (commands_in (heard_items false lines)) (rows_in replies)
+
+-- these commands were answered by these rows, and no others
+abbrev pub Exactly : List Command → List Row → List Command → List Row → Type 0
+Exactly commands rows = λ c r. (c ≡ commands) × (r ≡ rows)
 
 -- of a reply its mark was made, and then nothing or a prefix of its text was written
 abbrev pub IsCut : Manner → Reply → List Deed → Type 0
@@ -174,8 +185,8 @@ abbrev pub IsFull : List (List ℕ) → Type 0
 IsFull lines = (length (commands_in (heard_items false lines)) ≡ 2 ^ 32 - 1) ⊎ (length lines ≡ 2 ^ 64 - 1)
 
 -- how a session at a door ended, and whether all of its replies are answers, the last one too. `Closed`: the input ended, and all was
--- answered. `Deaf`: the input failed. `Mute`: the output failed within the last reply. `Unkept`: the journal failed before the last
--- row was told. `Wanting`: memory was wanting to hear a line, to answer the last one or to tell the last reply. `Full`: the last
+-- answered. `Deaf`: the input failed. `Mute`: the output failed within the last reply. `Unkept`: a put into the journal failed before
+-- the last row was told. `Wanting`: memory was wanting to hear a line, to answer the last one or to tell the last reply. `Full`: the last
 -- line has no number, or its command has none
 abbrev pub Talked : (List Command → List Row → Type 0) → Telling → AtDoor → AtDoor → Bool → TalkEnd → Type 0
 Talked Ran way old new clean Closed =
@@ -190,7 +201,7 @@ Talked Ran way old new clean Mute =
     × Rose old.faults new.faults × (clean ≡ are_clean (replies ++ last ∷ []))
 Talked Ran way old new clean Unkept =
     (ended : Bool) × (lines : List (List ℕ)) × (replies : List Reply) × (last : Reply)
-    × IsCutTalk Ran way ended old new lines replies last [] × (way.manner.keeps ≡ true)
+    × IsCutTalk Ran way ended old new lines replies last [] × IsUnkept way last
     × (new.faults ≡ old.faults) × (clean ≡ are_clean (replies ++ last ∷ []))
 Talked Ran way old new clean Wanting =
     (((lines : List (List ℕ)) × (replies : List Reply) × IsTalk Ran way false old new lines replies × (clean ≡ are_clean replies))

@@ -16,7 +16,7 @@ use Rattle.live_session.specs.declared.replies.Unanswered.{Unanswered}
 use Rattle.live_session.specs.declared.replies.Unanswered.TheVariants.{Memory as no_memory, Full as no_number}
 use Rattle.live_session.specs.declared.talking.Round.{Round}
 use Rattle.live_session.specs.declared.talking.Round.TheVariants.{Goes, Ends}
-use Rattle.live_session.specs.Talks.{Telling, AtDoor, IsKept, AreKept, IsReply, AreReplies, commands_in, rows_in, deeds_of, told_of, IsCut, IsTalk, is_clean, are_clean}
+use Rattle.live_session.specs.Talks.{Telling, AtDoor, IsKept, IsUnkept, AreKept, IsReply, AreReplies, commands_in, rows_in, deeds_of, told_of, IsCut, IsTalk, is_clean, are_clean}
 
 -- what was run goes on by these commands and rows
 abbrev pub Extends : (List Command → List Row → Type 0) → (List Command → List Row → Type 0) → List Command → List Row → Type 0
@@ -48,7 +48,7 @@ Does old new deeds = Loses old.left new.left [] × Grows old.trace new.trace dee
 abbrev pub Tells : Telling → Reply → AtDoor → AtDoor → Option TalkEnd → Type 0
 Tells way reply old new None = Does old new (deeds_of way.manner reply) × (new.faults ≡ old.faults) × IsKept way reply
 Tells way reply old new (Some Mute) = ((part : List Deed) × IsCut way.manner reply part × Does old new part) × Rose old.faults new.faults × IsKept way reply
-Tells way reply old new (Some Unkept) = IsQuiet old new × (way.manner.keeps ≡ true)
+Tells way reply old new (Some Unkept) = IsQuiet old new × IsUnkept way reply
 Tells way reply old new (Some Wanting) = IsQuiet old new
 Tells way reply old new (Some Closed) = ⊥
 Tells way reply old new (Some Deaf) = ⊥
@@ -86,7 +86,7 @@ Replies Ran Ran' way what old new clean None =
 Replies Ran Ran' way what old new clean (Some Mute) =
     (reply : Reply) × (part : List Deed) × IsCutReply Ran Ran' what reply old new clean part × IsCut way.manner reply part × Rose old.faults new.faults × IsKept way reply
 Replies Ran Ran' way what old new clean (Some Unkept) =
-    (reply : Reply) × IsCutReply Ran Ran' what reply old new clean [] × (way.manner.keeps ≡ true) × (new.faults ≡ old.faults)
+    (reply : Reply) × IsCutReply Ran Ran' what reply old new clean [] × IsUnkept way reply × (new.faults ≡ old.faults)
 Replies Ran Ran' way what old new clean (Some Wanting) =
     (Remains Ran Ran' × IsQuiet old new × (clean ≡ true))
     ⊎ ((reply : Reply) × IsCutReply Ran Ran' what reply old new clean [] × (new.faults ≡ old.faults))

@@ -1,12 +1,11 @@
 //! What a session replies, and what it asks of the session behind it.
 
-ghost use Rattle.std.specs.Prelude.{ℕ, OnOk, List};
+ghost use Rattle.std.specs.Prelude.{◌≡◌, ◌≤◌, Bool, true, OnOk, IfErr, List};
 ghost use Rattle.timing_defs.specs.declared.scripts.Command.{Command};
 ghost use Rattle.timing_defs.specs.declared.scripts.Row.{Row};
-ghost use Rattle.script_reader.specs.LiveKept.{CanBeAnswered};
-ghost use Rattle.script_reader.specs.declared.live.Item.TheVariants.{Asked};
-ghost use Rattle.live_session.specs.Turns.{Runs};
+ghost use Rattle.live_session.specs.Turns.{Remains};
 
+use live_doors::Keeper;
 use sta_text::Wrong;
 use std::alloc::Global;
 use timing_defs::{Clock, Command, Items, Row};
@@ -27,11 +26,11 @@ pub enum TalkEnd {
     Deaf,
     /// The output failed within the last reply.
     Mute,
-    /// The journal failed before the last row was told.
+    /// A put into the journal failed before the last row was told.
     Unkept,
     /// Memory was wanting.
     Wanting,
-    /// The last line has no number, or its command has none.
+    /// The last line has no number, or its command has none: the session ends, with the status of want of memory.
     Full,
 }
 
@@ -54,7 +53,7 @@ pub enum Unanswered {
 /// Why a row may not be told.
 #[derive(Clone, Copy, Drop)]
 pub enum Untold {
-    /// The journal cannot be written.
+    /// A put into the journal failed.
     Journal,
     /// Want of memory.
     Memory,
@@ -68,29 +67,22 @@ pub struct Manner {
     pub keeps: bool,
 }
 
-/// What stands behind a door: it answers commands, one after the other, and keeps a journal.
-pub trait Answering {
+/// A session that keeps a journal, as its door sees it.
+pub trait Keeping: Keeper {
     /// These commands were answered by these rows, in order.
     ghost ran: { Self → List Command → List Row → Type 0 };
 
-    /// What is known of a number that was kept: all entries up to it stand in the journal.
-    ghost stands: { ℕ → Type 0 };
-
-    /// Answers the next command.
-    ///
-    /// # Errors
-    ///
-    /// Want of memory, or of a number for the command; what was answered before stays.
-    fn answer(&mut self, alloc: Global, command: &Command) -> Result<Row, Unanswered>
-        requires able { (before : List Command) × (rows : List Row) × ran self.old before rows }
-        requires command { CanBeAnswered (Asked command.now) }
-        ensures { Runs (ran self.old) (ran self.new) command.now result };
+    /// Whether a put into the journal failed.
+    ghost torn: { Self → Bool };
 
     /// Sees to it that all entries up to a number stand in the journal.
     ///
     /// # Errors
     ///
-    /// What kept it from that.
-    fn keep(&self, alloc: Global, number: u64) -> Result<(), Untold>
-        ensures { OnOk result (stands number) };
+    /// `Journal` only where a put into it failed, and `Memory`; what was answered stays.
+    fn keep(&mut self, alloc: Global, number: u64) -> Result<(), Untold>
+        ensures same { Remains (ran self.old) (ran self.new) }
+        ensures rises { Self.safe self.old ≤ Self.safe self.new }
+        ensures kept { OnOk result (number ≤ Self.safe self.new) }
+        ensures torn { IfErr result (λ why. why ≡ Untold.Journal → torn self.new ≡ true) };
 }

@@ -5,7 +5,8 @@
 use crate::scripts::show_command;
 use crate::texts::Text;
 use script_reader::{
-    Heard, Item, LiveReader, first_wrong_line, items_of_more_lines, items_of_script, long_line_cut,
+    Heard, Item, LiveReader, first_wrong_line, items_can_be_answered, items_of_more_lines,
+    items_of_script, long_line_cut,
 };
 use sta_text::Wrong;
 use std::alloc::Global;
@@ -135,6 +136,7 @@ pub(crate) fn answer_session(alloc: Global, document: &[u8], out: &mut Text) {
 /// Writes the errors of a session, and how many commands there are.
 pub(crate) fn count_session(alloc: Global, document: &[u8], out: &mut Text) {
     items_of_more_lines();
+    items_can_be_answered();
     long_line_cut();
     let mut listener = Listener::Counts(Counts {
         commands: 0,

@@ -1,7 +1,8 @@
 -- What a session asks line by line is as engines answer it, behind each line.
-use Rattle.std.proofs.Common.{◌≡◌, ℕ, Bool, true, false, List, [], ◌∷◌, ◌++◌, length, cond, refl, subst, sym, arith}
-use Rattle.std.specs.Prelude.{Option, nat_le, IfSome}
-use Rattle.std.specs.List.{list_all}
+use Rattle.std.proofs.Common.{◌≡◌, ℕ, ◌+◌, Bool, true, false, List, [], ◌∷◌, ◌++◌, length, cond, refl, subst, sym, arith}
+use Rattle.std.specs.Prelude.{Option, Some, None, nat_le, IfSome}
+use Rattle.std.specs.List.{list_all, All}
+use Rattle.std.proofs.lemmas.List.Elements.{All-nil, All-cons, All-append}
 use Rattle.std.proofs.lemmas.Bool.{and_parts}
 use Rattle.timing_defs.specs.declared.edits.Edit.{Edit}
 use Rattle.timing_defs.specs.declared.reports.Query.{Query}
@@ -13,7 +14,7 @@ use Rattle.timing_defs.specs.Documents.{is_edit, is_trial, is_question, is_plain
 use Rattle.sta_text.specs.declared.faults.Wrong.{Wrong}
 use Rattle.script_reader.specs.declared.live.Item.{Item}
 use Rattle.script_reader.specs.Scripts.{Event, long, single, change, group_begin, group_end, draft_begin, draft_end, dropped, unknown, line_said, Place, outside, inside, drafted, tried, eco, trial, bad, excess}
-use Rattle.script_reader.specs.Live.{LivePlace, stands, passing_eco, passing_draft, goes_on, fails, given_up, unfit, crowded, if_room, group_closed, draft_closed, trial_closed, live_event, live_said, live_events, live_line}
+use Rattle.script_reader.specs.Live.{LivePlace, stands, passing_eco, passing_draft, Behind, goes_on, fails, given_up, unfit, crowded, if_room, group_closed, draft_closed, trial_closed, live_event, live_said, live_events, live_line, live_end, item_list, items, place_behind, all_items}
 use Rattle.script_reader.specs.LiveKept.{can_be_answered, CanBeAnswered, IsKeptPlace, IsKeptLive, IsKeptBehind}
 use Rattle.script_reader.proofs.KeptLaws.{is_said, is_fine, AreFine, done, pick, line_fine, eco_made, draft_made, answerable_said, trial_said, all_longer, one_longer}
 
@@ -147,3 +148,41 @@ place_kept place next item n line is still = (subst IsKeptBehind (sym is) (line_
 pub item_kept : (place next : LivePlace) (item : Option Item) (n : ℕ) (line : List ℕ) → record { place = next; item = item } ≡ live_line place n line
     → IsKeptLive place → IfSome item CanBeAnswered
 item_kept place next item n line is still = (subst IsKeptBehind (sym is) (line_kept place n line still)).1
+
+one_item : (item : Option Item) → IfSome item CanBeAnswered → All CanBeAnswered (item_list item)
+one_item None still = All-nil CanBeAnswered
+one_item (Some item) still = All-cons CanBeAnswered item [] still (All-nil CanBeAnswered)
+
+-- each item of lines behind a kept place is as engines answer it
+pub items_kept : (place : LivePlace) (n : ℕ) (lines : List (List ℕ)) → IsKeptLive place → All CanBeAnswered (items place n lines)
+unfolding items
+items_kept place n [] still = All-nil CanBeAnswered
+items_kept place n (line ∷ lines) still =
+    let now : Behind = live_line place n line in
+    let behind_line : IsKeptBehind now = line_kept place n line still in
+    All-append CanBeAnswered (item_list now.item) (items now.place (n + 1) lines)
+    (one_item now.item behind_line.1) (items_kept now.place (n + 1) lines behind_line.0)
+
+-- and the place behind them is kept
+pub places_kept : (place : LivePlace) (n : ℕ) (lines : List (List ℕ)) → IsKeptLive place → IsKeptLive (place_behind place n lines)
+unfolding place_behind
+places_kept place n [] still = still
+places_kept place n (line ∷ lines) still =
+    places_kept (live_line place n line).place (n + 1) lines (line_kept place n line still).0
+
+-- the end of lines asks nothing
+end_kept : (place : LivePlace) → IfSome (live_end place) CanBeAnswered
+unfolding live_end
+end_kept (stands outside) = tt
+end_kept (stands (inside begin edits)) = tt
+end_kept (stands (drafted begin trials)) = tt
+end_kept (stands (tried begin trials group edits)) = tt
+end_kept passing_eco = tt
+end_kept passing_draft = tt
+
+-- each item of a whole session is as engines answer it
+pub all_items_kept : (lines : List (List ℕ)) → All CanBeAnswered (all_items lines)
+all_items_kept lines =
+    let last : LivePlace = place_behind (stands outside) 1 lines in
+    All-append CanBeAnswered (items (stands outside) 1 lines) (item_list (live_end last))
+    (items_kept (stands outside) 1 lines tt) (one_item (live_end last) (end_kept last))

@@ -190,6 +190,7 @@ step n count (tried begin trials group edits) (change m e) rest h =
 step n count (tried begin trials group []) (group_end m) rest h = stops passing_draft (bad group) [] (λ _. refl) refl refl
 step n count (tried begin trials group (x ∷ xs)) (group_end m) rest h =
     goes (drafted begin (trials ++ trial (x ∷ xs) ∷ [])) [] (uncounted count (tried begin trials group (x ∷ xs)) tt) tt (λ s. s.1) refl refl refl
+step n count (tried begin trials group edits) (draft_end m) rest h = stops (stands outside) (bad m) [] (λ _. refl) refl refl
 step n count (tried begin trials group edits) e rest h = stops passing_draft (bad (line_of e)) [] (λ _. refl) refl refl
 
 -- at most one event, of line n

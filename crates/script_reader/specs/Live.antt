@@ -124,12 +124,13 @@ draft_event begin trials (group_begin n) =
 draft_event begin trials (draft_end n) = draft_closed begin trials
 draft_event begin trials e = unfit (drafted begin trials) (line_of e)
 
--- behind an event in a group of a draft
+-- behind an event in a group of a draft; the draft's own end is wrong there, and nothing is left that could be passed over
 abbrev pub trial_event : ℕ → List Trial → ℕ → List Edit → Event → Behind
 trial_event begin trials group edits (long n) = crowded (tried begin trials group edits) n
 trial_event begin trials group edits (change n e) =
     if_room 1000 (length edits) n (tried begin trials group edits) (tried begin trials group (edits ++ e ∷ []))
 trial_event begin trials group edits (group_end n) = trial_closed begin trials group edits
+trial_event begin trials group edits (draft_end n) = fails (stands outside) (bad n)
 trial_event begin trials group edits e = unfit (tried begin trials group edits) (line_of e)
 
 -- behind an event at a place

@@ -1,6 +1,6 @@
 //! Laws of sessions that are read line by line, and of scripts.
 
-ghost use Rattle.std.specs.Prelude.{◌≡◌, ◌≤◌, ◌<◌, ◌+◌, ◌∷◌, ◌++◌, ℕ, List, map, length, Ok, Err};
+ghost use Rattle.std.specs.Prelude.{◌≡◌, ◌≤◌, ◌<◌, ◌+◌, ◌∷◌, ◌++◌, ℕ, List, All, map, length, Ok, Err};
 ghost use Rattle.timing_defs.specs.declared.codes.Code.TheVariants.{ScriptBadCommand};
 ghost use Rattle.timing_defs.specs.declared.scripts.Command.{Command};
 ghost use Rattle.timing_defs.specs.declared.scripts.Script.{Script};
@@ -11,6 +11,7 @@ ghost use Rattle.script_reader.specs.declared.live.Item.{Item};
 ghost use Rattle.script_reader.specs.declared.live.Item.TheVariants.{Asked, Faulty};
 ghost use Rattle.script_reader.specs.Scripts.{outside, events, faults, script_of};
 ghost use Rattle.script_reader.specs.Live.{LivePlace, items, place_behind, all_items, live_line};
+ghost use Rattle.script_reader.specs.LiveKept.{CanBeAnswered, IsKeptLive};
 
 /// The items of a session are those of its first lines, and then those of the others.
 #[tactic(auto, using(crate::proofs::LiveLaws::more_items, crate::proofs::LiveLaws::more_places))]
@@ -41,4 +42,13 @@ pub fn first_wrong_line()
 #[tactic(auto, using(crate::proofs::LiveLaws::cut_line))]
 pub fn long_line_cut()
     ensures { (place : LivePlace) (n : ℕ) (line more : List ℕ) → length line ≡ 65537 → live_line place n (line ++ more) ≡ live_line place n line }
+{}
+
+/// Each command that lines ask is as engines answer it, behind a place as readers keep it and in a
+/// whole session; and the place behind the lines is again as readers keep it.
+#[tactic(auto, using(crate::proofs::LiveKeptLaws::items_kept, crate::proofs::LiveKeptLaws::places_kept, crate::proofs::LiveKeptLaws::all_items_kept))]
+pub fn items_can_be_answered()
+    ensures items { (place : LivePlace) (n : ℕ) (lines : List (List ℕ)) → IsKeptLive place → All CanBeAnswered (items place n lines) }
+    ensures place { (place : LivePlace) (n : ℕ) (lines : List (List ℕ)) → IsKeptLive place → IsKeptLive (place_behind place n lines) }
+    ensures session { (lines : List (List ℕ)) → All CanBeAnswered (all_items lines) }
 {}

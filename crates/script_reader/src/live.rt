@@ -73,7 +73,8 @@ impl LiveReader {
     /// this line is and that is empty; `C2` at the 1,001st edit of a group, the 101st trial of a draft,
     /// and a line above 65,536 bytes, whatever it says (so its first 65,537 bytes serve as well). What is
     /// left of a group or a draft behind a wrong line, up to its `commit_eco` or `end_what_if`, is passed
-    /// over and ends no item. A command is as engines answer it.
+    /// over and ends no item. Nothing is left where the wrong line is the draft's `end_what_if`, in a
+    /// group that is open. A command is as engines answer it.
     ///
     /// # Errors
     ///

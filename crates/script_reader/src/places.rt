@@ -336,7 +336,16 @@ fn draft_group_ended(draft: Draft, group: Group) -> Result<Step, Memory>
     }
 }
 
-/// What a line in a group of a draft says.
+/// C1 at a line in a group of a draft, which gives both up; behind it a place holds.
+fn draft_group_unfit(draft: Draft, group: Group, place: Standing, line: usize) -> Step
+    ensures { behind_step result ≡ fails (place_of place) (bad line) }
+{
+    draft.discard();
+    group.discard();
+    unfit(place, line)
+}
+
+/// What a line in a group of a draft says. The draft's end gives it up, and ends it.
 fn draft_group_said(draft: Draft, group: Group, line: usize, said: Said) -> Result<Step, Memory>
     ensures { IfOk result (λ step. behind_step step ≡ live_said (stands (in_draft_group draft group)) (said_events line said)) }
 {
@@ -344,16 +353,10 @@ fn draft_group_said(draft: Draft, group: Group, line: usize, said: Said) -> Resu
         Said::Passed => Ok(goes_on(Standing::InDraftGroup(draft, group))),
         Said::Changes(edit) => draft_group_edited(draft, group, line, edit),
         Said::End => draft_group_ended(draft, group),
-        Said::Begin
-        | Said::BeginDraft
-        | Said::EndDraft
-        | Said::Drops
-        | Said::Runs(_)
-        | Said::Unfit => {
-            draft.discard();
-            group.discard();
-            Ok(unfit(Standing::PassingDraft, line))
-        }
+        Said::EndDraft => Ok(draft_group_unfit(draft, group, Standing::Outside, line)),
+        Said::Begin | Said::BeginDraft | Said::Drops | Said::Runs(_) | Said::Unfit => Ok(
+            draft_group_unfit(draft, group, Standing::PassingDraft, line),
+        ),
     }
 }
 

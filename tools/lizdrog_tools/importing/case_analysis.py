@@ -109,7 +109,8 @@ def express_cases(constraints: Constraints, design: Design, variants: Variants, 
         report.change(
             "case",
             next(iter(constraints.cases.values()))[1],
-            f"constants reach {len(carrier.nets)} nets; {changed} gates have cells without the arcs that are dead",
+            f"constants reach {len(carrier.nets)} nets; {changed} gates have cells without the arcs that are "
+            "dead; a resize of such a gate brings them back",
         )
 
 

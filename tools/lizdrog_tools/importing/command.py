@@ -7,7 +7,7 @@ import shutil
 import sys
 import tempfile
 
-from lizdrog_tools.files import InputFault, read_text, tool
+from lizdrog_tools.files import InputFault, tool
 from lizdrog_tools.importing.case_analysis import express_cases, express_disabled
 from lizdrog_tools.importing.constraints import Constraints
 from lizdrog_tools.importing.design import Design
@@ -22,7 +22,7 @@ from lizdrog_tools.importing.liberty_merge import (
     write_libraries,
 )
 from lizdrog_tools.importing.netlist import Netlist
-from lizdrog_tools.importing.project import Project, read_project
+from lizdrog_tools.importing.project import Project, read_as, read_project
 from lizdrog_tools.importing.report import SHOWN, Place, Remark, Report, write_report
 from lizdrog_tools.importing.resolve import resolve
 from lizdrog_tools.importing.run_sdc import run_constraints
@@ -38,6 +38,8 @@ from lizdrog_tools.importing.verilog_hierarchy import read_hierarchy
 
 DIGITS = 60
 SPEF, REPORT = "parasitics.spef", "import.json"
+# Kinds of remarks that are printed, too: no slack is lost by the import, and yet few mean it so.
+NOTED = ("no-wires",)
 WORD = re.compile(r"\\\S+|[A-Za-z_][\w$]*")
 HELP = """Brings a design as tools write it to what Lizdrog reads: import [-o FOLDER] PROJECT.toml
 
@@ -51,7 +53,7 @@ change: nothing is written.
 def read_netlist(project: Project, cells: LibrarySet, report: Report) -> Netlist:
     """The flat netlist, by yosys where it is not flat yet."""
     files = [str(project.path(it)) for it in project.netlist]
-    texts = [read_text(it) for it in files]
+    texts = [read_as(it, "netlist", "netlist") for it in files]
     reason = "several files"
     if len(files) == 1:
         try:
@@ -225,6 +227,9 @@ def import_project(words: list[str]) -> int:
         f"import: {folder}: {len(report.changes)} things changed with the same slacks, {len(report.harmless)} left out "
         f"without effect, {len(report.accepted)} accepted ({folder / 'import.txt'})"
     )
+    for remark in report.harmless:
+        if remark.kind in NOTED:
+            print(f"import: note: {remark.place}: {remark.text}", file=sys.stderr)
     return report.status()
 
 

@@ -27,7 +27,7 @@ def express_ideal(
             "ideal-clock",
             clock.place,
             f"the clock {clock.name} is ideal: {len(reached.passed)} gates of its network have cells without delay, "
-            "and its nets no wires",
+            "and its nets no wires; a resize of such a gate brings its delay back",
         )
     for clock in (it for it in constraints.clocks.values() if it.port and it.is_propagated and it.transition):
         report.drop(

@@ -4,10 +4,11 @@ import fnmatch
 from collections.abc import Callable, Iterable
 from decimal import Decimal
 
-from lizdrog_tools.files import InputFault, read_text
+from lizdrog_tools.files import InputFault
 from lizdrog_tools.importing.liberty_model import WRITTEN, Cell, CellReader, Frame, Pin, Table, as_decimal, plain
 from lizdrog_tools.importing.liberty_tree import Group, Part, read_library
 from lizdrog_tools.importing.mistyped import mistyped
+from lizdrog_tools.importing.project import read_as
 from lizdrog_tools.importing.report import Place, Report
 from lizdrog_tools.importing.verilog_hierarchy import LibraryPins
 
@@ -32,7 +33,7 @@ class Shelf:
 
     def frame(self, name: str) -> Frame:
         if name not in self.frames:
-            self.frames[name] = Frame(read_library(read_text(name), name))
+            self.frames[name] = Frame(read_library(read_as(name, "a library", "late"), name))
         return self.frames[name]
 
 

@@ -214,6 +214,7 @@ class CellReader:
         self.pin_groups: list[tuple[str, Group, list[str]]] = []
         self.internal: set[str] = set()
         self.uneven: dict[str, int] = {}
+        self.unlike = Decimal(0)
 
     def place(self, line: int) -> Place:
         return Place(self.frame.file, line)
@@ -315,14 +316,19 @@ class CellReader:
         for edge in ("rise", "fall"):
             word = f"{edge}_capacitance"
             text = said(word)
-            if text is not None and as_decimal(text, self.frame.file, line, word) * self.frame.load != load:
+            edge_load = as_decimal(text, self.frame.file, line, word) * self.frame.load if text is not None else load
+            if edge_load != load:
                 self.uneven.setdefault(name, line)
+                self.unlike = max(self.unlike, abs(edge_load - load))
 
     def lose_uneven(self) -> None:
         """Tells of the pins whose edges have loads of their own."""
         if self.uneven:
             names = ", ".join(self.uneven)
-            text = f"rise_capacitance or fall_capacitance of {names} differ from the capacitance, which alone is read"
+            text = (
+                f"rise_capacitance or fall_capacitance of {names} differ from the capacitance, which alone is read, "
+                f"by up to {float(self.unlike):.2g} fF"
+            )
             self.lose("pin-capacitance", next(iter(self.uneven.values())), text)
 
     def related(self, group: Group, bits: list[str]) -> list[tuple[list[str], list[str]]]:

@@ -6,6 +6,7 @@ import tomllib
 from typing import Any
 
 from lizdrog_tools.files import InputFault, read_text
+from lizdrog_tools.kinds import misplaced
 
 LISTS = ("early", "late", "netlist", "sdc", "accept", "keep")
 # Keys of the same file that `corners` reads and an import does without.
@@ -44,6 +45,15 @@ class Project:
 
 def fault(file: str, message: str) -> InputFault:
     return InputFault(file, None, message)
+
+
+def read_as(name: str, key: str, role: str, *, may_be_empty: bool = False) -> str:
+    """The text of a file that the project names by a key; one that looks like a text of another kind is told."""
+    text = read_text(name, may_be_empty=may_be_empty)
+    kind = misplaced(text, role)
+    if kind:
+        raise fault(name, f"the file looks like {kind}, and the project names it as {key}")
+    return text
 
 
 def strings(file: str, table: dict[str, Any], key: str) -> list[str]:

@@ -117,7 +117,8 @@ def single_clock(kind: str, port: str, delays: PortDelays, report: Report) -> No
                 report.lose(
                     "add-delay",
                     corners[corner].place,
-                    f"the {kind} {port} has a delay against {other}, and here one against {name} beside it",
+                    f"the {kind} {port} has a delay against {other}, and here one against {name} beside it; accepted, "
+                    "the second is left out",
                 )
                 told.add((name, other))
             del corners[corner]

@@ -4,10 +4,11 @@ import pathlib
 import re
 import tempfile
 
-from lizdrog_tools.files import InputFault, read_text
+from lizdrog_tools.files import InputFault
 from lizdrog_tools.importing.constraints import Constraints
 from lizdrog_tools.importing.design import Design
 from lizdrog_tools.importing.fans import FanQueries
+from lizdrog_tools.importing.project import read_as
 from lizdrog_tools.importing.queries import Queries
 from lizdrog_tools.importing.report import Place, Report
 from lizdrog_tools.importing.sdc_commands import TimingCommands
@@ -20,18 +21,18 @@ WITHOUT_EFFECT = """
     echo group_path parse_proc_arguments printvar report_checks report_clock report_clocks report_constraint
     report_exceptions report_port report_timing set_app_options set_app_var set_attribute set_auto_disable_drc_nets
     set_boundary_optimization set_cell_internal_power set_clock_gating_check set_clock_gating_style set_cmd_units
-    set_cost_priority set_critical_range set_debug_level set_default_switching_activity set_dont_touch
-    set_dont_touch_network set_dont_use set_fanout_load set_fix_hold set_fix_multiple_port_nets set_host_options
-    set_isolate_ports set_layer_rc set_level_shifter_strategy set_level_shifter_threshold set_max_area
-    set_max_capacitance set_max_dynamic_power set_max_fanout set_max_leakage_power set_max_transition
-    set_message_info set_min_capacitance set_min_fanout set_min_pulse_width set_min_transition set_placement_padding
-    set_prefer set_propagated_clock_network set_register_merging set_size_only set_svf set_switching_activity
-    set_target_library_subset set_ungroup set_units_display set_user_attribute set_verification_top set_voltage
-    set_wire_rc suppress_message unsuppress_message update_timing write_sdc
+    set_cost_priority set_critical_range set_debug_level set_default_switching_activity set_disable_clock_gating_check
+    set_dont_touch set_dont_touch_network set_dont_use set_fanout_load set_fix_hold set_fix_multiple_port_nets
+    set_host_options set_isolate_ports set_layer_rc set_level_shifter_strategy set_level_shifter_threshold
+    set_max_area set_max_capacitance set_max_dynamic_power set_max_fanout set_max_leakage_power set_max_transition
+    set_message_info set_min_capacitance set_min_fanout set_min_pulse_width set_min_transition set_noise_margin
+    set_placement_padding set_prefer set_propagated_clock_network set_register_merging set_size_only set_svf
+    set_switching_activity set_target_library_subset set_ungroup set_units_display set_user_attribute
+    set_verification_top set_voltage set_wire_rc suppress_message unsuppress_message update_timing write_sdc
 """.split()
 # Commands that change slacks and have no counterpart.
 LOST = {
-    "create_generated_clock": "registers clocked by it have no clock, and their endpoints are not tested",
+    "create_generated_clock": "its registers keep the clock that reaches them, or have none and are not tested",
     "set_max_delay": "the paths keep the limit that the clocks give, or none",
     "set_min_delay": "the paths keep the limit that the clocks give, or none",
     "set_ideal_network": "the network keeps its delays",
@@ -50,9 +51,7 @@ LOST = {
     "set_drive": "the port's slew stays as it is",
     "read_sdf": "delays are computed",
     "set_path_margin": "the paths keep their slack",
-    "set_disable_clock_gating_check": "the test is not made anyway",
     "set_wire_load_selection_group": "nets without parasitics have no wires",
-    "set_noise_margin": "nothing is known of noise",
     "unknown-command": "",
     "set_port_fanout_number": "nets without parasitics have no wires",
 }
@@ -109,7 +108,7 @@ class Runner:
         self.copies += 1
         made = os.path.join(self.work.name, f"part{self.copies}.sdc")
         with open(made, "w", encoding="latin-1") as file:
-            file.write(read_text(name, may_be_empty=True))
+            file.write(read_as(name, "sdc", "sdc", may_be_empty=True))
         self.originals[made] = name
         return made
 

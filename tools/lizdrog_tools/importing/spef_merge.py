@@ -47,6 +47,7 @@ class Merger:
             raise InputFault(name, None, f"there is no block {item.instance} in the netlist")
         self.files.append(name)
         reader, gone, count = SpefReader(name, item.instance, self.report), [], 0
+        self.check_design(reader, item.instance)
         for section in reader.sections():
             count += 1
             net = self.called(reader, section.net)
@@ -75,6 +76,19 @@ class Merger:
                 "coupling",
                 Place(name),
                 f"{reader.couplings} capacitances between nets as ones to ground, as Lizdrog takes them",
+            )
+
+    def check_design(self, reader: SpefReader, instance: str | None) -> None:
+        """A file whose *DESIGN is another block of this netlist than the one that the project gives it."""
+        blocks = self.design.block_names
+        mine = blocks[instance] if instance else self.design.netlist.name
+        other = next((block for block, module in blocks.items() if module == reader.design), None)
+        if other is not None and reader.design != mine:
+            given = f"gives it to {instance}, which is {mine}" if instance else "names no instance"
+            self.report.lose(
+                "spef-design",
+                Place(reader.file, reader.design_line),
+                f"*DESIGN is {reader.design}, as the block {other} is, and the project {given}",
             )
 
     def add(self, reader: SpefReader, net: str, section: Section) -> None:

@@ -4,9 +4,12 @@ import re
 from collections.abc import Iterator
 from decimal import Decimal, InvalidOperation
 
-from lizdrog_tools.files import InputFault, read_text
+from lizdrog_tools.files import InputFault, line_of
+from lizdrog_tools.importing.project import read_as
 from lizdrog_tools.importing.report import Place, Report
 
+HEADER = 10000
+DESIGN = re.compile(r'^\*DESIGN\s+"([^"]*)"', re.M)
 WORD = re.compile(r'"[^"]*"|//.*|[^\s"]+')
 SECTIONS = {"*NAME_MAP", "*PORTS", "*PHYSICAL_PORTS", "*POWER_NETS", "*GROUND_NETS"}
 REFUSED = {"*R_NET", "*D_PNET", "*R_PNET", "*DEFINE", "*PDEFINE", "*VARIATION_PARAMETERS"}
@@ -86,8 +89,12 @@ class SpefReader:
 
     def __init__(self, name: str, instance: str | None, report: Report):
         self.file, self.report = name, report
-        self.words = Words(read_text(name))
+        text = read_as(name, "spef", "spef")
+        self.words = Words(text)
         self.prefix = f"{instance}/" if instance else ""
+        said = DESIGN.search(text, 0, HEADER)
+        self.design = said[1] if said else None
+        self.design_line = line_of(text, said.start()) if said else 0
         self.divider, self.delimiter, self.bus = "/", None, ""
         self.cap_unit = self.res_unit = None
         self.map: dict[str, str] = {}

@@ -1,6 +1,8 @@
 """The client's end of a connection: what is said to the bridge and to the session, and what is heard of both."""
 import dataclasses
 import select
+import socket
+import time
 from collections.abc import Callable
 
 from lizdrog_tools.live import wire
@@ -8,10 +10,29 @@ from lizdrog_tools.live.replies import Reply, ReplyReader
 
 READ_BYTES = 1 << 16
 WAIT_SECONDS = 1.0
+# A server that is just being started listens within this time.
+BEGIN_SECONDS, LOOK_SECONDS = 2.0, 0.05
 
 
 class Refused(Exception):
     """Says in a sentence why there is no connection, or none any more."""
+
+
+def connected(address: wire.Address) -> socket.socket:
+    """A socket that is connected, as soon as a server listens."""
+    deadline = time.monotonic() + BEGIN_SECONDS
+    while True:
+        made = address.socket()
+        try:
+            made.connect(address.place)
+        except OSError as why:
+            made.close()
+            is_early = isinstance(why, (FileNotFoundError, ConnectionRefusedError)) and time.monotonic() < deadline
+            if not is_early:
+                raise Refused(f"no server answers at {address}: {why.strerror}") from why
+            time.sleep(LOOK_SECONDS)
+        else:
+            return made
 
 
 @dataclasses.dataclass
@@ -33,11 +54,7 @@ class Connection:
     """A connection to a bridge, with a seat of its own."""
 
     def __init__(self, address: wire.Address, say: Callable[[str], None]):
-        self.socket, self.say_beside = address.socket(), say
-        try:
-            self.socket.connect(address.place)
-        except OSError as why:
-            raise Refused(f"no server answers at {address}: {why.strerror}") from why
+        self.socket, self.say_beside = connected(address), say
         self.reader, self.received, self.heard = ReplyReader(), b"", []
         self.base, self.said = 0, 0
         # What came beside answers: ECOs of others, replies that came late, and other words of the bridge.

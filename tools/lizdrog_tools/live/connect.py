@@ -42,6 +42,8 @@ SHOWN_ENTRIES = 20
 SHOWN_EDITS = 3
 MOST_DIGITS = 10
 MOST_SHOWN = 120
+# With a word more such a line is wrong, and the edits behind it would act one by one.
+ALONE = {*ENDS, *ENDS.values()}
 
 
 def say(line: str) -> None:
@@ -335,9 +337,12 @@ class Talk:
             return
         lines, commands = Lines(), []
         for number, line in enumerate(text.removesuffix("\n").split("\n"), 1):
-            name = (line.split() or ["#"])[0]
+            name, *more = line.split() or ["#"]
             if not name.startswith("#") and name not in completion.TEMPLATES:
                 self.note(f"{words[0]}:{number}: there is no command {name[:60]}: nothing was sent")
+                return
+            if more and name in ALONE:
+                self.note(f"{words[0]}:{number}: {name} stands alone in its line: nothing was sent")
                 return
             command = lines.take(line)
             commands += [command] if command else []

@@ -25,7 +25,6 @@ READ_BYTES = 1 << 18
 MOST_QUEUED = 1 << 20
 MOST_LATE = 1 << 20
 ENDS = {(b"begin_eco",): b"commit_eco", (b"begin_what_if",): b"end_what_if"}
-DRAFT_END = b"end_what_if"
 # A word that is no command: in a group it makes the server pass over the rest.
 GIVE_UP = b"client_gone"
 
@@ -64,8 +63,8 @@ class Seat:
         self.queued, self.rest = 0, b""
         self.reader, self.late, self.late_bytes, self.late_lost = ReplyReader(), collections.deque(), 0, 0
         # Of the input: lines that were handed on, whether a group is open, and whether a reply is to come.
-        self.lines, self.item, self.open, self.is_inner, self.is_wrong = 0, None, None, False, False
-        self.is_waiting, self.doubt, self.own_lines = False, None, set()
+        self.lines, self.item, self.open, self.is_wrong = 0, None, None, False
+        self.is_waiting, self.own_lines = False, set()
         self.rows, self.errors, self.held, self.is_over, self.is_shut = 0, 0, None, False, False
 
     # ---------------------------------------------------------------------- opening and closing
@@ -154,17 +153,12 @@ class Seat:
         """Notes a line that is no comment."""
         if self.open is None:
             self.item = Item(sender, sender.name if sender else None, self.lines, [line])
-            self.open, self.is_inner, self.is_wrong = ENDS.get(words), False, False
+            self.open, self.is_wrong = ENDS.get(words), False
             self.is_waiting = self.open is None
             return
         self.item.lines.append(line)
         if words == (self.open,):
-            if self.is_inner and not self.is_wrong:
-                self.doubt, self.is_waiting = self.lines, True
-            else:
-                self.open, self.is_waiting = None, not self.is_wrong
-        elif self.open == DRAFT_END and not self.is_wrong:
-            self.is_inner = words == (b"begin_eco",) or self.is_inner and words != (b"commit_eco",)
+            self.open, self.is_waiting = None, not self.is_wrong
 
     def write(self, data: bytes) -> str:
         """Writes a line in one piece, where there is room for it; tells why it does not."""
@@ -203,7 +197,7 @@ class Seat:
         if line is not None:
             return self.erred(line)
         self.rows += 1
-        is_asked, self.is_waiting, self.doubt = self.is_waiting, False, None
+        is_asked, self.is_waiting = self.is_waiting, False
         if reply.is_row:
             self.held = reply.design
         return self.item if is_asked else None
@@ -211,11 +205,11 @@ class Seat:
     def erred(self, line: int) -> Item | None:
         """The command of an error, which names a line of the input."""
         is_asked = self.is_waiting or self.open is not None
-        if self.is_waiting and self.doubt != line:
+        if self.is_waiting:
             self.open = None
         else:
-            self.is_wrong, self.is_inner = True, False
-        self.is_waiting, self.doubt = False, None
+            self.is_wrong = True
+        self.is_waiting = False
         self.errors += line not in self.own_lines
         self.own_lines.discard(line)
         return self.item if is_asked else None

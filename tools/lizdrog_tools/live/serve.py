@@ -12,11 +12,10 @@ outlives its client, who takes it up again by its name.
   --program FILE, --proved       this program; refuses one that is not proved
 
 SIGTERM and SIGINT end it: the sessions are closed, and the server writes its last line. The status is that of the live
-server (`lizdrog --help`), and 70 where there is none. docs/log/2026-12-01-live.md walks through it.
+server (`lizdrog --help`), and 70 where there is none. docs/LIVE.md walks through it.
 """
 import argparse
 import contextlib
-import ctypes
 import os
 import shutil
 import signal
@@ -25,20 +24,19 @@ import stat
 import subprocess
 import sys
 import tempfile
-from collections.abc import Callable, Iterator
+from collections.abc import Iterator
 
 from lizdrog_tools import command_line, convert_journal, explain_fault, programs, run_lizdrog
 from lizdrog_tools.files import InputFault, parsed
 from lizdrog_tools.live import wire
 from lizdrog_tools.live.bridge import Bridge, status_text
+from lizdrog_tools.live.children import with_parent
 from lizdrog_tools.live.transcripts import Transcripts
 from lizdrog_tools.places import TOP
 from lizdrog_tools.run_project import read_documents
 
 WRONG_WORDS, CANNOT_LISTEN, CANNOT_WRITE, INTERRUPTED = 2, 5, 5, 130
 MOST_SESSIONS = 16
-# PR_SET_PDEATHSIG of prctl(2).
-END_WITH_PARENT = 1
 DOCUMENT_WORDS = 5
 
 
@@ -150,13 +148,6 @@ def saved_count(journal: str | None) -> int:
         return 0
 
 
-def with_parent() -> Callable[[], None]:
-    """What a child does first, so that it ends where this process is killed: it may wait for the other end of a FIFO.
-    """
-    system = ctypes.CDLL(None, use_errno=True)
-    return lambda: system.prctl(END_WITH_PARENT, signal.SIGTERM)
-
-
 def start(program: str, journal: str | None, documents: list[str], count: int, folder: str) -> subprocess.Popen:
     """Starts the live server, out of the reach of the terminal's signals."""
     option = ["--journal", journal] if journal is not None else []
@@ -223,7 +214,7 @@ def main() -> int:
     given = arguments(sys.argv[1:])
     try:
         documents = documents_of(given.design)
-        program = os.path.abspath(given.program) if given.program else programs.choose_live(given.proved)
+        program = os.path.abspath(given.program) if given.program else programs.choose_live(given.proved, False, say)
         return serve(given, documents, program)
     except (InputFault, wire.WrongAddress) as why:
         say(str(why))

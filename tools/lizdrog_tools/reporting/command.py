@@ -58,7 +58,7 @@ def of_project(file: pathlib.Path, results: pathlib.Path | None) -> Source:
         if corner.output.first != len(saved[corner.name]):
             raise Refused(f"the list of ECOs has changed since corner {corner.name} answered: call corners again")
     return Source(
-        file.stem,
+        file.name,
         Merged(answers),
         [it for it in (*answers, *paths) if it.is_there()],
         project.corners[0].netlist,
@@ -89,7 +89,7 @@ def of_run(given: argparse.Namespace) -> Source:
     before = [saved[number] for number in range(1, output.first + 1)]
     has_documents = given.netlist and given.library
     return Source(
-        name,
+        pathlib.Path(file).name,
         Merged([corner]),
         [corner],
         given.netlist if has_documents else None,

@@ -3,7 +3,7 @@ import dataclasses
 
 from lizdrog_tools.reporting.drawing import Picture, round_step
 
-WIDTH, HEIGHT, LEFT, RIGHT, TOP, BOTTOM = 760, 270, 52, 20, 62, 40
+WIDTH, HEIGHT, LEFT, RIGHT, TOP, BOTTOM = 620, 270, 52, 20, 62, 40
 MOST_BINS = 12
 LEAST_BAR = 2.0
 

@@ -4,6 +4,7 @@ import dataclasses
 import datetime
 import functools
 import pathlib
+import re
 from collections.abc import Iterator
 
 from lizdrog_tools.corners.merge import KINDS, NONE, CornerAnswers, Merged, state_text
@@ -19,6 +20,7 @@ from lizdrog_tools.verilog import read_netlist
 
 MOST_ENDPOINTS = 2000
 UNKNOWN_CLOCK = "not known"
+MODULE = re.compile(r"^\s*module\s+\\?([^\s(;]+)", re.MULTILINE)
 
 
 @dataclasses.dataclass
@@ -58,6 +60,7 @@ class EndpointRow:
     corner: str
     clock: str
     slacks: list[str]
+    place: int | None
 
 
 @dataclasses.dataclass(frozen=True)
@@ -76,11 +79,13 @@ class Page:
     def __init__(self, source: Source):
         self.source, self.merged = source, source.merged
         self.title = source.title
+        self.design = module_name(source.netlist) if source.netlist else source.title
         self.when = datetime.datetime.now().isoformat(" ", "minutes")
         self.kinds, self.corners = KINDS, self.merged.corners
         self.names = [it.name for it in self.merged.there]
         self.clocks = self.clocks_of_endpoints()
         self.paths = list(self.shown_paths())
+        self.places = {(it.kind, it.pin, it.corner): place for place, it in reversed(list(enumerate(self.paths, 1)))}
         finals = {it.name: it.output.final for it in self.merged.there}
         self.replay = Replay(source.replayed, source.saved, finals)
 
@@ -128,10 +133,7 @@ class Page:
         if not worst:
             return None
         ends = [it for it in self.merged.endpoints[kind] if it.worst() == worst]
-        path = next(
-            (it for it in self.paths if it.kind == kind and ends and it.pin == ends[0].pin and it.corner == worst[1]),
-            None,
-        )
+        place = self.place_of(kind, ends[0].pin, worst[1]) if ends else None
         return {
             "slack": worst[0],
             "corner": worst[1],
@@ -139,9 +141,18 @@ class Page:
             "fails": worst[0].startswith("-"),
             "failing": len(self.merged.failing(kind)),
             "asked": len(self.merged.endpoints[kind]),
-            "slowest": path.slowest() if path else None,
-            "place": self.paths.index(path) + 1 if path else None,
+            "slowest": self.paths[place - 1].slowest() if place else None,
+            "place": place,
         }
+
+    def place_of(self, kind: str, pin: str, corner: str) -> int | None:
+        """The number on the page of the worst path to an endpoint in a corner, where it is shown."""
+        return self.places.get((kind, pin, corner))
+
+    def state_of_design(self) -> str:
+        """Which design the numbers are of."""
+        count = self.merged.there[0].design()
+        return f"after {count} {'ECO' if count == 1 else 'ECOs'}" if count else "as it was read"
 
     def state(self, corner: CornerAnswers) -> str:
         """What became of a corner that has not answered."""
@@ -195,7 +206,8 @@ class Page:
             for end in self.merged.endpoints[kind][:MOST_ENDPOINTS]:
                 slack, corner = end.worst()
                 slacks = [end.slacks.get(it, "") for it in self.names]
-                yield EndpointRow(end.pin, kind, slack, corner, self.clocks.get(end.pin, ""), slacks)
+                path = self.place_of(kind, end.pin, corner)
+                yield EndpointRow(end.pin, kind, slack, corner, self.clocks.get(end.pin, ""), slacks, path)
 
     def left_out(self) -> int:
         """How many endpoints the table has not."""
@@ -251,6 +263,12 @@ class Page:
                     said[f"{answer.command.words[1]} {answer.row.sort}"] = answer.row.words[0]
             if said:
                 yield f"{corner.name}: " + ", ".join(f"{name} {value}" for name, value in said.items())
+
+
+def module_name(netlist: pathlib.Path) -> str:
+    """The name of the module of a netlist."""
+    found = MODULE.search(read_text(netlist))
+    return found[1] if found else netlist.stem
 
 
 def path_rows(corner: CornerAnswers) -> Iterator[tuple[int, list[Row]]]:

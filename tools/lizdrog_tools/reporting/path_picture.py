@@ -48,7 +48,7 @@ def stage_title(stage: Stage) -> str:
 
 
 def draw_stages(picture: Picture, scale: Scale, path: ShownPath) -> None:
-    """Draws the stages in a lane, and the names of the slowest."""
+    """Draws the stages in a lane, with the names of the slowest."""
     picture.text(LEFT - 8, ARRIVAL + 17, "arrival", "ink", "end")
     if path.start[2] > 0:
         said = f"{path.start[0]} {path.start[1]}: input delay, {picoseconds(path.start[2])} ps"
@@ -59,17 +59,26 @@ def draw_stages(picture: Picture, scale: Scale, path: ShownPath) -> None:
         gap = 0.6 if stage.is_cell else 0
         width = max(scale.x(stage.end) - scale.x(stage.start) - gap, 0.6)
         picture.box(scale.x(stage.start), ARRIVAL, width, LANE, classes, stage_title(stage))
-    slowest = sorted((it for it in path.stages if not it.is_network), key=Stage.delay, reverse=True)[:LABELLED]
-    for place, stage in enumerate(sorted(slowest, key=lambda it: it.start)):
-        middle, top = (scale.x(stage.start) + scale.x(stage.end)) / 2, ARRIVAL - 5 - 12 * (place % LABELLED)
-        picture.line(middle, top, middle, ARRIVAL, "axis")
-        name = stage.pin.rpartition(":")[0] or stage.pin
-        anchor = "end" if middle > WIDTH - 160 else "start" if middle < LEFT + 120 else "middle"
-        picture.text(middle, top - 2, f"{name} {picoseconds(stage.delay())}", "ink", anchor, 10)
+    draw_names(picture, scale, path)
     network = [it for it in path.stages if it.is_network]
     if network:
         middle = (scale.x(network[0].start) + scale.x(network[-1].end)) / 2
         picture.text(middle, ARRIVAL + LANE + 13, "launch clock", "soft", "middle", 10)
+
+
+def draw_names(picture: Picture, scale: Scale, path: ShownPath) -> None:
+    """Draws the names of the slowest stages, over the lines that lead to them."""
+    slowest = sorted((it for it in path.stages if not it.is_network), key=Stage.delay, reverse=True)[:LABELLED]
+    places = [
+        (stage, (scale.x(stage.start) + scale.x(stage.end)) / 2, ARRIVAL - 5 - 12 * place)
+        for place, stage in enumerate(sorted(slowest, key=lambda it: it.start))
+    ]
+    for _, middle, top in places:
+        picture.line(middle, top, middle, ARRIVAL, "axis")
+    for stage, middle, top in places:
+        name = stage.pin.rpartition(":")[0] or stage.pin
+        anchor = "end" if middle > WIDTH - 160 else "start" if middle < LEFT + 120 else "middle"
+        picture.text(middle, top - 2, f"{name} {picoseconds(stage.delay())}", "ink", anchor, 10)
 
 
 def draw_parts(picture: Picture, scale: Scale, parts: list[Part]) -> None:

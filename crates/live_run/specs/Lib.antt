@@ -1,0 +1,4 @@
+pub mod Sessions
+pub mod Seating
+pub mod Closing
+pub mod Runs

@@ -1,0 +1,16 @@
+//! What ties a run's sessions to their hall, besides the journal's desk.
+
+ghost use Rattle.std.specs.Prelude.{ℕ, List, Option};
+
+use std::marker::Brand;
+
+/// Names the lines that come in at each seat of a run, where its hall tells them. The call that begins the run picks it, at `Brand`.
+pub trait LiveRoom {
+    ghost lines: { ℕ → Option (List (List ℕ)) };
+}
+
+impl LiveRoom for Brand {
+    ghost use Rattle.std.specs.Prelude.{None};
+
+    ghost lines = { λ seat. None };
+}

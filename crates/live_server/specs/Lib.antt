@@ -1,0 +1,4 @@
+pub mod Beginnings
+pub mod Endings
+pub mod Serving
+pub mod Statuses
