@@ -127,12 +127,12 @@ entry_step d size n all e at lines next small h =
     head_step (saved_text d size) 1 n all (record { text = head_text n e.session edits; at = at }) lines (record { session = e.session; edits = edits }) (omega (arith, next))
     (rw (words, head_back n e.session edits at small h.0 h.1 h.2.0 h.2.1) refl)
 
-by_edits : (size : ℕ) (d : Derates) (session : ℕ) (before todo : List Edit) (all : List Entry) (rest : List ℕ) (P : List ℕ → Result (List Entry) ReadFault → Type 0)
-    → AreEdits todo → ((p : List ℕ) → P p (Err (At JournalBadLine size)))
+by_edits : (size : ℕ) (d : Derates) (session : ℕ) (before ahead : List Edit) (all : List Entry) (rest : List ℕ) (P : List ℕ → Result (List Entry) ReadFault → Type 0)
+    → AreEdits ahead → ((p : List ℕ) → P p (Err (At JournalBadLine size)))
     → ((p : List ℕ) → IsPrefix p rest → ends_whole p ≡ true → (at : ℕ)
-    → P (edits_text todo ++ p) (entries (saved_text d size) (Ok (edits_left (saved_text d size) 0 session 0 (before ++ todo) all)) (placed at (cut_lines p))))
-    → (p : List ℕ) → IsPrefix p (edits_text todo ++ rest) → ends_whole p ≡ true → (at : ℕ)
-    → P p (entries (saved_text d size) (Ok (edits_left (saved_text d size) 0 session (length todo) before all)) (placed at (cut_lines p)))
+    → P (edits_text ahead ++ p) (entries (saved_text d size) (Ok (edits_left (saved_text d size) 0 session 0 (before ++ ahead) all)) (placed at (cut_lines p))))
+    → (p : List ℕ) → IsPrefix p (edits_text ahead ++ rest) → ends_whole p ≡ true → (at : ℕ)
+    → P p (entries (saved_text d size) (Ok (edits_left (saved_text d size) 0 session (length ahead) before all)) (placed at (cut_lines p)))
 unfolding placed entries cut_lines
 by_edits size d session before [] all rest P h none behind p pre whole at =
     subst (λ edits. P p (entries (saved_text d size) (Ok (edits_left (saved_text d size) 0 session 0 edits all)) (placed at (cut_lines p)))) (append-nil before)

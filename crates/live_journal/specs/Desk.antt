@@ -32,7 +32,18 @@ module _ {E : Type 0} where
   PutsRest text first all n sound old new (Ok done) = (sound ≡ true) × Appends old new (text (first + n) (drop n all))
   PutsRest text first all n sound old new (Err Failed) =
       ((sound ≡ false) × (new ≡ old)) ⊎ ((sound ≡ true) × AppendsPrefix old new (text (first + n) (drop n all)))
-  PutsRest text first all n sound old new (Err Memory) = (sound ≡ true) × (new ≡ old)
+  PutsRest text first all n sound old new (Err Memory) = (sound ≡ true) × (new ≡ old) × (n < length all)
+
+-- a file's count of faults when it is given the rest: it rises where a put fails now, and stands else
+abbrev pub RestBlamed : Bool → ℕ → ℕ → Result Unit Unkept → Type 0
+RestBlamed sound old new (Ok done) = (sound ≡ true) × (new ≡ old)
+RestBlamed sound old new (Err Failed) = ((sound ≡ false) × (new ≡ old)) ⊎ ((sound ≡ true) × Rose old new)
+RestBlamed sound old new (Err Memory) = (sound ≡ true) × (new ≡ old)
+
+-- each put went well and the file's count of faults stands; or one failed, and it rose
+abbrev pub IsBlamed : Bool → ℕ → ℕ → Type 0
+IsBlamed true old new = new ≡ old
+IsBlamed false old new = Rose old new
 
 -- the journal file is what it was, then the blocks of the first n entries of J, a block each, numbered behind `first` others,
 -- and where a put failed a prefix of the next blocks
@@ -44,13 +55,14 @@ abbrev no_table : TableId
 no_table = record { words = 0; slots = 0; views_name = 0; atom = 0; block = 0; offset = 0; slot_names = [] }
 
 -- what a desk is tied to: the board, its first number and its origin, the number of the desk's seat, the file as it was at
--- first, the factors of the blocks, and the cell of its receipts
+-- first, its count of faults then, the factors of the blocks, and the cell of its receipts
 pub record Setting (O : Type 0) : Type 0 where
   pub table : TableId
   pub first : ℕ
   pub origin : Option O
   pub number : ℕ
   pub before : Option (List ℕ)
+  pub faults : ℕ
   pub derates : Derates
   pub cell : TableId
 
@@ -62,6 +74,7 @@ nowhere = record {
   origin = None;
   number = 0;
   before = None;
+  faults = 0;
   derates = no_derates;
   cell = no_table;
 }
@@ -89,12 +102,14 @@ module _ {E O : Type 0} where
   IsSeatAt s seat =
       (seat.board ≡ s.table) × (seat.view.first ≡ s.first) × (seat.view.origin ≡ s.origin) × (seat.view.number ≡ s.number) × (seat.view.mine ≡ [])
 
-  -- a desk at any moment: the entries up to its number are the first ones that its seat saw
+  -- a desk at any moment: the entries up to its number are the first ones that its seat saw, and a put that failed has its cause in
+  -- the file's count of faults
   pub record IsDesk (text : Derates → ℕ → List E → List ℕ) (s : Setting O) (d : Keeping E O) : Type 0 where
     pub sits : IsSeatAt s d.seat
     pub low : s.first ≤ d.kept
     pub few : d.kept ≤ s.first + length d.seat.view.seen
     pub written : HasText (text s.derates) s.before d.file s.first d.seat.view.seen (d.kept - s.first) d.sound
+    pub blamed : IsBlamed d.sound s.faults d.faults
 
   -- a desk saw to it that all entries up to a number stand in the file: they did, or it looked at the board and one put wrote
   -- all that its seat saw then; or a put failed, now or before, and it never writes again

@@ -107,6 +107,7 @@ impl<T: Saves, F: Sink + Drop, B: Room<<T as Stands>::Origin>> Desk<T, F, B> {
     ) -> Desk<T, F, B>
         requires seat { IsSeatAt B.about seat }
         requires file { F.written sink ≡ B.about.before }
+        requires faults { F.faults sink ≡ B.about.faults }
         requires derates { derates ≡ B.about.derates }
         requires first { first ≡ B.about.first }
         requires keeper { keeper ≡ knowing B.about.cell nothing }
