@@ -72,6 +72,13 @@ pub trait Door {
         ensures same { Loses (left self.old) (left self.new) [] }
         ensures kept { Grows (trace self.old) (trace self.new) (kept number ∷ []) }
         ensures quiet { faults self.new ≡ faults self.old };
+
+    /// Closes the door when its session has ended: it gives up its input and its output, so whoever is at their
+    /// other ends sees the end. What was done stays told.
+    fn close(&mut self)
+        ensures left { left self.new ≡ left self.old }
+        ensures same { trace self.new ≡ trace self.old }
+        ensures quiet { faults self.new ≡ faults self.old };
 }
 
 /// Where sessions find their doors.

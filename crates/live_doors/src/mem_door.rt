@@ -124,6 +124,10 @@ impl Door for MemDoor {
     {
         self.account.keep(number);
     }
+
+    fn close(&mut self)
+        ensures { self.new ≡ self.old }
+    {}
 }
 
 /// A seat of a hall in memory: the lines that come in at it, and the calls of its door that fail, numbered

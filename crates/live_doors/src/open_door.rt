@@ -1,10 +1,11 @@
-//! A door over an input and an output that are open.
+//! A door over an input and an output that are open until it is closed.
 
-ghost use Rattle.std.specs.Prelude.{◌≡◌, ◌≤◌, [], ◌∷◌, None, Some, IfOk, IfErr, IfSome, OnOk, OnErr, length, option_map, vec_items};
+ghost use Rattle.std.specs.Prelude.{◌≡◌, ◌≢◌, ◌≤◌, [], ◌∷◌, None, Some, IfOk, IfErr, IfSome, OnOk, OnErr, length, option_map, take, vec_items};
 ghost use Rattle.std.specs.Io.KnownBytes.{Appends};
 ghost use Rattle.live_doors.specs.Doors.{kept, said, Hears, Grows, SaysPart, HasCause};
 ghost use Rattle.live_doors.specs.Lines.{kept_length, ReadsLine};
 ghost use Rattle.live_doors.specs.Marks.{IsCut, deeds};
+ghost use Rattle.live_doors.specs.Ends.{coming, given};
 ghost use Rattle.sta_outside.specs.Shelf.{Rose};
 
 use crate::door::{Door, Keeper, Lost};
@@ -14,12 +15,18 @@ use crate::writing::write_whole;
 use std::alloc::Global;
 use std::io::{BufRead, Write};
 
-/// A door over an input and an output. It tells what its reads gave and its writes took, in their order, and
-/// not the lines to come. The output must not hold bytes back.
+/// The two ends of a door.
 #[derive(Drop)]
-pub struct OpenDoor<B: BufRead, W: Write> {
+struct Ends<B, W> {
     input: B,
     output: W,
+}
+
+/// A door over an input and an output. It tells what its reads gave and its writes took, in their order, and
+/// not the lines to come. The output must not hold bytes back. Closed, it has given up both.
+#[derive(Drop)]
+pub struct OpenDoor<B: BufRead, W: Write> {
+    ends: Option<Ends<B, W>>,
     faults: u64,
     history: History,
 }
@@ -27,21 +34,54 @@ pub struct OpenDoor<B: BufRead, W: Write> {
 impl<B: BufRead, W: Write> OpenDoor<B, W> {
     /// The door at which nothing was done yet.
     pub fn new(alloc: Global, input: B, output: W) -> OpenDoor<B, W>
-        ensures input { result.input ≡ input }
-        ensures output { result.output ≡ output }
+        ensures ends { result.ends ≡ Some (record { input = input; output = output }) }
         ensures sound { result.faults ≡ 0 }
         ensures untouched { deeds result.history ≡ [] }
     {
         OpenDoor {
-            input,
-            output,
+            ends: Some(Ends { input, output }),
             faults: 0,
             history: History::new(alloc),
         }
     }
 }
 
-impl<B: BufRead, W: Write> Door for OpenDoor<B, W> {
+/// The next line of an input that is not closed.
+///
+/// # Errors
+///
+/// `Input` and `Memory`.
+fn line_of<B: BufRead, W: Write>(
+    alloc: Global,
+    ends: &mut Option<Ends<B, W>>,
+) -> Result<Option<Vec<u8>>, Lost>
+    ensures line { IfOk result (λ got. ReadsLine (coming B.remaining ends.old) (coming B.remaining ends.new) (option_map vec_items got)) }
+    ensures within { IfOk result (λ got. IfSome got (λ line. length line.items ≤ kept_length)) }
+    ensures lost { IfErr result (λ lost. lost ≢ Lost.Output) }
+{
+    match ends {
+        None => Err(Lost::Input),
+        Some(ends) => next_line(alloc, &mut ends.input),
+    }
+}
+
+/// Writes a piece into an output that is not closed. Where that fails, it answers how many of its bytes were
+/// written.
+fn written_to<B: BufRead, W: Write>(
+    ends: &mut Option<Ends<B, W>>,
+    piece: &[u8],
+) -> Result<(), usize>
+    ensures whole { OnOk result (Appends (given W.contents ends.old) (given W.contents ends.new) piece.now) }
+    ensures partly { IfErr result (λ count. Appends (given W.contents ends.old) (given W.contents ends.new) (take count piece.now)) }
+    ensures bound { IfErr result (λ count. count ≤ length piece.now) }
+{
+    match ends {
+        None => Err(0),
+        Some(ends) => write_whole(&mut ends.output, piece),
+    }
+}
+
+impl<B: BufRead + Drop, W: Write + Drop> Door for OpenDoor<B, W> {
     ghost left = { λ _. None };
 
     ghost trace = { λ door. Some (deeds door.history) };
@@ -55,9 +95,9 @@ impl<B: BufRead, W: Write> Door for OpenDoor<B, W> {
         ensures none { OnErr result (deeds self.new.history ≡ deeds self.old.history) }
         ensures cause { IfErr result (λ lost. HasCause lost self.old.faults self.new.faults) }
         // which bytes of the input it is, where they are known
-        ensures bytes { IfOk result (λ got. ReadsLine (B.remaining self.old.input) (B.remaining self.new.input) (option_map vec_items got)) }
+        ensures bytes { IfOk result (λ got. ReadsLine (coming B.remaining self.old.ends) (coming B.remaining self.new.ends) (option_map vec_items got)) }
     {
-        match next_line(alloc, &mut self.input) {
+        match line_of(alloc, &mut self.ends) {
             Ok(None) => Ok(None),
             Ok(Some(line)) => {
                 self.history.hear(&line);
@@ -78,11 +118,11 @@ impl<B: BufRead, W: Write> Door for OpenDoor<B, W> {
         ensures cause { OnErr result (Rose self.old.faults self.new.faults) }
         ensures lost { IfErr result (λ lost. lost ≡ Lost.Output) }
         // what the output was given, where its bytes are known
-        ensures bytes { OnOk result (Appends (W.contents self.old.output) (W.contents self.new.output) piece.now.items) }
+        ensures bytes { OnOk result (Appends (given W.contents self.old.ends) (given W.contents self.new.ends) piece.now.items) }
         // and that it was given what is told of a piece that was cut
-        ensures cut { OnErr result (IsCut (deeds self.old.history) (deeds self.new.history) (W.contents self.old.output) (W.contents self.new.output) piece.now.items) }
+        ensures cut { OnErr result (IsCut (deeds self.old.history) (deeds self.new.history) (given W.contents self.old.ends) (given W.contents self.new.ends) piece.now.items) }
     {
-        match write_whole(&mut self.output, piece.as_slice()) {
+        match written_to(&mut self.ends, piece.as_slice()) {
             Ok(()) => {
                 self.history.say(piece);
                 Ok(())
@@ -100,5 +140,14 @@ impl<B: BufRead, W: Write> Door for OpenDoor<B, W> {
         ensures quiet { self.new.faults ≡ self.old.faults }
     {
         self.history.keep(number);
+    }
+
+    fn close(&mut self)
+        ensures same { deeds self.new.history ≡ deeds self.old.history }
+        ensures quiet { self.new.faults ≡ self.old.faults }
+        // both ends are given up
+        ensures closed { self.new.ends ≡ None }
+    {
+        drop(self.ends.take());
     }
 }

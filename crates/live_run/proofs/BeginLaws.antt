@@ -16,7 +16,7 @@ use Rattle.live_run.specs.declared.ended.Ended.{Ended}
 use Rattle.live_run.specs.declared.ended.LiveClosed.{LiveClosed}
 use Rattle.live_run.specs.Sessions.{EachHandsBack, AreNew}
 use Rattle.live_run.specs.Closing.{IsDeskOf}
-use Rattle.live_run.specs.Runs.{IsLiveRun, file_of}
+use Rattle.live_run.specs.Runs.{AtFile, IsLiveRun, file_of}
 use Rattle.live_run.proofs.PoppedLaws.{new_popped}
 
 module _ (b : Standing Versioned) (n : ℕ) (s : Setting Design) (of : IsBoardOf meant s b) (number : s.number ≡ n + 1) where
@@ -57,30 +57,30 @@ as_many told lines manner (s ∷ seats) [] back = absurd back
 
 -- a run from a version's origin is one from that of an equal one
 pub run_alike : {D : Type 0} (told : D → AtDoor) (lines : ℕ → Option (List (List ℕ))) (manner other : Manner) (v w : Versioned) (J : List Entry)
-    (before after : Option (List ℕ)) (derates factors : Derates) (parted : List (Parted D)) (kept : Result Unit Unkept) → manner ≡ other → v ≡ w → derates ≡ factors
+    (before after : AtFile) (derates factors : Derates) (parted : List (Parted D)) (kept : Result Unit Unkept) → manner ≡ other → v ≡ w → derates ≡ factors
     → IsLiveRun told lines manner v.origin v.first J before after derates parted kept → IsLiveRun told lines other w.origin w.first J before after factors parted kept
 run_alike told lines manner other v w J before after derates factors parted kept same is alike run =
     subst (λ (x : Versioned). IsLiveRun told lines other x.origin x.first J before after factors parted kept) is
     (subst (λ d. IsLiveRun told lines other v.origin v.first J before after d parted kept) alike
     (subst (λ m. IsLiveRun told lines m v.origin v.first J before after derates parted kept) same run))
 
-module _ {D F : Type 0} (written : F → Option (List ℕ)) (r : Result (LiveClosed D F) (Option F)) where
-  pub runs_alike : (told : D → AtDoor) (lines : ℕ → Option (List (List ℕ))) (manner other : Manner) (v w : Versioned) (before : Option (List ℕ)) (derates factors : Derates)
+module _ {D F : Type 0} (written : F → Option (List ℕ)) (faults : F → ℕ) (r : Result (LiveClosed D F) (Option F)) where
+  pub runs_alike : (told : D → AtDoor) (lines : ℕ → Option (List (List ℕ))) (manner other : Manner) (v w : Versioned) (before : AtFile) (derates factors : Derates)
       → manner ≡ other → v ≡ w → derates ≡ factors
-      → IfOk r (λ (c : LiveClosed D F). IsLiveRun told lines manner v.origin v.first (arc_value c.last).journal before (file_of written c.journal) derates c.sessions.items c.kept)
-      → IfOk r (λ (c : LiveClosed D F). IsLiveRun told lines other w.origin w.first (arc_value c.last).journal before (file_of written c.journal) factors c.sessions.items c.kept)
+      → IfOk r (λ (c : LiveClosed D F). IsLiveRun told lines manner v.origin v.first (arc_value c.last).journal before (file_of written faults c.journal) derates c.sessions.items c.kept)
+      → IfOk r (λ (c : LiveClosed D F). IsLiveRun told lines other w.origin w.first (arc_value c.last).journal before (file_of written faults c.journal) factors c.sessions.items c.kept)
   runs_alike told lines manner other v w before derates factors same is alike h = alike_at r h
     where
       alike_at : (x : Result (LiveClosed D F) (Option F))
-          → IfOk x (λ (c : LiveClosed D F). IsLiveRun told lines manner v.origin v.first (arc_value c.last).journal before (file_of written c.journal) derates c.sessions.items c.kept)
-          → IfOk x (λ (c : LiveClosed D F). IsLiveRun told lines other w.origin w.first (arc_value c.last).journal before (file_of written c.journal) factors c.sessions.items c.kept)
+          → IfOk x (λ (c : LiveClosed D F). IsLiveRun told lines manner v.origin v.first (arc_value c.last).journal before (file_of written faults c.journal) derates c.sessions.items c.kept)
+          → IfOk x (λ (c : LiveClosed D F). IsLiveRun told lines other w.origin w.first (arc_value c.last).journal before (file_of written faults c.journal) factors c.sessions.items c.kept)
       alike_at (Ok c) run =
-          run_alike told lines manner other v w (arc_value c.last).journal before (file_of written c.journal) derates factors c.sessions.items c.kept same is alike run
+          run_alike told lines manner other v w (arc_value c.last).journal before (file_of written faults c.journal) derates factors c.sessions.items c.kept same is alike run
       alike_at (Err j) run = tt
 
-  pub file_alike : (journal : Option F) → IfErr r (λ j. j ≡ journal) → IfErr r (λ j. file_of written j ≡ file_of written journal)
+  pub file_alike : (journal : Option F) → IfErr r (λ j. j ≡ journal) → IfErr r (λ j. file_of written faults j ≡ file_of written faults journal)
   file_alike journal h = back_at r h
     where
-      back_at : (x : Result (LiveClosed D F) (Option F)) → IfErr x (λ j. j ≡ journal) → IfErr x (λ j. file_of written j ≡ file_of written journal)
+      back_at : (x : Result (LiveClosed D F) (Option F)) → IfErr x (λ j. j ≡ journal) → IfErr x (λ j. file_of written faults j ≡ file_of written faults journal)
       back_at (Ok c) same = tt
-      back_at (Err j) same = ap (file_of written) same
+      back_at (Err j) same = ap (file_of written faults) same

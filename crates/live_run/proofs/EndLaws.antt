@@ -15,13 +15,13 @@ use Rattle.eco_journal.specs.Blocks.{blocks_text}
 use Rattle.live_journal.specs.declared.desks.Unkept.{Unkept}
 use Rattle.live_journal.specs.declared.sinks.JournalSink.{JournalSink}
 use Rattle.live_journal.specs.Desk.{single, Setting, Keeping, IsDesk, IsSeatAt, IsBoardOf, HasFile}
-use Rattle.live_journal.specs.Sinks.{written_of}
+use Rattle.live_journal.specs.Sinks.{written_of, faults_of}
 use Rattle.live_journal.proofs.Kept.{file_closed}
 use Rattle.live_session.specs.declared.replies.Manner.{Manner}
 use Rattle.live_session.specs.Talks.{AtDoor, telling}
 use Rattle.live_run.specs.declared.ended.Ended.{Ended}
 use Rattle.live_run.specs.Sessions.{HandsBack, EachHandsBack, AreNew}
-use Rattle.live_run.specs.Closing.{AreConfirmed, IsDeskOf, seat_left, parted_left, Settles}
+use Rattle.live_run.specs.Closing.{AreConfirmed, IsDeskOf, file_before, seat_left, parted_left, Settles}
 use Rattle.live_run.specs.Runs.{IsLiveRun, file_of}
 use Rattle.live_run.proofs.WholeLaws.{session_of, whole_run}
 use Rattle.live_run.proofs.PartedLaws.{Scripted, scripted}
@@ -80,18 +80,18 @@ module _ {D : Type 0} where
       let long : length (map seat_left ended ++ desk ∷ []) ≡ length (map seat_left ended) + 1 = length-append (map seat_left ended) (desk ∷ []) in
       ap length are ∙ long ∙ ap (λ n. n + 1) many ∙ sym of.seats
 
-  module _ {B : _} {F : Type 0} (told : D → AtDoor) (lines : ℕ → Option (List (List ℕ))) (manner : Manner) (written : F → Option (List ℕ)) (s : Setting Design)
+  module _ {B : _} {F : Type 0} (told : D → AtDoor) (lines : ℕ → Option (List (List ℕ))) (manner : Manner) (written : F → Option (List ℕ)) (faults : F → ℕ) (s : Setting Design)
       (b : Standing Versioned) (d : Keeping Entry Design) (begun : List Seated) (ended : List (Ended D B)) (last : Versioned) (sink : JournalSink F)
       (journal : Option F) (kept : Result Unit Unkept) where
     -- the closed journal, what sessions leave and the file are a live run
     pub closed_run : (seats : List Seated) (seat : Seated) (derates : Derates) (upto : ℕ) (sound : Bool) → AreNew b 1 begun → EachHandsBack told lines manner begun ended
         → IsDeskOf s b (length ended) → IsDesk (λ derates from es. blocks_text derates from (single es)) s d → AreConfirmed d.kept d.sound ended
-        → written_of written sink ≡ d.file → seat ≡ d.seat → upto ≡ d.kept → sound ≡ d.sound → derates ≡ s.derates
+        → written_of written sink ≡ d.file → faults_of faults sink ≡ d.faults → seat ≡ d.seat → upto ≡ d.kept → sound ≡ d.sound → derates ≡ s.derates
         → seats ≡ map seat_left ended ++ seat ∷ [] → IsVersion last → last.origin ≡ b.opening.origin → last.first ≡ b.opening.first
         → All (AgreesWith session_of last.journal) seats → All (λ (e : Entry). Contains (map number seats) e.session) last.journal
-        → Settles written derates last.first last.journal upto sound sink journal kept
-        → IsLiveRun told lines manner b.opening.origin b.opening.first last.journal s.before (file_of written journal) s.derates (map parted_left ended) kept
-    closed_run seats seat derates upto sound new back of desk sure same sits stands well factors parts is origin first agree whose settles =
+        → Settles written faults derates last.first last.journal upto sound sink journal kept
+        → IsLiveRun told lines manner b.opening.origin b.opening.first last.journal (file_before s) (file_of written faults journal) s.derates (map parted_left ended) kept
+    closed_run seats seat derates upto sound new back of desk sure same count sits stands well factors parts is origin first agree whose settles =
         let J = last.journal in
         let are : seats ≡ map seat_left ended ++ d.seat ∷ [] = parts ∙ ap (λ (t : Seated). map seat_left ended ++ t ∷ []) sits in
         let here = scripted told lines manner d.kept d.sound b 1 begun ended new back sure in
@@ -100,12 +100,12 @@ module _ {D : Type 0} where
         let whole = whole_run b begun (map seat_left ended) here.scripts here.ts last new here.ran is origin split.0 others in
         let closed = file_closed s d J desk split.1.0 in
         let from : last.first ≡ s.first = first ∙ of.board.1 in
-        let given : Settles written s.derates s.first J d.kept d.sound sink journal kept =
-        subst (λ n. Settles written s.derates n J d.kept d.sound sink journal kept) from
-        (subst (λ t. Settles written t last.first J d.kept d.sound sink journal kept) factors
-        (subst (λ k. Settles written derates last.first J k d.sound sink journal kept) stands
-        (subst (λ w. Settles written derates last.first J upto w sink journal kept) well settles))) in
-        let end = filed s.before d.file s.derates s.first J d.kept d.sound desk.low closed.1 closed.0 written sink journal kept same given in
+        let given : Settles written faults s.derates s.first J d.kept d.sound sink journal kept =
+        subst (λ n. Settles written faults s.derates n J d.kept d.sound sink journal kept) from
+        (subst (λ t. Settles written faults t last.first J d.kept d.sound sink journal kept) factors
+        (subst (λ k. Settles written faults derates last.first J k d.sound sink journal kept) stands
+        (subst (λ w. Settles written faults derates last.first J upto w sink journal kept) well settles))) in
+        let end = filed s.before d.file s.faults d.faults s.derates s.first J d.kept d.sound desk.low closed.1 closed.0 desk.blamed written faults sink journal kept same count given in
         let start : s.first ≡ b.opening.first = sym of.board.1 in
         record {
           scripts = here.scripts;
@@ -118,6 +118,7 @@ module _ {D : Type 0} where
           each = here.each;
           high = subst (λ n. d.kept ≤ n + end.count) start end.high;
           broken = end.broken;
-          file = subst (λ n. HasFile s.before (file_of written journal) s.derates n J end.count end.sound) start end.file;
+          file = subst (λ n. HasFile s.before (file_of written faults journal).text s.derates n J end.count end.sound) start end.file;
+          blamed = end.blamed;
           all = end.all;
         }

@@ -13,9 +13,10 @@ use Rattle.live_journal.specs.declared.desks.Unkept.{Unkept}
 use Rattle.live_journal.specs.declared.desks.Unkept.TheVariants.{Failed, Memory}
 use Rattle.live_journal.specs.declared.sinks.JournalSink.{JournalSink}
 use Rattle.live_journal.specs.declared.sinks.JournalSink.TheVariants.{File, Nowhere}
-use Rattle.live_journal.specs.Desk.{Setting, IsBoardOf, PutsRest, single}
+use Rattle.live_journal.specs.Desk.{Setting, IsBoardOf, PutsRest, RestBlamed, single}
 use Rattle.live_run.specs.declared.ended.Parted.{Parted}
 use Rattle.live_run.specs.declared.ended.Ended.{Ended}
+use Rattle.live_run.specs.Runs.{AtFile, at_file}
 
 -- the desk's board is this one, its seat is the last of it, behind those of so many sessions
 pub record IsDeskOf (s : Setting Design) (b : Standing Versioned) (sessions : ℕ) : Type 0 where
@@ -24,13 +25,14 @@ pub record IsDeskOf (s : Setting Design) (b : Standing Versioned) (sessions : �
   pub seats : b.seats ≡ sessions + 1
 
 -- what the desk of a board is tied to whose seat is the one behind so many sessions
-abbrev pub setting_of : Standing Versioned → ℕ → Option (List ℕ) → Derates → TableId → Setting Design
+abbrev pub setting_of : Standing Versioned → ℕ → AtFile → Derates → TableId → Setting Design
 setting_of b sessions before derates cell = record {
   table = b.id;
   first = b.opening.first;
   origin = Some b.opening.origin;
   number = sessions + 1;
-  before = before;
+  before = before.text;
+  faults = before.faults;
   derates = derates;
   cell = cell;
 }
@@ -54,10 +56,16 @@ IsSettled sound (Ok done) = sound ≡ true
 IsSettled sound (Err Failed) = sound ≡ false
 IsSettled sound (Err Memory) = ⊥
 
+-- the file as it was when the desk began
+abbrev pub file_before : Setting Design → AtFile
+file_before s = at_file s.before s.faults
+
 -- the file is given what it lacks
-abbrev pub Settles : {F : Type 0} → (F → Option (List ℕ)) → Derates → ℕ → List Entry → ℕ → Bool → JournalSink F → Option F → Result Unit Unkept → Type 0
-Settles written d first J kept sound Nowhere None result = IsSettled sound result
-Settles written d first J kept sound Nowhere (Some file) result = ⊥
-Settles written d first J kept sound (File old) None result = ⊥
-Settles written d first J kept sound (File old) (Some new) result =
+abbrev pub Settles : {F : Type 0} → (F → Option (List ℕ)) → (F → ℕ) → Derates → ℕ → List Entry → ℕ → Bool
+    → JournalSink F → Option F → Result Unit Unkept → Type 0
+Settles written faults d first J kept sound Nowhere None result = IsSettled sound result
+Settles written faults d first J kept sound Nowhere (Some file) result = ⊥
+Settles written faults d first J kept sound (File old) None result = ⊥
+Settles written faults d first J kept sound (File old) (Some new) result =
     PutsRest (λ from es. blocks_text d from (single es)) first J (kept - first) sound (written old) (written new) result
+    × RestBlamed sound (faults old) (faults new) result

@@ -7,10 +7,10 @@ ghost use Rattle.timing_defs.specs.declared.design.Design.{Design};
 ghost use Rattle.timing_defs.specs.declared.edits.Entry.{Entry};
 ghost use Rattle.version_board.specs.Callers.{Sitting};
 ghost use Rattle.session_engine.specs.Versions.{IsVersion};
-ghost use Rattle.live_session.specs.Talks.{at_door};
+ghost use Rattle.live_session.specs.Talks.{door_of};
 ghost use Rattle.live_session.specs.declared.replies.Manner.{Manner};
 ghost use Rattle.live_run.specs.Sessions.{AreNew, EachHandsBack};
-ghost use Rattle.live_run.specs.Closing.{AreConfirmed, IsDeskOf, seat_left, parted_left, Settles};
+ghost use Rattle.live_run.specs.Closing.{AreConfirmed, IsDeskOf, file_before, seat_left, parted_left, Settles};
 ghost use Rattle.live_run.specs.Runs.{IsLiveRun, file_of};
 
 use crate::ended::{Ended, LiveClosed, Parted};
@@ -87,7 +87,7 @@ fn settle<F: Sink + Drop>(
 ) -> Settled<F>
     requires low { last.now.first ≤ kept }
     requires high { kept ≤ last.now.first + length last.now.journal }
-    ensures { Settles F.written derates.now last.now.first last.now.journal kept sound sink result.journal result.kept }
+    ensures { Settles F.written F.faults derates.now last.now.first last.now.journal kept sound sink result.journal result.kept }
 {
     match sink.into_file() {
         None => Settled {
@@ -116,12 +116,12 @@ pub(crate) fn close<R: Wait, D: Door + Drop, F: Sink + Drop, B: Room<Design> + L
     room: ClosingRoom<D>,
 ) -> LiveClosed<D, F>
     requires cell { cell.now.table.shared.table_id ≡ B.about.cell }
-    requires begun { (manner : Manner) × (begun : List (Sitting Entry Design)) × AreNew board 1 begun × EachHandsBack (λ door. at_door (D.left door) (D.trace door) (D.faults door)) B.lines manner begun ended.items }
+    requires begun { (manner : Manner) × (begun : List (Sitting Entry Design)) × AreNew board 1 begun × EachHandsBack (door_of D.left D.trace D.faults) B.lines manner begun ended.items }
     requires desk { IsDeskOf B.about board (length ended.items) }
     requires derates { derates.now ≡ B.about.derates }
     requires seats { (room.seats.items ≡ []) × (length ended.items + 1 ≤ vec_capacity room.seats) }
     requires sessions { (room.sessions.items ≡ []) × (length ended.items ≤ vec_capacity room.sessions) }
-    ensures run { (manner : Manner) (begun : List (Sitting Entry Design)) → AreNew board 1 begun → EachHandsBack (λ door. at_door (D.left door) (D.trace door) (D.faults door)) B.lines manner begun ended.items → IsLiveRun (λ door. at_door (D.left door) (D.trace door) (D.faults door)) B.lines manner board.opening.origin board.opening.first (arc_value result.last).journal B.about.before (file_of F.written result.journal) B.about.derates result.sessions.items result.kept }
+    ensures run { (manner : Manner) (begun : List (Sitting Entry Design)) → AreNew board 1 begun → EachHandsBack (door_of D.left D.trace D.faults) B.lines manner begun ended.items → IsLiveRun (door_of D.left D.trace D.faults) B.lines manner board.opening.origin board.opening.first (arc_value result.last).journal (file_before B.about) (file_of F.written F.faults result.journal) B.about.derates result.sessions.items result.kept }
     ensures many { length result.sessions.items ≡ length ended.items }
     ensures last { IsVersion (arc_value result.last) }
     ensures first { (arc_value result.last).first ≡ board.opening.first }

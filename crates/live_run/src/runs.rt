@@ -3,12 +3,13 @@
 ghost use Rattle.std.specs.Prelude.{◌≡◌, ◌≤◌, ◌+◌, ◌^◌, [], length, map, vec_capacity, IfOk, IfErr};
 ghost use Rattle.std.specs.Arc.{arc_value};
 ghost use Rattle.live_journal.specs.Receipts.{nothing, knowing};
-ghost use Rattle.live_journal.specs.Sinks.{written_of};
+ghost use Rattle.live_journal.specs.Sinks.{written_of, faults_of};
 ghost use Rattle.session_engine.specs.Looking.{meant};
 ghost use Rattle.session_engine.specs.Versions.{IsVersion};
 ghost use Rattle.live_journal.specs.Desk.{IsBoardOf};
-ghost use Rattle.live_session.specs.Talks.{at_door};
+ghost use Rattle.live_session.specs.Talks.{door_of};
 ghost use Rattle.live_run.specs.Runs.{file_of, IsLiveRun, manner_of};
+ghost use Rattle.live_run.specs.Closing.{file_before};
 ghost use Rattle.live_run.specs.Seating.{seat_in};
 ghost use Rattle.live_run.specs.Sessions.{AreNew};
 
@@ -62,12 +63,12 @@ pub fn run_live<
     requires sessions { (1 ≤ plan.now.sessions) × (plan.now.sessions ≤ 16) }
     requires workers { (1 ≤ plan.now.workers) × (plan.now.workers ≤ 32) }
     requires begins { (arc_value version).journal ≡ [] }
-    ensures run { IfOk result (λ c. IsLiveRun (λ door. at_door (D.left door) (D.trace door) (D.faults door)) (N.lines plan.now.hall.now) (manner_of (arc_value version) journal) (arc_value version).origin (arc_value version).first (arc_value c.last).journal (file_of F.written journal) (file_of F.written c.journal) (arc_value version).stored.design.constraints.derates c.sessions.items c.kept) }
+    ensures run { IfOk result (λ c. IsLiveRun (door_of D.left D.trace D.faults) (N.lines plan.now.hall.now) (manner_of (arc_value version) journal) (arc_value version).origin (arc_value version).first (arc_value c.last).journal (file_of F.written F.faults journal) (file_of F.written F.faults c.journal) (arc_value version).stored.design.constraints.derates c.sessions.items c.kept) }
     ensures many { IfOk result (λ c. length c.sessions.items ≡ plan.now.sessions) }
     ensures last { IfOk result (λ c. IsVersion (arc_value c.last)) }
     ensures first { IfOk result (λ c. (arc_value c.last).first ≡ (arc_value version).first) }
     ensures origin { IfOk result (λ c. (arc_value c.last).origin ≡ (arc_value version).origin) }
-    ensures untouched { IfErr result (λ j. file_of F.written j ≡ file_of F.written journal) }
+    ensures untouched { IfErr result (λ j. file_of F.written F.faults j ≡ file_of F.written F.faults journal) }
 {
     version.laws();
     match made_ready(alloc, version, plan.sessions, journal.is_some()) {
@@ -240,7 +241,8 @@ fn seated<R: Wait, F: Sink + Drop, B: Room<Design>>(
 
 /// The file of a journal as the sink of its desk.
 fn sink_of<F: Sink + Drop>(journal: Option<F>) -> JournalSink<F>
-    ensures { written_of F.written result ≡ file_of F.written journal }
+    ensures text { written_of F.written result ≡ (file_of F.written F.faults journal).text }
+    ensures faults { faults_of F.faults result ≡ (file_of F.written F.faults journal).faults }
 {
     match journal {
         Some(file) => JournalSink::File(file),
@@ -269,7 +271,7 @@ fn run_placed<
     requires workers { (1 ≤ plan.now.workers) × (plan.now.workers ≤ 32) }
     requires board { IsBoardOf meant B.about ready.board × (ready.board.seats ≡ plan.now.sessions + 1) }
     requires number { B.about.number ≡ plan.now.sessions + 1 }
-    requires before { file_of F.written journal ≡ B.about.before }
+    requires before { file_of F.written F.faults journal ≡ file_before B.about }
     requires first { ready.first ≡ B.about.first }
     requires derates { ready.derates ≡ B.about.derates }
     requires cell { ready.cell.table.shared.table_id ≡ B.about.cell }
@@ -280,7 +282,7 @@ fn run_placed<
     requires ended { (places.ended.items ≡ []) × (plan.now.sessions ≤ vec_capacity places.ended) }
     requires back { (ready.closing.seats.items ≡ []) × (plan.now.sessions + 1 ≤ vec_capacity ready.closing.seats) }
     requires parted { (ready.closing.sessions.items ≡ []) × (plan.now.sessions ≤ vec_capacity ready.closing.sessions) }
-    ensures run { IsLiveRun (λ door. at_door (D.left door) (D.trace door) (D.faults door)) B.lines ready.manner ready.board.opening.origin ready.board.opening.first (arc_value result.last).journal B.about.before (file_of F.written result.journal) B.about.derates result.sessions.items result.kept }
+    ensures run { IsLiveRun (door_of D.left D.trace D.faults) B.lines ready.manner ready.board.opening.origin ready.board.opening.first (arc_value result.last).journal (file_before B.about) (file_of F.written F.faults result.journal) B.about.derates result.sessions.items result.kept }
     ensures many { length result.sessions.items ≡ plan.now.sessions }
     ensures last { IsVersion (arc_value result.last) }
     ensures first { (arc_value result.last).first ≡ ready.board.opening.first }
@@ -351,7 +353,7 @@ fn run_ready<
     requires workers { (1 ≤ plan.now.workers) × (plan.now.workers ≤ 32) }
     requires board { IsBoardOf meant B.about ready.board × (ready.board.seats ≡ plan.now.sessions + 1) }
     requires number { B.about.number ≡ plan.now.sessions + 1 }
-    requires before { file_of F.written journal ≡ B.about.before }
+    requires before { file_of F.written F.faults journal ≡ file_before B.about }
     requires first { ready.first ≡ B.about.first }
     requires derates { ready.derates ≡ B.about.derates }
     requires cell { ready.cell.table.shared.table_id ≡ B.about.cell }
@@ -360,7 +362,7 @@ fn run_ready<
     requires seats { (length ready.seats.items ≡ plan.now.sessions + 1) × AreNew ready.board 1 ready.seats.items }
     requires back { (ready.closing.seats.items ≡ []) × (plan.now.sessions + 1 ≤ vec_capacity ready.closing.seats) }
     requires parted { (ready.closing.sessions.items ≡ []) × (plan.now.sessions ≤ vec_capacity ready.closing.sessions) }
-    ensures run { IfOk result (λ c. IsLiveRun (λ door. at_door (D.left door) (D.trace door) (D.faults door)) B.lines ready.manner ready.board.opening.origin ready.board.opening.first (arc_value c.last).journal B.about.before (file_of F.written c.journal) B.about.derates c.sessions.items c.kept) }
+    ensures run { IfOk result (λ c. IsLiveRun (door_of D.left D.trace D.faults) B.lines ready.manner ready.board.opening.origin ready.board.opening.first (arc_value c.last).journal (file_before B.about) (file_of F.written F.faults c.journal) B.about.derates c.sessions.items c.kept) }
     ensures many { IfOk result (λ c. length c.sessions.items ≡ plan.now.sessions) }
     ensures last { IfOk result (λ c. IsVersion (arc_value c.last)) }
     ensures first { IfOk result (λ c. (arc_value c.last).first ≡ ready.board.opening.first) }

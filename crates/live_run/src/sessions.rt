@@ -3,7 +3,7 @@
 ghost use Rattle.std.specs.Prelude.{◌≡◌, ◌≤◌, [], length, map, true, vec_len, vec_capacity};
 ghost use Rattle.version_board.specs.Callers.{IsSeatOf, IsNew};
 ghost use Rattle.session_engine.specs.Looking.{meant};
-ghost use Rattle.live_session.specs.Talks.{at_door};
+ghost use Rattle.live_session.specs.Talks.{door_of};
 ghost use Rattle.live_run.specs.Sessions.{IsUnopened, HandsBack, EachHandsBack, AreNew};
 ghost use Rattle.live_run.specs.Seating.{seat_in};
 
@@ -62,7 +62,7 @@ fn run_owned<
     requires seat { IsSeatOf meant shared.now.board.now seating.seat }
     requires new { IsNew who seating.seat }
     requires hall { N.lines hall.now ≡ B.lines }
-    ensures { HandsBack (λ door. at_door (D.left door) (D.trace door) (D.faults door)) B.lines manner.now seating.seat result }
+    ensures { HandsBack (door_of D.left D.trace D.faults) B.lines manner.now seating.seat result }
 {
     let Seating { seat, receipt } = seating;
     match hall.open(alloc, who) {
@@ -101,10 +101,10 @@ struct Kept<D, B> {
 }
 
 impl<D: Door, B: Room<Design> + LiveRoom> Promise<Ended<D, B>> for Kept<D, B> {
-    ghost use Rattle.live_session.specs.Talks.{at_door};
+    ghost use Rattle.live_session.specs.Talks.{door_of};
     ghost use Rattle.live_run.specs.Sessions.{HandsBack};
 
-    ghost kept_by = { λ p r. HandsBack (λ door. at_door (D.left door) (D.trace door) (D.faults door)) B.lines p.manner.value p.seat.value r };
+    ghost kept_by = { λ p r. HandsBack (door_of D.left D.trace D.faults) B.lines p.manner.value p.seat.value r };
 }
 
 /// Holds a session at each seat, the first beside all others: what they leave stands in their order. A session for which no thread
@@ -131,7 +131,7 @@ fn run_each<
     requires begun { AreNew shared.now.board.now 1 (map seat_in seatings.items) }
     requires few { length seatings.items ≤ 16 }
     requires room { (ended.items ≡ []) × (length seatings.items ≤ vec_capacity ended) }
-    ensures each { EachHandsBack (λ door. at_door (D.left door) (D.trace door) (D.faults door)) B.lines manner.now (map seat_in seatings.items) result.items }
+    ensures each { EachHandsBack (door_of D.left D.trace D.faults) B.lines manner.now (map seat_in seatings.items) result.items }
     ensures long { vec_len result ≡ length seatings.items }
     ensures room { vec_capacity result ≡ vec_capacity ended }
 {
@@ -150,7 +150,7 @@ fn run_each<
         kept,
         move || -> Ended<D, B>
             requires { IsSeatOf meant shared.now.board.now seat × IsNew seat.view.number seat × (seat.view.number ≡ who) × (N.lines hall.now ≡ B.lines) }
-            ensures { HandsBack (λ door. at_door (D.left door) (D.trace door) (D.faults door)) B.lines manner.entry.now seat result }
+            ensures { HandsBack (door_of D.left D.trace D.faults) B.lines manner.entry.now seat result }
         { run_owned(shared, alloc, hall, manner, who, Seating { seat, receipt }) },
     );
     match started {
@@ -187,14 +187,14 @@ pub(crate) fn run_beside<
     requires begun { AreNew shared.now.board.now 1 (map seat_in seatings.items) }
     requires few { length seatings.items ≤ 16 }
     requires room { (ended.items ≡ []) × (length seatings.items ≤ vec_capacity ended) }
-    ensures { EachHandsBack (λ door. at_door (D.left door) (D.trace door) (D.faults door)) B.lines manner.now (map seat_in seatings.items) result.items }
+    ensures { EachHandsBack (door_of D.left D.trace D.faults) B.lines manner.now (map seat_in seatings.items) result.items }
 {
     thread::scope(
         thread::scope_env(),
         shared.rt,
         move |scope| -> Vec<Ended<D, B>>
             requires { (N.lines hall.now ≡ B.lines) × AreNew shared.now.board.now 1 (map seat_in seatings.items) × (length seatings.items ≤ 16) × (ended.items ≡ []) × (length seatings.items ≤ vec_capacity ended) }
-            ensures { EachHandsBack (λ door. at_door (D.left door) (D.trace door) (D.faults door)) B.lines manner.entry.now (map seat_in seatings.items) result.items }
+            ensures { EachHandsBack (door_of D.left D.trace D.faults) B.lines manner.entry.now (map seat_in seatings.items) result.items }
         { run_each(scope, alloc, shared, hall, manner, seatings, ended) },
     )
 }

@@ -26,7 +26,7 @@ use Rattle.live_journal.specs.declared.desks.Unkept.{Unkept}
 use Rattle.live_journal.specs.Ends.{end_of}
 use Rattle.live_session.specs.Talks.{AtDoor}
 use Rattle.live_run.specs.declared.ended.Parted.{Parted}
-use Rattle.live_run.specs.Runs.{IsLiveRun}
+use Rattle.live_run.specs.Runs.{AtFile, IsLiveRun}
 use Rattle.live_server.specs.Statuses.{sessions_status, kept_status}
 
 -- the documents that the words of a live run name: those of a run without scripts
@@ -122,7 +122,7 @@ module _ {D : Type 0} where
   -- the sessions that the words ask for were held: over an initial design, behind its saved entries, they are a live run over a journal J,
   -- which is kept where the words name one
   pub record IsHeld (told : D → AtDoor) (lines : ℕ → Option (List (List ℕ))) (keeps : Bool) (asked_for : ℕ) (holds : Docs) (run : RunWords)
-      (before after : Option (List ℕ)) (old new : Out) (sessions : List (Parted D)) (status : ℕ) : Type 0 where
+      (before after : AtFile) (old new : Out) (sessions : List (Parted D)) (status : ℕ) : Type 0 where
     pub many : length sessions ≡ asked_for
     pub named : is_some run.journal ≡ keeps
     pub initial : Design
@@ -139,7 +139,7 @@ module _ {D : Type 0} where
   -- how a live run ends, in one of four ways: it is refused with a line; its journal is named and its file is not there to be written; its sessions
   -- were held; or memory was wanting before the first one began. Where none was held the journal's file is as it was
   abbrev pub LiveEnds : (D → AtDoor) → (ℕ → Option (List (List ℕ))) → Bool → ℕ → Docs → ℕ → ℕ → RunWords
-      → Option (List ℕ) → Option (List ℕ) → Out → Out → List (Parted D) → ℕ → Type 0
+      → AtFile → AtFile → Out → Out → List (Parted D) → ℕ → Type 0
   LiveEnds told lines keeps asked_for holds f f' run before after old new sessions status =
       ((sessions ≡ []) × (after ≡ before)
       × ((meant : ℕ) × (line : List ℕ) × IsRefused holds f f' run meant line × TellsLine old new line meant status))

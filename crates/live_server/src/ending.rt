@@ -4,7 +4,7 @@ ghost use Rattle.std.specs.Prelude.{◌≡◌, ◌≤◌, ℕ, max, [], true, is
 ghost use Rattle.std.specs.Arc.{arc_value};
 ghost use Rattle.shell_core.specs.Documents.{Docs};
 ghost use Rattle.live_words.specs.Asked.{IsInRange, asked_words};
-ghost use Rattle.live_session.specs.Talks.{at_door};
+ghost use Rattle.live_session.specs.Talks.{door_of};
 ghost use Rattle.live_run.specs.Runs.{file_of};
 ghost use Rattle.live_server.specs.Statuses.{sessions_status, kept_status};
 ghost use Rattle.live_server.specs.Serving.{documents_of, out_at, sessions_asked, TellsLine, LiveEnds};
@@ -116,7 +116,7 @@ fn held<
     requires asked { IsInRange asked.now }
     requires named { is_some (asked_words asked.now).journal ≡ is_some journal }
     requires begins { (arc_value version).journal ≡ [] }
-    ensures ends { (holds : Docs) (f f' : ℕ) → StartsRun holds (documents_of (asked_words asked.now)) (arc_value version) → LiveEnds (λ door. at_door (D.left door) (D.trace door) (D.faults door)) (N.lines around.now.hall.now) (is_some journal) (sessions_asked (asked_words asked.now)) holds f f' (documents_of (asked_words asked.now)) (file_of F.written journal) (file_of F.written result.journal) (out_at (K.written out.old) (K.faults out.old)) (out_at (K.written out.new) (K.faults out.new)) result.sessions.items result.status }
+    ensures ends { (holds : Docs) (f f' : ℕ) → StartsRun holds (documents_of (asked_words asked.now)) (arc_value version) → LiveEnds (door_of D.left D.trace D.faults) (N.lines around.now.hall.now) (is_some journal) (sessions_asked (asked_words asked.now)) holds f f' (documents_of (asked_words asked.now)) (file_of F.written F.faults journal) (file_of F.written F.faults result.journal) (out_at (K.written out.old) (K.faults out.old)) (out_at (K.written out.new) (K.faults out.new)) result.sessions.items result.status }
 {
     let plan = LivePlan {
         hall: around.hall,
@@ -150,7 +150,7 @@ pub(crate) fn held_end<
     requires asked { IsInRange asked.now }
     requires named { is_some journal ≡ true → is_some (asked_words asked.now).journal ≡ true }
     requires begins { (arc_value version).journal ≡ [] }
-    ensures ends { (holds : Docs) (f f' : ℕ) → StartsRun holds (documents_of (asked_words asked.now)) (arc_value version) → LiveEnds (λ door. at_door (D.left door) (D.trace door) (D.faults door)) (N.lines around.now.hall.now) (is_some journal) (sessions_asked (asked_words asked.now)) holds f f' (documents_of (asked_words asked.now)) (file_of F.written journal) (file_of F.written result.journal) (out_at (K.written out.old) (K.faults out.old)) (out_at (K.written out.new) (K.faults out.new)) result.sessions.items result.status }
+    ensures ends { (holds : Docs) (f f' : ℕ) → StartsRun holds (documents_of (asked_words asked.now)) (arc_value version) → LiveEnds (door_of D.left D.trace D.faults) (N.lines around.now.hall.now) (is_some journal) (sessions_asked (asked_words asked.now)) holds f f' (documents_of (asked_words asked.now)) (file_of F.written F.faults journal) (file_of F.written F.faults result.journal) (out_at (K.written out.old) (K.faults out.old)) (out_at (K.written out.new) (K.faults out.new)) result.sessions.items result.status }
 {
     if asked.journal.is_some() && journal.is_none() {
         Version::discard(version);

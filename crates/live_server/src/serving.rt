@@ -1,7 +1,7 @@
 //! The top call of a live run.
 
 ghost use Rattle.std.specs.Prelude.{◌≡◌, ◌≤◌, true, is_some};
-ghost use Rattle.live_session.specs.Talks.{at_door};
+ghost use Rattle.live_session.specs.Talks.{door_of};
 ghost use Rattle.live_words.specs.Asked.{IsInRange, asked_words};
 ghost use Rattle.live_run.specs.Runs.{file_of};
 ghost use Rattle.live_server.specs.Serving.{documents_of, out_at, sessions_asked, LiveEnds, RefusesWords};
@@ -75,7 +75,7 @@ pub fn serve_live<
 ) -> LiveLeft<D, F>
     requires asked { IsInRange asked.now }
     requires named { is_some journal ≡ true → is_some (asked_words asked.now).journal ≡ true }
-    ensures ends { LiveEnds (λ door. at_door (D.left door) (D.trace door) (D.faults door)) (N.lines around.now.hall.now) (is_some journal) (sessions_asked (asked_words asked.now)) (S.holds shelf.old) (S.faults shelf.old) (S.faults shelf.new) (documents_of (asked_words asked.now)) (file_of F.written journal) (file_of F.written result.journal) (out_at (K.written out.old) (K.faults out.old)) (out_at (K.written out.new) (K.faults out.new)) result.sessions.items result.status }
+    ensures ends { LiveEnds (door_of D.left D.trace D.faults) (N.lines around.now.hall.now) (is_some journal) (sessions_asked (asked_words asked.now)) (S.holds shelf.old) (S.faults shelf.old) (S.faults shelf.new) (documents_of (asked_words asked.now)) (file_of F.written F.faults journal) (file_of F.written F.faults result.journal) (out_at (K.written out.old) (K.faults out.old)) (out_at (K.written out.new) (K.faults out.new)) result.sessions.items result.status }
     ensures kept { S.holds shelf.new ≡ S.holds shelf.old }
     ensures rising { S.faults shelf.old ≤ S.faults shelf.new }
 {

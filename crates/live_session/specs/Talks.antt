@@ -141,6 +141,10 @@ pub record AtDoor : Type 0 where
 abbrev pub at_door : Option (List (List ℕ)) → Option (List Deed) → ℕ → AtDoor
 at_door left trace faults = record { left = left; trace = trace; faults = faults }
 
+-- what a door tells, by what it tells of each
+abbrev pub door_of : {D : Type 0} → (D → Option (List (List ℕ))) → (D → Option (List Deed)) → (D → ℕ) → D → AtDoor
+door_of left trace faults = λ door. at_door (left door) (trace door) (faults door)
+
 -- a session at a door, over what is known of its commands and their rows: these lines were heard, each item of theirs has its
 -- reply, and what was done at the door is to tell each reply before the next line was heard
 pub record IsTalk (Ran : List Command → List Row → Type 0) (way : Telling) (ended : Bool) (old new : AtDoor) (lines : List (List ℕ)) (replies : List Reply) : Type 0 where

@@ -2,7 +2,7 @@
 
 ghost use Rattle.std.specs.Prelude.{◌≡◌, ◌≤◌, List, [], IfOk, IfErr, OnOk, OnErr, Some, None};
 ghost use Rattle.live_doors.specs.Doors.{Grows, Loses};
-ghost use Rattle.live_session.specs.Talks.{at_door, telling, reply_text, marks_of, is_clean, IsKept, IsUnkept};
+ghost use Rattle.live_session.specs.Talks.{door_of, telling, reply_text, marks_of, is_clean, IsKept, IsUnkept};
 ghost use Rattle.live_session.specs.Turns.{Remains, Tells};
 
 use crate::replies::{Keeping, Manner, Reply, TalkEnd, Untold};
@@ -62,7 +62,7 @@ pub fn tell<D: Door, S: Keeping>(
 ) -> Option<TalkEnd>
     ensures same { Remains (S.ran session.old) (S.ran session.new) }
     ensures rises { S.safe session.old ≤ S.safe session.new }
-    ensures told { Tells (telling (S.safe session.new) (S.torn session.new) manner.now) reply.now (at_door (D.left door.old) (D.trace door.old) (D.faults door.old)) (at_door (D.left door.new) (D.trace door.new) (D.faults door.new)) result }
+    ensures told { Tells (telling (S.safe session.new) (S.torn session.new) manner.now) reply.now (door_of D.left D.trace D.faults door.old) (door_of D.left D.trace D.faults door.new) result }
 {
     match reply_bytes(alloc, manner, reply) {
         Ok(text) => match mark(alloc, door, session, manner, reply) {

@@ -6,7 +6,7 @@ ghost use Rattle.version_board.specs.Callers.{IsSeatOf, IsSame, IsNew};
 ghost use Rattle.session_engine.specs.Looking.{meant, Holds};
 ghost use Rattle.session_engine.specs.Running.{is_runnable};
 ghost use Rattle.script_reader.specs.LiveKept.{can_be_answered};
-ghost use Rattle.live_session.specs.Talks.{at_door, telling};
+ghost use Rattle.live_session.specs.Talks.{door_of, telling};
 ghost use Rattle.live_session.specs.Turns.{Runs, Tells};
 ghost use Rattle.seated_session.specs.Seated.{HasAnswered, RanAt};
 
@@ -189,7 +189,7 @@ impl<H: Wait, F: Sink + Drop, G, B: Room<Design>> SeatedSession<'_, H, F, G, B> 
     ) -> Option<TalkEnd>
         ensures same { (self.new.seat ≡ self.old.seat) × (self.new.held ≡ self.old.held) × (self.new.answered ≡ self.old.answered) }
         ensures rises { self.old.known.upto ≤ self.new.known.upto }
-        ensures told { Tells (telling self.new.known.upto self.new.known.torn manner.now) reply.now (at_door (D.left door.old) (D.trace door.old) (D.faults door.old)) (at_door (D.left door.new) (D.trace door.new) (D.faults door.new)) result }
+        ensures told { Tells (telling self.new.known.upto self.new.known.torn manner.now) reply.now (door_of D.left D.trace D.faults door.old) (door_of D.left D.trace D.faults door.new) result }
     {
         tell(alloc, door, &mut self.keeper, manner, reply)
     }

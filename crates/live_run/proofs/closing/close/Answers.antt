@@ -26,9 +26,9 @@ returns-clause-run g c manner begun new back =
     let parted : c.taken_apart-seats.result.sessions.items ≡ map parted_left c.args.ended.items = search rules in
     let is : IsVersion last = subst IsVersion c.deref.ensures c.laws.ensures in
     rw parted
-    (closed_run _ _ manner _ g.B.Room.about c.args.board c.taken_apart-seats.new.desk begun c.args.ended.items last c.into_parts-seat.result.file
+    (closed_run _ _ manner _ _ g.B.Room.about c.args.board c.taken_apart-seats.new.desk begun c.args.ended.items last c.into_parts-seat.result.file
     c.settle-journal.result.journal c.settle-journal.result.kept seats c.into_parts-seat.result.seat c.args.derates.now c.into_parts-seat.result.kept c.into_parts-seat.result.sound
-    new back c.requires.desk c.into_parts-seat.ensures.laws c.taken_apart-seats.ensures.confirmed c.into_parts-seat.ensures.file.0 c.into_parts-seat.ensures.seat
+    new back c.requires.desk c.into_parts-seat.ensures.laws c.taken_apart-seats.ensures.confirmed c.into_parts-seat.ensures.file.0 c.into_parts-seat.ensures.file.1 c.into_parts-seat.ensures.seat
     c.into_parts-seat.ensures.kept.0 c.into_parts-seat.ensures.kept.1 c.requires.derates are is c.close-last.ensures.value.1 c.close-last.ensures.value.0
     c.close-last.ensures.seats c.close-last.ensures.entries (search rules))
 

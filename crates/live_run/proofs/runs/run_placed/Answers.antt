@@ -1,4 +1,5 @@
 use Rattle.std.proofs.Common.{rules, ◌≡◌, ◌+◌, ◌≤◌, ◌++◌, ◌∷◌, [], length, map, sym, ap, ◌∙◌, subst, arith}
+use Rattle.live_run.specs.Runs.{AtFile}
 use Rattle.live_run.specs.Seating.{seat_in}
 use Rattle.live_run.specs.Sessions.{AreNew}
 use Rattle.live_run.proofs.BeginLaws.{desk_seat, desk_of, as_many}
@@ -9,6 +10,12 @@ begin-desk-requires-clause-seat g c =
     let parts : c.args.ready.seats.items ≡ c.pop.new.self.items ++ c.unwrap-seat.result ∷ [] = search rules in
     (desk_seat c.args.ready.board c.args.plan.now.sessions g.B.Room.about c.requires.board.0 c.requires.number c.args.ready.seats.items c.pop.new.self.items c.unwrap-seat.result
     parts c.requires.seats.0 c.requires.seats.1).0
+
+pub begin-desk-requires-clause-file : goal.begin-desk-requires-clause-file
+begin-desk-requires-clause-file g c = c.sink_of.ensures.text ∙ ap (λ (f : AtFile). f.text) c.requires.before
+
+pub begin-desk-requires-clause-faults : goal.begin-desk-requires-clause-faults
+begin-desk-requires-clause-faults g c = c.sink_of.ensures.faults ∙ ap (λ (f : AtFile). f.faults) c.requires.before
 
 pub run_beside-ended-requires-clause-begun : goal.run_beside-ended-requires-clause-begun
 run_beside-ended-requires-clause-begun g c κs within =

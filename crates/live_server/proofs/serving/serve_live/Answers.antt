@@ -19,7 +19,7 @@ returns-in-Err-Refused-clause-ends g c =
     let f = g.S.Shelf.faults c.args.shelf.now in
     let f' = g.S.Shelf.faults c.read_begun.new.shelf in
     let refused = c.in-Err-Refused in
-    refused_ends holds f f' (documents_of (asked_words c.args.asked.now)) g.F.Sink.written
+    refused_ends holds f f' (documents_of (asked_words c.args.asked.now)) g.F.Sink.written g.F.Sink.faults
     (out_at (g.K.Sink.written c.args.out.now) (g.K.Sink.faults c.args.out.now))
     (out_at (g.K.Sink.written c.tell-status.new.out) (g.K.Sink.faults c.tell-status.new.out)) c.args.journal c.unheld.result.journal (is_some c.args.journal)
     refused.end.status refused.end.text.items c.deref.result.now c.unheld.result.sessions.items c.tell-status.result c.unheld.result.status _
