@@ -1,5 +1,6 @@
 -- What the contracts of doors, halls and journals cite.
 pub mod Doors
+pub mod Halls
 pub mod InMemory
 pub mod Lines
 pub mod Marks
