@@ -83,17 +83,23 @@ pub trait Door {
 
 /// Where sessions find their doors.
 pub trait Hall<D: Door> {
+    ghost use Rattle.live_doors.specs.declared.door.Lost.{Lost};
+
     /// The lines that come in at a seat, where the hall tells them.
     ghost lines: { Self → ℕ → Option (List (List ℕ)) };
+
+    /// The reasons that it may have to open no door at a seat.
+    ghost denies: { Self → ℕ → Lost → Type 0 };
 
     /// Opens the door of a seat, its input first; seats count from 1. Waits until both ends are there, so each
     /// session's own thread opens its door.
     ///
     /// # Errors
     ///
-    /// What could not be opened, or `Memory`.
+    /// What could not be opened, or `Memory`: only a reason for which the hall denies this seat its door.
     fn open(&self, alloc: Global, seat: u32) -> Result<D, Lost>
         ensures lines { IfOk result (λ door. D.left door ≡ lines self.now seat) }
         ensures untouched { IfOk result (λ door. IsUntouched (D.trace door)) }
-        ensures sound { IfOk result (λ door. D.faults door ≡ 0) };
+        ensures sound { IfOk result (λ door. D.faults door ≡ 0) }
+        ensures cause { IfErr result (λ lost. denies self.now seat lost) };
 }

@@ -1,7 +1,8 @@
 //! The halls of the system: the standard input and output, and named files and pipes.
 
-ghost use Rattle.std.specs.Prelude.{None};
+ghost use Rattle.std.specs.Prelude.{◌≡◌, ◌-◌, None, slice_get};
 ghost use Rattle.std.specs.Io.{WritesAtMost};
+ghost use Rattle.live_doors.specs.Halls.{DeniesNames};
 
 use crate::door::{Hall, Lost};
 use crate::open_door::OpenDoor;
@@ -45,7 +46,11 @@ impl<R: Input + Print + Copy + Drop> StandardHall<R> {
 }
 
 impl<R: Input + Print + Copy + Drop> Hall<StandardDoor<R>> for StandardHall<R> {
+    ghost use Rattle.live_doors.specs.declared.door.Lost.{Lost};
+
     ghost lines = { λ _ _. None };
+
+    ghost denies = { λ _ _ lost. lost ≡ Lost.Memory };
 
     fn open(&self, alloc: Global, _seat: u32) -> Result<StandardDoor<R>, Lost> {
         let Ok(input) = BufReader::new(alloc, self.rt.reader()) else {
@@ -102,6 +107,8 @@ fn open_output<R: Files>(rt: &R, name: &str) -> Result<R::File, Lost> {
 
 impl<R: Files> Hall<NamedDoor<R>> for NamedHall<'_, R> {
     ghost lines = { λ _ _. None };
+
+    ghost denies = { λ hall seat lost. DeniesNames (slice_get hall.inputs.items (seat - 1)) (slice_get hall.outputs.items (seat - 1)) lost };
 
     fn open(&self, alloc: Global, seat: u32) -> Result<NamedDoor<R>, Lost> {
         let at = seat.saturating_sub(1) as usize;

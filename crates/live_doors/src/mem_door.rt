@@ -2,7 +2,7 @@
 
 ghost use Rattle.std.specs.Prelude.{◌≡◌, ◌≤◌, [], ◌∷◌, ◌++◌, Some, IfOk, IfErr, IfSome, OnOk, OnErr, drop, is_ok, length, map, not, option_map, slice_get, take, vec_items, ◌-◌};
 ghost use Rattle.live_doors.specs.Doors.{kept, said, Hears, Loses, Grows, SaysPart, HasCause};
-ghost use Rattle.live_doors.specs.InMemory.{done_deed, kept_lines, next_fails, after_call, HearsBy, said_by};
+ghost use Rattle.live_doors.specs.InMemory.{done_deed, kept_lines, next_fails, after_call, HearsBy, said_by, DeniesSeat};
 ghost use Rattle.live_doors.specs.Lines.{kept_length};
 ghost use Rattle.live_doors.specs.Marks.{deeds};
 ghost use Rattle.sta_outside.specs.Shelf.{Rose};
@@ -138,7 +138,8 @@ pub struct MemSeat {
     pub fails: Vec<u64>,
 }
 
-/// A hall in memory, which tells the lines of its seats.
+/// A hall in memory, which tells the lines of its seats. It has no input at a seat that it was not made with, and
+/// at the others only memory can be wanting.
 #[derive(Drop)]
 pub struct MemHall {
     seats: Vec<MemSeat>,
@@ -177,6 +178,8 @@ fn door_of(alloc: Global, seat: &MemSeat) -> Result<MemDoor, Memory>
 
 impl Hall<MemDoor> for MemHall {
     ghost lines = { λ hall seat. option_map (λ found. kept_lines found.lines.items) (slice_get hall.seats.items (seat - 1)) };
+
+    ghost denies = { λ hall seat lost. DeniesSeat (slice_get hall.seats.items (seat - 1)) lost };
 
     fn open(&self, alloc: Global, seat: u32) -> Result<MemDoor, Lost> {
         let Some(found) = self.seats.get(seat.saturating_sub(1) as usize) else {
