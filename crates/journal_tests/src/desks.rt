@@ -85,7 +85,8 @@ fn begun(rt: &impl Abort, alloc: Global) -> Opened
 }
 
 fn sink(rt: &impl Abort, alloc: Global, room: usize, fails: &[u64]) -> MemSink
-    ensures { result.bytes.items ≡ [] }
+    ensures bytes { result.bytes.items ≡ [] }
+    ensures faults { result.plan.faults ≡ 0 }
 {
     let fails = Vec::from_slice(alloc, fails).expect(rt, "memory");
     MemSink::new(alloc, room, fails).expect(rt, "memory")
@@ -240,8 +241,9 @@ fn kept_beside<R: Threads + Wait + Abort + Sync, B: Room<Here> + Send + Sync>(
     file: MemSink,
     count: u64,
 ) -> (Ended, u64, u64)
-    requires about { B.about ≡ record { table = opened.board.id; first = 0; origin = Some (record {}); number = 3; before = Some []; derates = no_derates; cell = opened.cell.table.shared.table_id } }
+    requires about { B.about ≡ record { table = opened.board.id; first = 0; origin = Some (record {}); number = 3; before = Some []; faults = 0; derates = no_derates; cell = opened.cell.table.shared.table_id } }
     requires file { file.bytes.items ≡ [] }
+    requires faults { file.plan.faults ≡ 0 }
     requires board { (opened.board.seats ≡ 3) × (opened.board.opening.first ≡ 0) }
     requires one { let l = ⟦<Log as Stands>⟧ in IsSeatOf (meaning l.entries l.from l.origin l.by) opened.board opened.one × (opened.one.view.number ≡ 1) }
     requires two { let l = ⟦<Log as Stands>⟧ in IsSeatOf (meaning l.entries l.from l.origin l.by) opened.board opened.two × (opened.two.view.number ≡ 2) }
@@ -314,8 +316,9 @@ fn kept_in_turn<R: Wait + Abort, B: Room<Here>>(
     opened: Opened,
     file: MemSink,
 ) -> (Ended, [Result<(), Unkept>; 4])
-    requires about { B.about ≡ record { table = opened.board.id; first = 0; origin = Some (record {}); number = 3; before = Some []; derates = no_derates; cell = opened.cell.table.shared.table_id } }
+    requires about { B.about ≡ record { table = opened.board.id; first = 0; origin = Some (record {}); number = 3; before = Some []; faults = 0; derates = no_derates; cell = opened.cell.table.shared.table_id } }
     requires file { file.bytes.items ≡ [] }
+    requires faults { file.plan.faults ≡ 0 }
     requires board { (opened.board.seats ≡ 3) × (opened.board.opening.first ≡ 0) }
     requires one { let l = ⟦<Log as Stands>⟧ in IsSeatOf (meaning l.entries l.from l.origin l.by) opened.board opened.one × (opened.one.view.number ≡ 1) }
     requires two { let l = ⟦<Log as Stands>⟧ in IsSeatOf (meaning l.entries l.from l.origin l.by) opened.board opened.two × (opened.two.view.number ≡ 2) }
