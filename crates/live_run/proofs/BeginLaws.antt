@@ -9,6 +9,7 @@ use Rattle.session_engine.specs.Versions.{Versioned}
 use Rattle.session_engine.specs.Looking.{meant}
 use Rattle.live_journal.specs.declared.desks.Unkept.{Unkept}
 use Rattle.live_journal.specs.Desk.{Setting, IsBoardOf, IsSeatAt}
+use Rattle.live_doors.specs.declared.door.Lost.{Lost}
 use Rattle.live_session.specs.declared.replies.Manner.{Manner}
 use Rattle.live_session.specs.Talks.{AtDoor}
 use Rattle.live_run.specs.declared.ended.Parted.{Parted}
@@ -48,34 +49,34 @@ module _ (b : Standing Versioned) (n : ℕ) (s : Setting Design) (of : IsBoardOf
   }
 
 -- as many as there are seats
-pub as_many : {D : Type 0} {B : _} (told : D → AtDoor) (lines : ℕ → Option (List (List ℕ))) (manner : Manner) (seats : List (Sitting Entry Design)) (ended : List (Ended D B))
-    → EachHandsBack told lines manner seats ended → length ended ≡ length seats
-as_many told lines manner [] [] back = refl
-as_many told lines manner (s ∷ seats) (e ∷ ended) back = let n = as_many told lines manner seats ended back.1 in omega (arith, n)
-as_many told lines manner [] (e ∷ ended) back = absurd back
-as_many told lines manner (s ∷ seats) [] back = absurd back
+pub as_many : {D : Type 0} {B : _} (told : D → AtDoor) (lines : ℕ → Option (List (List ℕ))) (denies : ℕ → Lost → Type 0) (manner : Manner) (seats : List (Sitting Entry Design)) (ended : List (Ended D B))
+    → EachHandsBack told lines denies manner seats ended → length ended ≡ length seats
+as_many told lines denies manner [] [] back = refl
+as_many told lines denies manner (s ∷ seats) (e ∷ ended) back = let n = as_many told lines denies manner seats ended back.1 in omega (arith, n)
+as_many told lines denies manner [] (e ∷ ended) back = absurd back
+as_many told lines denies manner (s ∷ seats) [] back = absurd back
 
 -- a run from a version's origin is one from that of an equal one
-pub run_alike : {D : Type 0} (told : D → AtDoor) (lines : ℕ → Option (List (List ℕ))) (manner other : Manner) (v w : Versioned) (J : List Entry)
+pub run_alike : {D : Type 0} (told : D → AtDoor) (lines : ℕ → Option (List (List ℕ))) (denies : ℕ → Lost → Type 0) (manner other : Manner) (v w : Versioned) (J : List Entry)
     (before after : AtFile) (derates factors : Derates) (parted : List (Parted D)) (kept : Result Unit Unkept) → manner ≡ other → v ≡ w → derates ≡ factors
-    → IsLiveRun told lines manner v.origin v.first J before after derates parted kept → IsLiveRun told lines other w.origin w.first J before after factors parted kept
-run_alike told lines manner other v w J before after derates factors parted kept same is alike run =
-    subst (λ (x : Versioned). IsLiveRun told lines other x.origin x.first J before after factors parted kept) is
-    (subst (λ d. IsLiveRun told lines other v.origin v.first J before after d parted kept) alike
-    (subst (λ m. IsLiveRun told lines m v.origin v.first J before after derates parted kept) same run))
+    → IsLiveRun told lines denies manner v.origin v.first J before after derates parted kept → IsLiveRun told lines denies other w.origin w.first J before after factors parted kept
+run_alike told lines denies manner other v w J before after derates factors parted kept same is alike run =
+    subst (λ (x : Versioned). IsLiveRun told lines denies other x.origin x.first J before after factors parted kept) is
+    (subst (λ d. IsLiveRun told lines denies other v.origin v.first J before after d parted kept) alike
+    (subst (λ m. IsLiveRun told lines denies m v.origin v.first J before after derates parted kept) same run))
 
 module _ {D F : Type 0} (written : F → Option (List ℕ)) (faults : F → ℕ) (r : Result (LiveClosed D F) (Option F)) where
-  pub runs_alike : (told : D → AtDoor) (lines : ℕ → Option (List (List ℕ))) (manner other : Manner) (v w : Versioned) (before : AtFile) (derates factors : Derates)
+  pub runs_alike : (told : D → AtDoor) (lines : ℕ → Option (List (List ℕ))) (denies : ℕ → Lost → Type 0) (manner other : Manner) (v w : Versioned) (before : AtFile) (derates factors : Derates)
       → manner ≡ other → v ≡ w → derates ≡ factors
-      → IfOk r (λ (c : LiveClosed D F). IsLiveRun told lines manner v.origin v.first (arc_value c.last).journal before (file_of written faults c.journal) derates c.sessions.items c.kept)
-      → IfOk r (λ (c : LiveClosed D F). IsLiveRun told lines other w.origin w.first (arc_value c.last).journal before (file_of written faults c.journal) factors c.sessions.items c.kept)
-  runs_alike told lines manner other v w before derates factors same is alike h = alike_at r h
+      → IfOk r (λ (c : LiveClosed D F). IsLiveRun told lines denies manner v.origin v.first (arc_value c.last).journal before (file_of written faults c.journal) derates c.sessions.items c.kept)
+      → IfOk r (λ (c : LiveClosed D F). IsLiveRun told lines denies other w.origin w.first (arc_value c.last).journal before (file_of written faults c.journal) factors c.sessions.items c.kept)
+  runs_alike told lines denies manner other v w before derates factors same is alike h = alike_at r h
     where
       alike_at : (x : Result (LiveClosed D F) (Option F))
-          → IfOk x (λ (c : LiveClosed D F). IsLiveRun told lines manner v.origin v.first (arc_value c.last).journal before (file_of written faults c.journal) derates c.sessions.items c.kept)
-          → IfOk x (λ (c : LiveClosed D F). IsLiveRun told lines other w.origin w.first (arc_value c.last).journal before (file_of written faults c.journal) factors c.sessions.items c.kept)
+          → IfOk x (λ (c : LiveClosed D F). IsLiveRun told lines denies manner v.origin v.first (arc_value c.last).journal before (file_of written faults c.journal) derates c.sessions.items c.kept)
+          → IfOk x (λ (c : LiveClosed D F). IsLiveRun told lines denies other w.origin w.first (arc_value c.last).journal before (file_of written faults c.journal) factors c.sessions.items c.kept)
       alike_at (Ok c) run =
-          run_alike told lines manner other v w (arc_value c.last).journal before (file_of written faults c.journal) derates factors c.sessions.items c.kept same is alike run
+          run_alike told lines denies manner other v w (arc_value c.last).journal before (file_of written faults c.journal) derates factors c.sessions.items c.kept same is alike run
       alike_at (Err j) run = tt
 
   pub file_alike : (journal : Option F) → IfErr r (λ j. j ≡ journal) → IfErr r (λ j. file_of written faults j ≡ file_of written faults journal)

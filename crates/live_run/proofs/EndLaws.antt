@@ -17,6 +17,7 @@ use Rattle.live_journal.specs.declared.sinks.JournalSink.{JournalSink}
 use Rattle.live_journal.specs.Desk.{single, Setting, Keeping, IsDesk, IsSeatAt, IsBoardOf, HasFile}
 use Rattle.live_journal.specs.Sinks.{written_of, faults_of}
 use Rattle.live_journal.proofs.Kept.{file_closed}
+use Rattle.live_doors.specs.declared.door.Lost.{Lost}
 use Rattle.live_session.specs.declared.replies.Manner.{Manner}
 use Rattle.live_session.specs.Talks.{AtDoor, telling}
 use Rattle.live_run.specs.declared.ended.Ended.{Ended}
@@ -52,24 +53,24 @@ of_others seats d J agrees none whose =
 
 module _ {D : Type 0} where
   -- the seats that come back are the board's
-  pub seats_fit : {B : _} (told : D → AtDoor) (lines : ℕ → Option (List (List ℕ))) (manner : Manner) (b : Standing Versioned) (n : ℕ)
-      (begun : List Seated) (ended : List (Ended D B)) → AreNew b n begun → EachHandsBack told lines manner begun ended
+  pub seats_fit : {B : _} (told : D → AtDoor) (lines : ℕ → Option (List (List ℕ))) (denies : ℕ → Lost → Type 0) (manner : Manner) (b : Standing Versioned) (n : ℕ)
+      (begun : List Seated) (ended : List (Ended D B)) → AreNew b n begun → EachHandsBack told lines denies manner begun ended
       → All (IsSeatOf meant b) (map seat_left ended)
-  seats_fit told lines manner b n [] [] new back = All-nil (IsSeatOf meant b)
-  seats_fit told lines manner b n (s ∷ begun) (e ∷ ended) new back =
+  seats_fit told lines denies manner b n [] [] new back = All-nil (IsSeatOf meant b)
+  seats_fit told lines denies manner b n (s ∷ begun) (e ∷ ended) new back =
       All-cons (IsSeatOf meant b) e.seat (map seat_left ended)
       (back.0.same.0 ∙ new.1.0, back.0.same.3 ∙ new.1.1, back.0.same.2 ∙ new.1.2)
-      (seats_fit told lines manner b (n + 1) begun ended new.2 back.1)
-  seats_fit told lines manner b n [] (e ∷ ended) new back = absurd back
-  seats_fit told lines manner b n (s ∷ begun) [] new back = absurd back
+      (seats_fit told lines denies manner b (n + 1) begun ended new.2 back.1)
+  seats_fit told lines denies manner b n [] (e ∷ ended) new back = absurd back
+  seats_fit told lines denies manner b n (s ∷ begun) [] new back = absurd back
 
   -- and so is the desk's
-  pub all_fit : {B : _} (told : D → AtDoor) (lines : ℕ → Option (List (List ℕ))) (manner : Manner) (b : Standing Versioned) (s : Setting Design) (desk : Seated)
-      (begun : List Seated) (ended : List (Ended D B)) (seats : List Seated) → AreNew b 1 begun → EachHandsBack told lines manner begun ended
+  pub all_fit : {B : _} (told : D → AtDoor) (lines : ℕ → Option (List (List ℕ))) (denies : ℕ → Lost → Type 0) (manner : Manner) (b : Standing Versioned) (s : Setting Design) (desk : Seated)
+      (begun : List Seated) (ended : List (Ended D B)) (seats : List Seated) → AreNew b 1 begun → EachHandsBack told lines denies manner begun ended
       → IsBoardOf meant s b → IsSeatAt s desk → seats ≡ map seat_left ended ++ desk ∷ [] → All (IsSeatOf meant b) seats
-  all_fit told lines manner b s desk begun ended seats new back board sits are =
+  all_fit told lines denies manner b s desk begun ended seats new back board sits are =
       subst (All (IsSeatOf meant b)) (sym are)
-      (All-append (IsSeatOf meant b) (map seat_left ended) (desk ∷ []) (seats_fit told lines manner b 1 begun ended new back)
+      (All-append (IsSeatOf meant b) (map seat_left ended) (desk ∷ []) (seats_fit told lines denies manner b 1 begun ended new back)
       (All-cons (IsSeatOf meant b) desk [] (sits.0 ∙ sym board.0, sits.1 ∙ sym board.1, sits.2 ∙ sym board.2) (All-nil (IsSeatOf meant b))))
 
   -- there are as many as the board has
@@ -80,21 +81,21 @@ module _ {D : Type 0} where
       let long : length (map seat_left ended ++ desk ∷ []) ≡ length (map seat_left ended) + 1 = length-append (map seat_left ended) (desk ∷ []) in
       ap length are ∙ long ∙ ap (λ n. n + 1) many ∙ sym of.seats
 
-  module _ {B : _} {F : Type 0} (told : D → AtDoor) (lines : ℕ → Option (List (List ℕ))) (manner : Manner) (written : F → Option (List ℕ)) (faults : F → ℕ) (s : Setting Design)
+  module _ {B : _} {F : Type 0} (told : D → AtDoor) (lines : ℕ → Option (List (List ℕ))) (denies : ℕ → Lost → Type 0) (manner : Manner) (written : F → Option (List ℕ)) (faults : F → ℕ) (s : Setting Design)
       (b : Standing Versioned) (d : Keeping Entry Design) (begun : List Seated) (ended : List (Ended D B)) (last : Versioned) (sink : JournalSink F)
       (journal : Option F) (kept : Result Unit Unkept) where
     -- the closed journal, what sessions leave and the file are a live run
-    pub closed_run : (seats : List Seated) (seat : Seated) (derates : Derates) (upto : ℕ) (sound : Bool) → AreNew b 1 begun → EachHandsBack told lines manner begun ended
+    pub closed_run : (seats : List Seated) (seat : Seated) (derates : Derates) (upto : ℕ) (sound : Bool) → AreNew b 1 begun → EachHandsBack told lines denies manner begun ended
         → IsDeskOf s b (length ended) → IsDesk (λ derates from es. blocks_text derates from (single es)) s d → AreConfirmed d.kept d.sound ended
         → written_of written sink ≡ d.file → faults_of faults sink ≡ d.faults → seat ≡ d.seat → upto ≡ d.kept → sound ≡ d.sound → derates ≡ s.derates
         → seats ≡ map seat_left ended ++ seat ∷ [] → IsVersion last → last.origin ≡ b.opening.origin → last.first ≡ b.opening.first
         → All (AgreesWith session_of last.journal) seats → All (λ (e : Entry). Contains (map number seats) e.session) last.journal
         → Settles written faults derates last.first last.journal upto sound sink journal kept
-        → IsLiveRun told lines manner b.opening.origin b.opening.first last.journal (file_before s) (file_of written faults journal) s.derates (map parted_left ended) kept
+        → IsLiveRun told lines denies manner b.opening.origin b.opening.first last.journal (file_before s) (file_of written faults journal) s.derates (map parted_left ended) kept
     closed_run seats seat derates upto sound new back of desk sure same count sits stands well factors parts is origin first agree whose settles =
         let J = last.journal in
         let are : seats ≡ map seat_left ended ++ d.seat ∷ [] = parts ∙ ap (λ (t : Seated). map seat_left ended ++ t ∷ []) sits in
-        let here = scripted told lines manner d.kept d.sound b 1 begun ended new back sure in
+        let here = scripted told lines denies manner d.kept d.sound b 1 begun ended new back sure in
         let split = All-pop (AgreesWith session_of J) seats (map seat_left ended) (Some d.seat) are agree in
         let others = of_others (map seat_left ended) d.seat J split.1 desk.sits.4 (subst (λ l. All (λ (e : Entry). Contains (map number l) e.session) J) are whose) in
         let whole = whole_run b begun (map seat_left ended) here.scripts here.ts last new here.ran is origin split.0 others in

@@ -11,6 +11,7 @@ use Rattle.version_board.specs.Callers.{Standing, Sitting, IsSeatOf, IsSame, IsN
 use Rattle.session_engine.specs.Versions.{Versioned}
 use Rattle.session_engine.specs.Looking.{meant}
 use Rattle.session_engine.specs.Running.{Ran}
+use Rattle.live_doors.specs.declared.door.Lost.{Lost}
 use Rattle.live_session.specs.declared.replies.Manner.{Manner}
 use Rattle.live_session.specs.declared.replies.TalkEnd.{TalkEnd}
 use Rattle.live_session.specs.Talks.{AtDoor, Telling, telling, Exactly}
@@ -43,37 +44,37 @@ failed_still torn sound fails is = ap not (fails is)
 
 module _ {D : Type 0} (told : D → AtDoor) where
   -- what a session told stays so where more is known of the journal
-  parted_still : (lines : Option (List (List ℕ))) (manner : Manner) (safe upto : ℕ) (failed torn : Bool) (commands : List Command) (rows : List Row)
+  parted_still : (lines : Option (List (List ℕ))) (denies : Lost → Type 0) (manner : Manner) (safe upto : ℕ) (failed torn : Bool) (commands : List Command) (rows : List Row)
       (door : Option D) (clean : Bool) (end : TalkEnd) → safe ≤ upto → (failed ≡ true → torn ≡ true)
-      → IsParted told lines (telling safe failed manner) commands rows door clean end → IsParted told lines (telling upto torn manner) commands rows door clean end
-  parted_still lines manner safe upto failed torn commands rows (Some door) clean end rises stays (start, opened, talked) =
+      → IsParted told lines denies (telling safe failed manner) commands rows door clean end → IsParted told lines denies (telling upto torn manner) commands rows door clean end
+  parted_still lines denies manner safe upto failed torn commands rows (Some door) clean end rises stays (start, opened, talked) =
       (start, opened, safer (Exactly commands rows) (telling safe failed manner) start (told door) upto torn rises stays clean end talked)
-  parted_still lines manner safe upto failed torn commands rows None clean end rises stays h = h
+  parted_still lines denies manner safe upto failed torn commands rows None clean end rises stays h = h
 
   -- sessions by their scripts and transcripts
-  pub record Scripted {B : _} (lines : ℕ → Option (List (List ℕ))) (way : Telling) (n : ℕ) (begun : List (Sitting Entry Design)) (ended : List (Ended D B)) : Type 0 where
+  pub record Scripted {B : _} (lines : ℕ → Option (List (List ℕ))) (denies : ℕ → Lost → Type 0) (way : Telling) (n : ℕ) (begun : List (Sitting Entry Design)) (ended : List (Ended D B)) : Type 0 where
     pub scripts : List Script
     pub ts : List Transcript
     pub ran : EachRan begun (map seat_left ended) scripts ts
-    pub each : EachParted told lines way n scripts ts (map parted_left ended)
+    pub each : EachParted told lines denies way n scripts ts (map parted_left ended)
 
-  pub scripted : {B : _} (lines : ℕ → Option (List (List ℕ))) (manner : Manner) (upto : ℕ) (sound : Bool) (b : Standing Versioned) (n : ℕ)
-      (begun : List (Sitting Entry Design)) (ended : List (Ended D B)) → AreNew b n begun → EachHandsBack told lines manner begun ended
-      → AreConfirmed upto sound ended → Scripted lines (telling upto (not sound) manner) n begun ended
-  scripted lines manner upto sound b n [] [] new back sure = record { scripts = []; ts = []; ran = tt; each = tt }
-  scripted lines manner upto sound b n (s ∷ begun) (e ∷ ended) new back sure =
+  pub scripted : {B : _} (lines : ℕ → Option (List (List ℕ))) (denies : ℕ → Lost → Type 0) (manner : Manner) (upto : ℕ) (sound : Bool) (b : Standing Versioned) (n : ℕ)
+      (begun : List (Sitting Entry Design)) (ended : List (Ended D B)) → AreNew b n begun → EachHandsBack told lines denies manner begun ended
+      → AreConfirmed upto sound ended → Scripted lines denies (telling upto (not sound) manner) n begun ended
+  scripted lines denies manner upto sound b n [] [] new back sure = record { scripts = []; ts = []; ran = tt; each = tt }
+  scripted lines denies manner upto sound b n (s ∷ begun) (e ∷ ended) new back sure =
       let one = back.0 in
-      let rest = scripted lines manner upto sound b (n + 1) begun ended new.2 back.1 sure.2 in
+      let rest = scripted lines denies manner upto sound b (n + 1) begun ended new.2 back.1 sure.2 in
       record {
         scripts = record { commands = one.commands } ∷ rest.scripts;
         ts = record { rows = one.rows } ∷ rest.ts;
         ran = ((one.same, ran_there n s e.seat one.commands one.rows new.0 one.same one.ran), rest.ran);
         each = (
-          subst (λ k. IsParted told (lines k) (telling upto (not sound) manner) one.commands one.rows e.parted.door e.parted.outcome.clean e.parted.outcome.end) new.0.0
-              (parted_still (lines s.view.number) manner e.receipt.upto upto e.receipt.torn (not sound) one.commands one.rows e.parted.door e.parted.outcome.clean e.parted.outcome.end
+          subst (λ k. IsParted told (lines k) (denies k) (telling upto (not sound) manner) one.commands one.rows e.parted.door e.parted.outcome.clean e.parted.outcome.end) new.0.0
+              (parted_still (lines s.view.number) (denies s.view.number) manner e.receipt.upto upto e.receipt.torn (not sound) one.commands one.rows e.parted.door e.parted.outcome.clean e.parted.outcome.end
               sure.0 (failed_still e.receipt.torn sound sure.1) one.left),
           rest.each,
         );
       }
-  scripted lines manner upto sound b n [] (e ∷ ended) new back sure = absurd back
-  scripted lines manner upto sound b n (s ∷ begun) [] new back sure = absurd back
+  scripted lines denies manner upto sound b n [] (e ∷ ended) new back sure = absurd back
+  scripted lines denies manner upto sound b n (s ∷ begun) [] new back sure = absurd back

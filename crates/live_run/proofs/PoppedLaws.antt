@@ -7,6 +7,7 @@ use Rattle.timing_defs.specs.declared.edits.Entry.{Entry}
 use Rattle.version_board.specs.Callers.{Standing, Sitting, IsSeatOf, IsNew}
 use Rattle.session_engine.specs.Versions.{Versioned}
 use Rattle.session_engine.specs.Looking.{meant}
+use Rattle.live_doors.specs.declared.door.Lost.{Lost}
 use Rattle.live_session.specs.declared.replies.Manner.{Manner}
 use Rattle.live_session.specs.Talks.{AtDoor}
 use Rattle.live_run.specs.declared.ended.Parted.{Parted}
@@ -59,13 +60,13 @@ module _ {D : Type 0} {B : _} where
       subst (AreConfirmed kept sound) (sym parts) (confirmed_more kept sound ended e sure low fails)
 
   -- what a session hands back by its seat and its manner it does by equal ones
-  pub hands_still : (told : D → AtDoor) (lines : ℕ → Option (List (List ℕ))) (m n : Manner) (s t : Sitting Entry Design) (e : Ended D B) → m ≡ n → s ≡ t
-      → HandsBack told lines m s e → HandsBack told lines n t e
-  hands_still told lines m n s t e same is h = subst (λ x. HandsBack told lines n x e) is (subst (λ x. HandsBack told lines x s e) same h)
+  pub hands_still : (told : D → AtDoor) (lines : ℕ → Option (List (List ℕ))) (denies : ℕ → Lost → Type 0) (m n : Manner) (s t : Sitting Entry Design) (e : Ended D B) → m ≡ n → s ≡ t
+      → HandsBack told lines denies m s e → HandsBack told lines denies n t e
+  hands_still told lines denies m n s t e same is h = subst (λ x. HandsBack told lines denies n x e) is (subst (λ x. HandsBack told lines denies x s e) same h)
 
-  module _ (told : D → AtDoor) (lines : ℕ → Option (List (List ℕ))) (manner : Manner) where
+  module _ (told : D → AtDoor) (lines : ℕ → Option (List (List ℕ))) (denies : ℕ → Lost → Type 0) (manner : Manner) where
     each_more : (seats : List (Sitting Entry Design)) (ended : List (Ended D B)) (s : Sitting Entry Design) (e : Ended D B)
-        → EachHandsBack told lines manner seats ended → HandsBack told lines manner s e → EachHandsBack told lines manner (seats ++ s ∷ []) (ended ++ e ∷ [])
+        → EachHandsBack told lines denies manner seats ended → HandsBack told lines denies manner s e → EachHandsBack told lines denies manner (seats ++ s ∷ []) (ended ++ e ∷ [])
     each_more [] [] s e h one = (one, tt)
     each_more (x ∷ seats) (f ∷ ended) s e h one = (h.0, each_more seats ended s e h.1 one)
     each_more [] (f ∷ ended) s e h one = absurd h
@@ -73,12 +74,12 @@ module _ {D : Type 0} {B : _} where
 
     -- one session behind others that handed back their seats
     pub each_popped : (all seatings : List (Seating B)) (x : Seating B) (ended more : List (Ended D B)) (e : Ended D B)
-        → all ≡ seatings ++ x ∷ [] → more ≡ ended ++ e ∷ [] → EachHandsBack told lines manner (map seat_in seatings) ended
-        → HandsBack told lines manner x.seat e → EachHandsBack told lines manner (map seat_in all) more
+        → all ≡ seatings ++ x ∷ [] → more ≡ ended ++ e ∷ [] → EachHandsBack told lines denies manner (map seat_in seatings) ended
+        → HandsBack told lines denies manner x.seat e → EachHandsBack told lines denies manner (map seat_in all) more
     each_popped all seatings x ended more e parts is h one =
-        subst (λ l. EachHandsBack told lines manner (map seat_in l) more) (sym parts)
-        (subst (λ l. EachHandsBack told lines manner l more) (sym (map-append seat_in seatings (x ∷ [])))
-        (subst (EachHandsBack told lines manner (map seat_in seatings ++ x.seat ∷ [])) (sym is)
+        subst (λ l. EachHandsBack told lines denies manner (map seat_in l) more) (sym parts)
+        (subst (λ l. EachHandsBack told lines denies manner l more) (sym (map-append seat_in seatings (x ∷ [])))
+        (subst (EachHandsBack told lines denies manner (map seat_in seatings ++ x.seat ∷ [])) (sym is)
         (each_more (map seat_in seatings) ended x.seat e h one)))
 
 -- the last of new seats that sessions begin at

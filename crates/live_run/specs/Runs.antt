@@ -11,6 +11,7 @@ use Rattle.session_engine.specs.Versions.{Versioned}
 use Rattle.live_journal.specs.declared.desks.Unkept.{Unkept}
 use Rattle.live_journal.specs.declared.desks.Unkept.TheVariants.{Failed, Memory}
 use Rattle.live_journal.specs.Desk.{HasFile, IsBlamed}
+use Rattle.live_doors.specs.declared.door.Lost.{Lost}
 use Rattle.live_session.specs.declared.replies.Manner.{Manner}
 use Rattle.live_session.specs.Talks.{AtDoor, telling}
 use Rattle.live_run.specs.declared.ended.Parted.{Parted}
@@ -41,7 +42,7 @@ IsKeptAll J count sound (Err Memory) = (sound ≡ true) × (count < length J)
 -- sessions beside each other over an initial design, behind `first` saved entries: by the commands that each of them read, and the rows that
 -- each of them answered, they are a whole run over J. The file is what it was, and then the blocks of the first entries of J, up to a number
 -- `upto` at least, and no row of a number above `upto` was told where a journal is kept. Where a put failed the file's count of faults rose
-pub record IsLiveRun {D : Type 0} (told : D → AtDoor) (lines : ℕ → Option (List (List ℕ))) (manner : Manner) (initial : Design) (first : ℕ) (J : List Entry)
+pub record IsLiveRun {D : Type 0} (told : D → AtDoor) (lines : ℕ → Option (List (List ℕ))) (denies : ℕ → Lost → Type 0) (manner : Manner) (initial : Design) (first : ℕ) (J : List Entry)
     (before after : AtFile) (derates : Derates) (parted : List (Parted D)) (kept : Result Unit Unkept) : Type 0 where
   pub scripts : List Script
   pub ts : List Transcript
@@ -50,7 +51,7 @@ pub record IsLiveRun {D : Type 0} (told : D → AtDoor) (lines : ℕ → Option 
   pub count : ℕ
   pub sound : Bool
   pub torn : Bool
-  pub each : EachParted told lines (telling upto torn manner) 1 scripts ts parted
+  pub each : EachParted told lines denies (telling upto torn manner) 1 scripts ts parted
   pub high : upto ≤ first + count
   pub broken : torn ≡ true → sound ≡ false
   pub file : HasFile before.text after.text derates first J count sound

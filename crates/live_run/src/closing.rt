@@ -42,11 +42,14 @@ fn taken_apart<R: Wait, D: Drop, F: Sink + Drop, B: Room<Design>>(
 ) -> ClosingRoom<D>
     requires cell { cell.now.table.shared.table_id ≡ B.about.cell }
     requires seats { (room.seats.items ≡ []) × (length ended.items + 1 ≤ vec_capacity room.seats) }
-    requires sessions { (room.sessions.items ≡ []) × (length ended.items ≤ vec_capacity room.sessions) }
+    requires sessions { (room.sessions.items ≡ [])
+        × (length ended.items ≤ vec_capacity room.sessions) }
     ensures same { desk.new ≡ desk.old }
     ensures confirmed { AreConfirmed desk.new.kept desk.new.sound ended.items }
-    ensures seats { (result.seats.items ≡ map seat_left ended.items) × (vec_capacity result.seats ≡ vec_capacity room.seats) }
-    ensures sessions { (result.sessions.items ≡ map parted_left ended.items) × (vec_capacity result.sessions ≡ vec_capacity room.sessions) }
+    ensures seats { (result.seats.items ≡ map seat_left ended.items)
+        × (vec_capacity result.seats ≡ vec_capacity room.seats) }
+    ensures sessions { (result.sessions.items ≡ map parted_left ended.items)
+        × (vec_capacity result.sessions ≡ vec_capacity room.sessions) }
 {
     match ended.pop() {
         None => {
@@ -87,7 +90,8 @@ fn settle<F: Sink + Drop>(
 ) -> Settled<F>
     requires low { last.now.first ≤ kept }
     requires high { kept ≤ last.now.first + length last.now.journal }
-    ensures { Settles F.written F.faults derates.now last.now.first last.now.journal kept sound sink result.journal result.kept }
+    ensures { Settles F.written F.faults derates.now last.now.first last.now.journal kept sound sink
+        result.journal result.kept }
 {
     match sink.into_file() {
         None => Settled {
@@ -116,12 +120,21 @@ pub(crate) fn close<R: Wait, D: Door + Drop, F: Sink + Drop, B: Room<Design> + L
     room: ClosingRoom<D>,
 ) -> LiveClosed<D, F>
     requires cell { cell.now.table.shared.table_id ≡ B.about.cell }
-    requires begun { (manner : Manner) × (begun : List (Sitting Entry Design)) × AreNew board 1 begun × EachHandsBack (door_of D.left D.trace D.faults) B.lines manner begun ended.items }
+    requires begun { (manner : Manner) × (begun : List (Sitting Entry Design))
+        × AreNew board 1 begun
+        × EachHandsBack (door_of D.left D.trace D.faults) B.lines B.denies manner begun
+        ended.items }
     requires desk { IsDeskOf B.about board (length ended.items) }
     requires derates { derates.now ≡ B.about.derates }
     requires seats { (room.seats.items ≡ []) × (length ended.items + 1 ≤ vec_capacity room.seats) }
-    requires sessions { (room.sessions.items ≡ []) × (length ended.items ≤ vec_capacity room.sessions) }
-    ensures run { (manner : Manner) (begun : List (Sitting Entry Design)) → AreNew board 1 begun → EachHandsBack (door_of D.left D.trace D.faults) B.lines manner begun ended.items → IsLiveRun (door_of D.left D.trace D.faults) B.lines manner board.opening.origin board.opening.first (arc_value result.last).journal (file_before B.about) (file_of F.written F.faults result.journal) B.about.derates result.sessions.items result.kept }
+    requires sessions { (room.sessions.items ≡ [])
+        × (length ended.items ≤ vec_capacity room.sessions) }
+    ensures run { (manner : Manner) (begun : List (Sitting Entry Design)) → AreNew board 1 begun
+        → EachHandsBack (door_of D.left D.trace D.faults) B.lines B.denies manner begun ended.items
+        → IsLiveRun (door_of D.left D.trace D.faults) B.lines B.denies manner board.opening.origin
+        board.opening.first (arc_value result.last).journal (file_before B.about)
+        (file_of F.written F.faults result.journal) B.about.derates result.sessions.items
+        result.kept }
     ensures many { length result.sessions.items ≡ length ended.items }
     ensures last { IsVersion (arc_value result.last) }
     ensures first { (arc_value result.last).first ≡ board.opening.first }

@@ -11,7 +11,7 @@ ghost use Rattle.live_session.specs.Talks.{door_of};
 ghost use Rattle.live_run.specs.Runs.{file_of, IsLiveRun, manner_of};
 ghost use Rattle.live_run.specs.Closing.{file_before};
 ghost use Rattle.live_run.specs.Seating.{seat_in};
-ghost use Rattle.live_run.specs.Sessions.{AreNew};
+ghost use Rattle.live_run.specs.Sessions.{AreNew, Denies};
 
 use crate::closing::{ClosingRoom, close};
 use crate::ended::{Ended, LiveClosed};
@@ -63,12 +63,18 @@ pub fn run_live<
     requires sessions { (1 ≤ plan.now.sessions) × (plan.now.sessions ≤ 16) }
     requires workers { (1 ≤ plan.now.workers) × (plan.now.workers ≤ 32) }
     requires begins { (arc_value version).journal ≡ [] }
-    ensures run { IfOk result (λ c. IsLiveRun (door_of D.left D.trace D.faults) (N.lines plan.now.hall.now) (manner_of (arc_value version) journal) (arc_value version).origin (arc_value version).first (arc_value c.last).journal (file_of F.written F.faults journal) (file_of F.written F.faults c.journal) (arc_value version).stored.design.constraints.derates c.sessions.items c.kept) }
+    ensures run { IfOk result
+        (λ c. IsLiveRun (door_of D.left D.trace D.faults) (N.lines plan.now.hall.now)
+        (N.denies plan.now.hall.now) (manner_of (arc_value version) journal)
+        (arc_value version).origin (arc_value version).first (arc_value c.last).journal
+        (file_of F.written F.faults journal) (file_of F.written F.faults c.journal)
+        (arc_value version).stored.design.constraints.derates c.sessions.items c.kept) }
     ensures many { IfOk result (λ c. length c.sessions.items ≡ plan.now.sessions) }
     ensures last { IfOk result (λ c. IsVersion (arc_value c.last)) }
     ensures first { IfOk result (λ c. (arc_value c.last).first ≡ (arc_value version).first) }
     ensures origin { IfOk result (λ c. (arc_value c.last).origin ≡ (arc_value version).origin) }
-    ensures untouched { IfErr result (λ j. file_of F.written F.faults j ≡ file_of F.written F.faults journal) }
+    ensures untouched { IfErr result
+        (λ j. file_of F.written F.faults j ≡ file_of F.written F.faults journal) }
 {
     version.laws();
     match made_ready(alloc, version, plan.sessions, journal.is_some()) {
@@ -100,7 +106,8 @@ struct Places<D, B: Room<Design>> {
 
 impl<D: Drop, B: Room<Design>> Places<D, B> {
     fn of(alloc: Global, count: usize) -> Result<Places<D, B>, Memory>
-        ensures seatings { IfOk result (λ r. (r.seatings.items ≡ []) × (count ≤ vec_capacity r.seatings)) }
+        ensures seatings { IfOk result
+            (λ r. (r.seatings.items ≡ []) × (count ≤ vec_capacity r.seatings)) }
         ensures ended { IfOk result (λ r. (r.ended.items ≡ []) × (count ≤ vec_capacity r.ended)) }
     {
         match both(empty_list(alloc, count), empty_list(alloc, count)) {
@@ -119,7 +126,8 @@ impl<D: Drop, B: Room<Design>> Places<D, B> {
 fn closing_room<D: Drop>(alloc: Global, count: usize) -> Result<ClosingRoom<D>, Memory>
     requires { count ≤ 16 }
     ensures seats { IfOk result (λ r. (r.seats.items ≡ []) × (count + 1 ≤ vec_capacity r.seats)) }
-    ensures sessions { IfOk result (λ r. (r.sessions.items ≡ []) × (count ≤ vec_capacity r.sessions)) }
+    ensures sessions { IfOk result
+        (λ r. (r.sessions.items ≡ []) × (count ≤ vec_capacity r.sessions)) }
 {
     match both(empty_list(alloc, count + 1), empty_list(alloc, count)) {
         Ok(
@@ -152,8 +160,10 @@ fn begun_board(
     requires sessions { sessions ≤ 16 }
     requires first { (first ≡ (arc_value version).first) × (first ≤ 2 ^ 62) }
     requires begins { (arc_value version).journal ≡ [] }
-    ensures board { IfOk result (λ b. (b.board.opening ≡ arc_value version) × (b.board.seats ≡ sessions + 1)) }
-    ensures seats { IfOk result (λ b. (length b.seats.items ≡ sessions + 1) × AreNew b.board 1 b.seats.items) }
+    ensures board { IfOk result
+        (λ b. (b.board.opening ≡ arc_value version) × (b.board.seats ≡ sessions + 1)) }
+    ensures seats { IfOk result
+        (λ b. (length b.seats.items ≡ sessions + 1) × AreNew b.board 1 b.seats.items) }
 {
     match Board::begin(alloc, first, version, sessions + 1) {
         Ok(begun) => Ok(begun),
@@ -171,13 +181,21 @@ fn made_ready<D: Drop>(
     requires sessions { (1 ≤ sessions) × (sessions ≤ 16) }
     requires begins { (arc_value version).journal ≡ [] }
     requires first { (arc_value version).first ≤ 2 ^ 62 }
-    ensures manner { IfOk result (λ r. r.manner ≡ record { clocks = (arc_value version).stored.design.constraints.clocks; keeps = keeps }) }
-    ensures derates { IfOk result (λ r. r.derates ≡ (arc_value version).stored.design.constraints.derates) }
-    ensures board { IfOk result (λ r. (r.board.opening ≡ arc_value version) × (r.board.seats ≡ sessions + 1) × (r.first ≡ (arc_value version).first)) }
-    ensures seats { IfOk result (λ r. (length r.seats.items ≡ sessions + 1) × AreNew r.board 1 r.seats.items) }
+    ensures manner { IfOk result
+        (λ r. r.manner
+        ≡ record { clocks = (arc_value version).stored.design.constraints.clocks; keeps = keeps }) }
+    ensures derates { IfOk result
+        (λ r. r.derates ≡ (arc_value version).stored.design.constraints.derates) }
+    ensures board { IfOk result
+        (λ r. (r.board.opening ≡ arc_value version) × (r.board.seats ≡ sessions + 1)
+        × (r.first ≡ (arc_value version).first)) }
+    ensures seats { IfOk result
+        (λ r. (length r.seats.items ≡ sessions + 1) × AreNew r.board 1 r.seats.items) }
     ensures keeper { IfOk result (λ r. r.keeper ≡ knowing r.cell.table.shared.table_id nothing) }
-    ensures back { IfOk result (λ r. (r.closing.seats.items ≡ []) × (sessions + 1 ≤ vec_capacity r.closing.seats)) }
-    ensures parted { IfOk result (λ r. (r.closing.sessions.items ≡ []) × (sessions ≤ vec_capacity r.closing.sessions)) }
+    ensures back { IfOk result
+        (λ r. (r.closing.seats.items ≡ []) × (sessions + 1 ≤ vec_capacity r.closing.seats)) }
+    ensures parted { IfOk result
+        (λ r. (r.closing.sessions.items ≡ []) × (sessions ≤ vec_capacity r.closing.sessions)) }
 {
     let clocks = version.store().constraints().clocks.again(alloc);
     let derates = version.store().constraints().derates;
@@ -269,7 +287,8 @@ fn run_placed<
 ) -> LiveClosed<D, F>
     requires sessions { plan.now.sessions ≤ 16 }
     requires workers { (1 ≤ plan.now.workers) × (plan.now.workers ≤ 32) }
-    requires board { IsBoardOf meant B.about ready.board × (ready.board.seats ≡ plan.now.sessions + 1) }
+    requires board { IsBoardOf meant B.about ready.board
+        × (ready.board.seats ≡ plan.now.sessions + 1) }
     requires number { B.about.number ≡ plan.now.sessions + 1 }
     requires before { file_of F.written F.faults journal ≡ file_before B.about }
     requires first { ready.first ≡ B.about.first }
@@ -277,12 +296,20 @@ fn run_placed<
     requires cell { ready.cell.table.shared.table_id ≡ B.about.cell }
     requires keeper { ready.keeper ≡ knowing B.about.cell nothing }
     requires lines { N.lines plan.now.hall.now ≡ B.lines }
-    requires seats { (length ready.seats.items ≡ plan.now.sessions + 1) × AreNew ready.board 1 ready.seats.items }
-    requires seatings { (places.seatings.items ≡ []) × (plan.now.sessions ≤ vec_capacity places.seatings) }
+    requires denies { Denies (N.denies plan.now.hall.now) B.denies }
+    requires seats { (length ready.seats.items ≡ plan.now.sessions + 1)
+        × AreNew ready.board 1 ready.seats.items }
+    requires seatings { (places.seatings.items ≡ [])
+        × (plan.now.sessions ≤ vec_capacity places.seatings) }
     requires ended { (places.ended.items ≡ []) × (plan.now.sessions ≤ vec_capacity places.ended) }
-    requires back { (ready.closing.seats.items ≡ []) × (plan.now.sessions + 1 ≤ vec_capacity ready.closing.seats) }
-    requires parted { (ready.closing.sessions.items ≡ []) × (plan.now.sessions ≤ vec_capacity ready.closing.sessions) }
-    ensures run { IsLiveRun (door_of D.left D.trace D.faults) B.lines ready.manner ready.board.opening.origin ready.board.opening.first (arc_value result.last).journal (file_before B.about) (file_of F.written F.faults result.journal) B.about.derates result.sessions.items result.kept }
+    requires back { (ready.closing.seats.items ≡ [])
+        × (plan.now.sessions + 1 ≤ vec_capacity ready.closing.seats) }
+    requires parted { (ready.closing.sessions.items ≡ [])
+        × (plan.now.sessions ≤ vec_capacity ready.closing.sessions) }
+    ensures run { IsLiveRun (door_of D.left D.trace D.faults) B.lines B.denies ready.manner
+        ready.board.opening.origin ready.board.opening.first (arc_value result.last).journal
+        (file_before B.about) (file_of F.written F.faults result.journal) B.about.derates
+        result.sessions.items result.kept }
     ensures many { length result.sessions.items ≡ plan.now.sessions }
     ensures last { IsVersion (arc_value result.last) }
     ensures first { (arc_value result.last).first ≡ ready.board.opening.first }
@@ -351,7 +378,8 @@ fn run_ready<
 ) -> Result<LiveClosed<D, F>, Option<F>>
     requires sessions { plan.now.sessions ≤ 16 }
     requires workers { (1 ≤ plan.now.workers) × (plan.now.workers ≤ 32) }
-    requires board { IsBoardOf meant B.about ready.board × (ready.board.seats ≡ plan.now.sessions + 1) }
+    requires board { IsBoardOf meant B.about ready.board
+        × (ready.board.seats ≡ plan.now.sessions + 1) }
     requires number { B.about.number ≡ plan.now.sessions + 1 }
     requires before { file_of F.written F.faults journal ≡ file_before B.about }
     requires first { ready.first ≡ B.about.first }
@@ -359,10 +387,18 @@ fn run_ready<
     requires cell { ready.cell.table.shared.table_id ≡ B.about.cell }
     requires keeper { ready.keeper ≡ knowing B.about.cell nothing }
     requires lines { N.lines plan.now.hall.now ≡ B.lines }
-    requires seats { (length ready.seats.items ≡ plan.now.sessions + 1) × AreNew ready.board 1 ready.seats.items }
-    requires back { (ready.closing.seats.items ≡ []) × (plan.now.sessions + 1 ≤ vec_capacity ready.closing.seats) }
-    requires parted { (ready.closing.sessions.items ≡ []) × (plan.now.sessions ≤ vec_capacity ready.closing.sessions) }
-    ensures run { IfOk result (λ c. IsLiveRun (door_of D.left D.trace D.faults) B.lines ready.manner ready.board.opening.origin ready.board.opening.first (arc_value c.last).journal (file_before B.about) (file_of F.written F.faults c.journal) B.about.derates c.sessions.items c.kept) }
+    requires denies { Denies (N.denies plan.now.hall.now) B.denies }
+    requires seats { (length ready.seats.items ≡ plan.now.sessions + 1)
+        × AreNew ready.board 1 ready.seats.items }
+    requires back { (ready.closing.seats.items ≡ [])
+        × (plan.now.sessions + 1 ≤ vec_capacity ready.closing.seats) }
+    requires parted { (ready.closing.sessions.items ≡ [])
+        × (plan.now.sessions ≤ vec_capacity ready.closing.sessions) }
+    ensures run { IfOk result
+        (λ c. IsLiveRun (door_of D.left D.trace D.faults) B.lines B.denies ready.manner
+        ready.board.opening.origin ready.board.opening.first (arc_value c.last).journal
+        (file_before B.about) (file_of F.written F.faults c.journal) B.about.derates
+        c.sessions.items c.kept) }
     ensures many { IfOk result (λ c. length c.sessions.items ≡ plan.now.sessions) }
     ensures last { IfOk result (λ c. IsVersion (arc_value c.last)) }
     ensures first { IfOk result (λ c. (arc_value c.last).first ≡ ready.board.opening.first) }

@@ -4,7 +4,7 @@ ghost use Rattle.std.specs.Prelude.{◌≡◌, ◌≤◌, [], length, map, true,
 ghost use Rattle.version_board.specs.Callers.{IsSeatOf, IsNew};
 ghost use Rattle.session_engine.specs.Looking.{meant};
 ghost use Rattle.live_session.specs.Talks.{door_of};
-ghost use Rattle.live_run.specs.Sessions.{IsUnopened, HandsBack, EachHandsBack, AreNew};
+ghost use Rattle.live_run.specs.Sessions.{unopened_end, Denies, HandsBack, EachHandsBack, AreNew};
 ghost use Rattle.live_run.specs.Seating.{seat_in};
 
 use crate::ended::{Ended, Parted};
@@ -26,7 +26,7 @@ use version_board::Seat;
 
 /// How a session ends whose door was not opened.
 fn unopened(lost: Lost) -> Outcome
-    ensures { IsUnopened result.end × (result.clean ≡ true) }
+    ensures { (result.end ≡ unopened_end lost) × (result.clean ≡ true) }
 {
     let end = match lost {
         Lost::Input => TalkEnd::Deaf,
@@ -43,7 +43,7 @@ pub(crate) struct Seating<B: Room<Design>> {
     pub(crate) receipt: Receipt<B>,
 }
 
-/// A session: it opens its door, takes the newest version, and talks until its input ends.
+/// A session: it opens its door, takes the newest version, talks until its input ends, and closes the door.
 fn run_owned<
     D: Door,
     N: Hall<D>,
@@ -62,7 +62,9 @@ fn run_owned<
     requires seat { IsSeatOf meant shared.now.board.now seating.seat }
     requires new { IsNew who seating.seat }
     requires hall { N.lines hall.now ≡ B.lines }
-    ensures { HandsBack (door_of D.left D.trace D.faults) B.lines manner.now seating.seat result }
+    requires denies { Denies (N.denies hall.now) B.denies }
+    ensures { HandsBack (door_of D.left D.trace D.faults) B.lines B.denies manner.now seating.seat
+        result }
 {
     let Seating { seat, receipt } = seating;
     match hall.open(alloc, who) {
@@ -70,6 +72,7 @@ fn run_owned<
             let mut door = door;
             let mut session = SeatedSession::begin(shared, seat, who, receipt);
             let outcome = talk(shared.rt, alloc, &mut door, &mut session, manner);
+            door.close();
             let (seat, receipt) = session.end();
             Ended {
                 seat,
@@ -104,7 +107,8 @@ impl<D: Door, B: Room<Design> + LiveRoom> Promise<Ended<D, B>> for Kept<D, B> {
     ghost use Rattle.live_session.specs.Talks.{door_of};
     ghost use Rattle.live_run.specs.Sessions.{HandsBack};
 
-    ghost kept_by = { λ p r. HandsBack (door_of D.left D.trace D.faults) B.lines p.manner.value p.seat.value r };
+    ghost kept_by = { λ p r. HandsBack (door_of D.left D.trace D.faults) B.lines B.denies
+        p.manner.value p.seat.value r };
 }
 
 /// Holds a session at each seat, the first beside all others: what they leave stands in their order. A session for which no thread
@@ -128,10 +132,12 @@ fn run_each<
     ended: Vec<Ended<D, B>>,
 ) -> Vec<Ended<D, B>>
     requires hall { N.lines hall.now ≡ B.lines }
+    requires denies { Denies (N.denies hall.now) B.denies }
     requires begun { AreNew shared.now.board.now 1 (map seat_in seatings.items) }
     requires few { length seatings.items ≤ 16 }
     requires room { (ended.items ≡ []) × (length seatings.items ≤ vec_capacity ended) }
-    ensures each { EachHandsBack (door_of D.left D.trace D.faults) B.lines manner.now (map seat_in seatings.items) result.items }
+    ensures each { EachHandsBack (door_of D.left D.trace D.faults) B.lines B.denies manner.now
+        (map seat_in seatings.items) result.items }
     ensures long { vec_len result ≡ length seatings.items }
     ensures room { vec_capacity result ≡ vec_capacity ended }
 {
@@ -149,8 +155,11 @@ fn run_each<
     let started = scope.spawn_with(
         kept,
         move || -> Ended<D, B>
-            requires { IsSeatOf meant shared.now.board.now seat × IsNew seat.view.number seat × (seat.view.number ≡ who) × (N.lines hall.now ≡ B.lines) }
-            ensures { HandsBack (door_of D.left D.trace D.faults) B.lines manner.entry.now seat result }
+            requires { IsSeatOf meant shared.now.board.now seat × IsNew seat.view.number seat
+                × (seat.view.number ≡ who) × (N.lines hall.now ≡ B.lines)
+                × Denies (N.denies hall.now) B.denies }
+            ensures { HandsBack (door_of D.left D.trace D.faults) B.lines B.denies manner.entry.now
+                seat result }
         { run_owned(shared, alloc, hall, manner, who, Seating { seat, receipt }) },
     );
     match started {
@@ -184,17 +193,23 @@ pub(crate) fn run_beside<
     ended: Vec<Ended<D, B>>,
 ) -> Vec<Ended<D, B>>
     requires hall { N.lines hall.now ≡ B.lines }
+    requires denies { Denies (N.denies hall.now) B.denies }
     requires begun { AreNew shared.now.board.now 1 (map seat_in seatings.items) }
     requires few { length seatings.items ≤ 16 }
     requires room { (ended.items ≡ []) × (length seatings.items ≤ vec_capacity ended) }
-    ensures { EachHandsBack (door_of D.left D.trace D.faults) B.lines manner.now (map seat_in seatings.items) result.items }
+    ensures { EachHandsBack (door_of D.left D.trace D.faults) B.lines B.denies manner.now
+        (map seat_in seatings.items) result.items }
 {
     thread::scope(
         thread::scope_env(),
         shared.rt,
         move |scope| -> Vec<Ended<D, B>>
-            requires { (N.lines hall.now ≡ B.lines) × AreNew shared.now.board.now 1 (map seat_in seatings.items) × (length seatings.items ≤ 16) × (ended.items ≡ []) × (length seatings.items ≤ vec_capacity ended) }
-            ensures { EachHandsBack (door_of D.left D.trace D.faults) B.lines manner.entry.now (map seat_in seatings.items) result.items }
+            requires { (N.lines hall.now ≡ B.lines) × Denies (N.denies hall.now) B.denies
+                × AreNew shared.now.board.now 1 (map seat_in seatings.items)
+                × (length seatings.items ≤ 16) × (ended.items ≡ [])
+                × (length seatings.items ≤ vec_capacity ended) }
+            ensures { EachHandsBack (door_of D.left D.trace D.faults) B.lines B.denies
+                manner.entry.now (map seat_in seatings.items) result.items }
         { run_each(scope, alloc, shared, hall, manner, seatings, ended) },
     )
 }

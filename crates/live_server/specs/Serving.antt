@@ -22,6 +22,7 @@ use Rattle.shell_core.specs.Documents.{Docs, Says, SaysJournal, FirstRefused, Sh
 use Rattle.shell_core.specs.Designs.{AreDesign, design_sources, fetched_journal}
 use Rattle.begun_version.specs.Beginning.{entries_in, BeginsWith, IsRefusedBy}
 use Rattle.live_words.specs.Asked.{LiveAsked}
+use Rattle.live_doors.specs.declared.door.Lost.{Lost}
 use Rattle.live_journal.specs.declared.desks.Unkept.{Unkept}
 use Rattle.live_journal.specs.Ends.{end_of}
 use Rattle.live_session.specs.Talks.{AtDoor}
@@ -121,7 +122,7 @@ TellsFinal old new line meant status =
 module _ {D : Type 0} where
   -- the sessions that the words ask for were held: over an initial design, behind its saved entries, they are a live run over a journal J,
   -- which is kept where the words name one
-  pub record IsHeld (told : D → AtDoor) (lines : ℕ → Option (List (List ℕ))) (keeps : Bool) (asked_for : ℕ) (holds : Docs) (run : RunWords)
+  pub record IsHeld (told : D → AtDoor) (lines : ℕ → Option (List (List ℕ))) (denies : ℕ → Lost → Type 0) (keeps : Bool) (asked_for : ℕ) (holds : Docs) (run : RunWords)
       (before after : AtFile) (old new : Out) (sessions : List (Parted D)) (status : ℕ) : Type 0 where
     pub many : length sessions ≡ asked_for
     pub named : is_some run.journal ≡ keeps
@@ -130,7 +131,7 @@ module _ {D : Type 0} where
     pub begun : IsBegun holds run initial saved
     pub J : List Entry
     pub kept : Result Unit Unkept
-    pub held : IsLiveRun told lines (record { clocks = initial.constraints.clocks; keeps = keeps }) initial (length saved) J
+    pub held : IsLiveRun told lines denies (record { clocks = initial.constraints.clocks; keeps = keeps }) initial (length saved) J
         before after initial.constraints.derates sessions kept
     pub line : List ℕ
     pub final : IsFinal initial (length saved) J line
@@ -138,14 +139,14 @@ module _ {D : Type 0} where
 
   -- how a live run ends, in one of four ways: it is refused with a line; its journal is named and its file is not there to be written; its sessions
   -- were held; or memory was wanting before the first one began. Where none was held the journal's file is as it was
-  abbrev pub LiveEnds : (D → AtDoor) → (ℕ → Option (List (List ℕ))) → Bool → ℕ → Docs → ℕ → ℕ → RunWords
+  abbrev pub LiveEnds : (D → AtDoor) → (ℕ → Option (List (List ℕ))) → (ℕ → Lost → Type 0) → Bool → ℕ → Docs → ℕ → ℕ → RunWords
       → AtFile → AtFile → Out → Out → List (Parted D) → ℕ → Type 0
-  LiveEnds told lines keeps asked_for holds f f' run before after old new sessions status =
+  LiveEnds told lines denies keeps asked_for holds f f' run before after old new sessions status =
       ((sessions ≡ []) × (after ≡ before)
       × ((meant : ℕ) × (line : List ℕ) × IsRefused holds f f' run meant line × TellsLine old new line meant status))
       ⊎ ((sessions ≡ []) × (after ≡ before) × (keeps ≡ false) × (is_some run.journal ≡ true)
       × ((initial : Design) × (saved : List Entry) × IsBegun holds run initial saved) × (status ≡ 5) × IsStill old new)
-      ⊎ IsHeld told lines keeps asked_for holds run before after old new sessions status
+      ⊎ IsHeld told lines denies keeps asked_for holds run before after old new sessions status
       ⊎ ((sessions ≡ []) × (after ≡ before) × (status ≡ 6) × IsStill old new)
 
 -- how a run ends whose words ask for nothing

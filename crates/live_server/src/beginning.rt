@@ -97,7 +97,9 @@ fn begun_of<H: Threads + Sync, G: Gate>(
     requires least { 1 ≤ run.now.workers }
     requires most { run.now.workers ≤ 32 }
     requires kept { IsKeptDesign read.design }
-    ensures { (holds : Docs) (f f' : ℕ) → IsReadDesign holds (run_words run.now) read → f' ≡ f → MatchResult result (λ v. StartsRun holds (run_words run.now) (arc_value v)) (IsUnheld holds (run_words run.now) f f') }
+    ensures { (holds : Docs) (f f' : ℕ) → IsReadDesign holds (run_words run.now) read → f' ≡ f
+        → MatchResult result (λ v. StartsRun holds (run_words run.now) (arc_value v))
+        (IsUnheld holds (run_words run.now) f f') }
 {
     let ReadDesign { design, journal } = read;
     let saved = saved_whole(alloc, &journal, &design.sdc.derates);
@@ -128,8 +130,11 @@ pub(crate) fn read_begun<H: Threads + Sync, S: Shelf, G: Gate>(
     requires most { run.now.workers ≤ 32 }
     ensures map { S.holds shelf.new ≡ S.holds shelf.old }
     ensures rising { S.faults shelf.old ≤ S.faults shelf.new }
-    ensures begun { IfOk result (λ v. StartsRun (S.holds shelf.old) (run_words run.now) (arc_value v)) }
-    ensures refused { IfErr result (IsUnheld (S.holds shelf.old) (run_words run.now) (S.faults shelf.old) (S.faults shelf.new)) }
+    ensures begun { IfOk result
+        (λ v. StartsRun (S.holds shelf.old) (run_words run.now) (arc_value v)) }
+    ensures refused { IfErr result
+        (IsUnheld (S.holds shelf.old) (run_words run.now) (S.faults shelf.old)
+        (S.faults shelf.new)) }
 {
     match read_design(alloc, shelf, run) {
         Ok(read) => begun_of(rt, alloc, run, read, gate),

@@ -26,7 +26,8 @@ use std::thread::Threads;
 
 /// Puts a line; the status is the one that is meant, or at least 5 where the sink failed.
 pub(crate) fn tell<K: Sink>(out: &mut K, line: &[u8], meant: Status) -> Status
-    ensures { TellsLine (out_at (K.written out.old) (K.faults out.old)) (out_at (K.written out.new) (K.faults out.new)) line.now meant result }
+    ensures { TellsLine (out_at (K.written out.old) (K.faults out.old))
+        (out_at (K.written out.new) (K.faults out.new)) line.now meant result }
 {
     match out.put(line) {
         Ok(()) => meant,
@@ -36,7 +37,8 @@ pub(crate) fn tell<K: Sink>(out: &mut K, line: &[u8], meant: Status) -> Status
 
 /// Puts the line of the totals of a last version.
 fn tell_final<K: Sink>(alloc: Global, last: &Version, out: &mut K, meant: Status) -> Status
-    ensures { TellsTotals last.now (out_at (K.written out.old) (K.faults out.old)) (out_at (K.written out.new) (K.faults out.new)) meant result }
+    ensures { TellsTotals last.now (out_at (K.written out.old) (K.faults out.old))
+        (out_at (K.written out.new) (K.faults out.new)) meant result }
 {
     match final_bytes(alloc, &last.totals()) {
         Ok(line) => tell(out, &line, meant),
@@ -53,7 +55,10 @@ fn left<D: Drop, F: Drop, K: Sink>(
 ) -> LiveLeft<D, F>
     ensures sessions { result.sessions.items ≡ closed.sessions.items }
     ensures journal { result.journal ≡ closed.journal }
-    ensures told { LeavesLine (arc_value closed.last) (out_at (K.written out.old) (K.faults out.old)) (out_at (K.written out.new) (K.faults out.new)) (max (sessions_status closed.sessions.items) (kept_status closed.kept)) result.status }
+    ensures told { LeavesLine (arc_value closed.last)
+        (out_at (K.written out.old) (K.faults out.old))
+        (out_at (K.written out.new) (K.faults out.new))
+        (max (sessions_status closed.sessions.items) (kept_status closed.kept)) result.status }
 {
     let LiveClosed {
         last,
@@ -116,7 +121,13 @@ fn held<
     requires asked { IsInRange asked.now }
     requires named { is_some (asked_words asked.now).journal ≡ is_some journal }
     requires begins { (arc_value version).journal ≡ [] }
-    ensures ends { (holds : Docs) (f f' : ℕ) → StartsRun holds (documents_of (asked_words asked.now)) (arc_value version) → LiveEnds (door_of D.left D.trace D.faults) (N.lines around.now.hall.now) (is_some journal) (sessions_asked (asked_words asked.now)) holds f f' (documents_of (asked_words asked.now)) (file_of F.written F.faults journal) (file_of F.written F.faults result.journal) (out_at (K.written out.old) (K.faults out.old)) (out_at (K.written out.new) (K.faults out.new)) result.sessions.items result.status }
+    ensures ends { (holds : Docs) (f f' : ℕ)
+        → StartsRun holds (documents_of (asked_words asked.now)) (arc_value version)
+        → LiveEnds (door_of D.left D.trace D.faults) (N.lines around.now.hall.now)
+        (N.denies around.now.hall.now) (is_some journal) (sessions_asked (asked_words asked.now))
+        holds f f' (documents_of (asked_words asked.now)) (file_of F.written F.faults journal)
+        (file_of F.written F.faults result.journal) (out_at (K.written out.old) (K.faults out.old))
+        (out_at (K.written out.new) (K.faults out.new)) result.sessions.items result.status }
 {
     let plan = LivePlan {
         hall: around.hall,
@@ -150,7 +161,13 @@ pub(crate) fn held_end<
     requires asked { IsInRange asked.now }
     requires named { is_some journal ≡ true → is_some (asked_words asked.now).journal ≡ true }
     requires begins { (arc_value version).journal ≡ [] }
-    ensures ends { (holds : Docs) (f f' : ℕ) → StartsRun holds (documents_of (asked_words asked.now)) (arc_value version) → LiveEnds (door_of D.left D.trace D.faults) (N.lines around.now.hall.now) (is_some journal) (sessions_asked (asked_words asked.now)) holds f f' (documents_of (asked_words asked.now)) (file_of F.written F.faults journal) (file_of F.written F.faults result.journal) (out_at (K.written out.old) (K.faults out.old)) (out_at (K.written out.new) (K.faults out.new)) result.sessions.items result.status }
+    ensures ends { (holds : Docs) (f f' : ℕ)
+        → StartsRun holds (documents_of (asked_words asked.now)) (arc_value version)
+        → LiveEnds (door_of D.left D.trace D.faults) (N.lines around.now.hall.now)
+        (N.denies around.now.hall.now) (is_some journal) (sessions_asked (asked_words asked.now))
+        holds f f' (documents_of (asked_words asked.now)) (file_of F.written F.faults journal)
+        (file_of F.written F.faults result.journal) (out_at (K.written out.old) (K.faults out.old))
+        (out_at (K.written out.new) (K.faults out.new)) result.sessions.items result.status }
 {
     if asked.journal.is_some() && journal.is_none() {
         Version::discard(version);

@@ -43,7 +43,8 @@ pub struct LiveLeft<D, F> {
 /// Ends a run whose words ask for nothing.
 #[tactic(auto, using(crate::proofs::EndLaws::still))]
 pub fn refuse_words<K: Sink>(alloc: Global, out: &mut K) -> Status
-    ensures { RefusesWords (out_at (K.written out.old) (K.faults out.old)) (out_at (K.written out.new) (K.faults out.new)) result }
+    ensures { RefusesWords (out_at (K.written out.old) (K.faults out.old))
+        (out_at (K.written out.new) (K.faults out.new)) result }
 {
     match words_line(alloc) {
         Ok(line) => tell(out, &line, 2),
@@ -75,7 +76,12 @@ pub fn serve_live<
 ) -> LiveLeft<D, F>
     requires asked { IsInRange asked.now }
     requires named { is_some journal ≡ true → is_some (asked_words asked.now).journal ≡ true }
-    ensures ends { LiveEnds (door_of D.left D.trace D.faults) (N.lines around.now.hall.now) (is_some journal) (sessions_asked (asked_words asked.now)) (S.holds shelf.old) (S.faults shelf.old) (S.faults shelf.new) (documents_of (asked_words asked.now)) (file_of F.written F.faults journal) (file_of F.written F.faults result.journal) (out_at (K.written out.old) (K.faults out.old)) (out_at (K.written out.new) (K.faults out.new)) result.sessions.items result.status }
+    ensures ends { LiveEnds (door_of D.left D.trace D.faults) (N.lines around.now.hall.now)
+        (N.denies around.now.hall.now) (is_some journal) (sessions_asked (asked_words asked.now))
+        (S.holds shelf.old) (S.faults shelf.old) (S.faults shelf.new)
+        (documents_of (asked_words asked.now)) (file_of F.written F.faults journal)
+        (file_of F.written F.faults result.journal) (out_at (K.written out.old) (K.faults out.old))
+        (out_at (K.written out.new) (K.faults out.new)) result.sessions.items result.status }
     ensures kept { S.holds shelf.new ≡ S.holds shelf.old }
     ensures rising { S.faults shelf.old ≤ S.faults shelf.new }
 {

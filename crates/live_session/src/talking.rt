@@ -33,10 +33,15 @@ fn mark<D: Door, S: Keeping>(
 ) -> Result<(), Untold>
     ensures same { Remains (S.ran session.old) (S.ran session.new) }
     ensures rises { S.safe session.old ≤ S.safe session.new }
-    ensures quiet { (Loses (D.left door.old) (D.left door.new) []) × (D.faults door.new ≡ D.faults door.old) }
-    ensures marked { OnOk result (Grows (D.trace door.old) (D.trace door.new) (marks_of manner.now.keeps reply.now)) }
-    ensures kept { OnOk result (IsKept (telling (S.safe session.new) (S.torn session.new) manner.now) reply.now) }
-    ensures journal { IfErr result (λ why. why ≡ Untold.Journal → IsUnkept (telling (S.safe session.new) (S.torn session.new) manner.now) reply.now) }
+    ensures quiet { (Loses (D.left door.old) (D.left door.new) [])
+        × (D.faults door.new ≡ D.faults door.old) }
+    ensures marked { OnOk result
+        (Grows (D.trace door.old) (D.trace door.new) (marks_of manner.now.keeps reply.now)) }
+    ensures kept { OnOk result
+        (IsKept (telling (S.safe session.new) (S.torn session.new) manner.now) reply.now) }
+    ensures journal { IfErr result
+        (λ why. why ≡ Untold.Journal
+        → IsUnkept (telling (S.safe session.new) (S.torn session.new) manner.now) reply.now) }
     ensures unmarked { OnErr result (Grows (D.trace door.old) (D.trace door.new) []) }
 {
     match reply {
@@ -62,7 +67,9 @@ pub fn tell<D: Door, S: Keeping>(
 ) -> Option<TalkEnd>
     ensures same { Remains (S.ran session.old) (S.ran session.new) }
     ensures rises { S.safe session.old ≤ S.safe session.new }
-    ensures told { Tells (telling (S.safe session.new) (S.torn session.new) manner.now) reply.now (door_of D.left D.trace D.faults door.old) (door_of D.left D.trace D.faults door.new) result }
+    ensures told { Tells (telling (S.safe session.new) (S.torn session.new) manner.now) reply.now
+        (door_of D.left D.trace D.faults door.old) (door_of D.left D.trace D.faults door.new)
+        result }
 {
     match reply_bytes(alloc, manner, reply) {
         Ok(text) => match mark(alloc, door, session, manner, reply) {

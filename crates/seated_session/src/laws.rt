@@ -7,5 +7,6 @@ ghost use Rattle.seated_session.specs.Seated.{Seated, HasAnswered, HasRun};
 
 /// What a session has answered is a run of its commands, also where it holds a version and could go on.
 pub fn answered_is_run()
-    ensures { (s : Seated) (commands : List Command) (rows : List Row) → HasAnswered s commands rows → HasRun s.seat.view commands rows }
+    ensures { (s : Seated) (commands : List Command) (rows : List Row) → HasAnswered s commands rows
+        → HasRun s.seat.view commands rows }
 {}

@@ -47,9 +47,16 @@ impl<'a, H, F: Sink + Drop, G, B: Room<Design>> Model for SeatedSession<'a, H, F
 
     ghost Value = { Seated };
 
-    ghost view = { λ s. record { seat = s.seat; held = option_map arc_value s.held; answered = s.answered; known = s.keeper.receipt } };
+    ghost view = { λ s. record {
+      seat = s.seat;
+      held = option_map arc_value s.held;
+      answered = s.answered;
+      known =
+          s.keeper.receipt;
+    } };
 
-    ghost invariant = { λ s. IsSeatOf meant s.keeper.shared.now.board.now s.seat × (s.seat.view.number ≡ s.who) × IfSome s.held (λ v. Holds s.seat.view (arc_value v)) };
+    ghost invariant = { λ s. IsSeatOf meant s.keeper.shared.now.board.now s.seat
+        × (s.seat.view.number ≡ s.who) × IfSome s.held (λ v. Holds s.seat.view (arc_value v)) };
 }
 
 impl<'a, H: Threads + Wait + Sync, F: Sink + Drop, G: Gate, B: Room<Design>> SeatedSession<
@@ -119,7 +126,8 @@ impl<'a, H: Threads + Wait + Sync, F: Sink + Drop, G: Gate, B: Room<Design>> Sea
         requires held { Holds self.old.seat.view (arc_value held) }
         requires place { place ≡ self.old.answered + 1 }
         requires command { is_runnable command.now ≡ true }
-        ensures runs { Runs (RanAt self.old.seat.view (Some (arc_value held)) self.old.answered) (HasAnswered self.new) command.now result }
+        ensures runs { Runs (RanAt self.old.seat.view (Some (arc_value held)) self.old.answered)
+            (HasAnswered self.new) command.now result }
         ensures same { IsSame self.old.seat self.new.seat }
         ensures known { self.new.known ≡ self.old.known }
     {
@@ -187,9 +195,12 @@ impl<H: Wait, F: Sink + Drop, G, B: Room<Design>> SeatedSession<'_, H, F, G, B> 
         manner: &Manner,
         reply: &Reply,
     ) -> Option<TalkEnd>
-        ensures same { (self.new.seat ≡ self.old.seat) × (self.new.held ≡ self.old.held) × (self.new.answered ≡ self.old.answered) }
+        ensures same { (self.new.seat ≡ self.old.seat) × (self.new.held ≡ self.old.held)
+            × (self.new.answered ≡ self.old.answered) }
         ensures rises { self.old.known.upto ≤ self.new.known.upto }
-        ensures told { Tells (telling self.new.known.upto self.new.known.torn manner.now) reply.now (door_of D.left D.trace D.faults door.old) (door_of D.left D.trace D.faults door.new) result }
+        ensures told { Tells (telling self.new.known.upto self.new.known.torn manner.now) reply.now
+            (door_of D.left D.trace D.faults door.old) (door_of D.left D.trace D.faults door.new)
+            result }
     {
         tell(alloc, door, &mut self.keeper, manner, reply)
     }

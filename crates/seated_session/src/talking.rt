@@ -55,7 +55,10 @@ fn reply_to<D: Door, H: Threads + Wait + Sync, F: Sink + Drop, G: Gate, B: Room<
     requires item { IfSome item CanBeAnswered }
     ensures same { IsSame session.old.seat session.new.seat }
     ensures rises { session.old.known.upto ≤ session.new.known.upto }
-    ensures reply { Replies (HasAnswered session.old) (HasAnswered session.new) (telling session.new.known.upto session.new.known.torn manner.now) item (door_of D.left D.trace D.faults door.old) (door_of D.left D.trace D.faults door.new) result.clean result.end }
+    ensures reply { Replies (HasAnswered session.old) (HasAnswered session.new)
+        (telling session.new.known.upto session.new.known.torn manner.now) item
+        (door_of D.left D.trace D.faults door.old) (door_of D.left D.trace D.faults door.new)
+        result.clean result.end }
 {
     match item {
         None => Told {
@@ -88,7 +91,10 @@ fn read_line<D: Door, H: Threads + Wait + Sync, F: Sink + Drop, G: Gate, B: Room
 ) -> Round
     ensures same { IsSame session.old.seat session.new.seat }
     ensures rises { session.old.known.upto ≤ session.new.known.upto }
-    ensures read { Reads (HasAnswered session.old) (HasAnswered session.new) (telling session.new.known.upto session.new.known.torn manner.now) reader line.items (door_of D.left D.trace D.faults door.old) (door_of D.left D.trace D.faults door.new) result }
+    ensures read { Reads (HasAnswered session.old) (HasAnswered session.new)
+        (telling session.new.known.upto session.new.known.torn manner.now) reader line.items
+        (door_of D.left D.trace D.faults door.old) (door_of D.left D.trace D.faults door.new)
+        result }
 {
     let read = reader.line(alloc, &line);
     drop(line);
@@ -132,7 +138,10 @@ fn hear_next<D: Door, H: Threads + Wait + Sync, F: Sink + Drop, G: Gate, B: Room
 ) -> Round
     ensures same { IsSame session.old.seat session.new.seat }
     ensures rises { session.old.known.upto ≤ session.new.known.upto }
-    ensures round { Rounds (HasAnswered session.old) (HasAnswered session.new) (telling session.new.known.upto session.new.known.torn manner.now) reader (door_of D.left D.trace D.faults door.old) (door_of D.left D.trace D.faults door.new) result }
+    ensures round { Rounds (HasAnswered session.old) (HasAnswered session.new)
+        (telling session.new.known.upto session.new.known.torn manner.now) reader
+        (door_of D.left D.trace D.faults door.old) (door_of D.left D.trace D.faults door.new)
+        result }
 {
     match door.hear(alloc) {
         Ok(Some(line)) => read_line(alloc, door, session, manner, reader, line),
@@ -180,7 +189,10 @@ pub fn talk<D: Door, H: Threads + Wait + Sync, F: Sink + Drop, G: Gate, B: Room<
     requires { HasAnswered session.old [] [] }
     ensures same { IsSame session.old.seat session.new.seat }
     ensures rises { session.old.known.upto ≤ session.new.known.upto }
-    ensures talked { Talked (HasAnswered session.new) (telling session.new.known.upto session.new.known.torn manner.now) (door_of D.left D.trace D.faults door.old) (door_of D.left D.trace D.faults door.new) result.clean result.end }
+    ensures talked { Talked (HasAnswered session.new)
+        (telling session.new.known.upto session.new.known.torn manner.now)
+        (door_of D.left D.trace D.faults door.old) (door_of D.left D.trace D.faults door.new)
+        result.clean result.end }
 {
     let mut reader = LiveReader::new();
     let mut clean = true;

@@ -37,21 +37,21 @@ close-closed-requires-clause-begun g c =
 
 pub close-closed-requires-clause-desk : goal.close-closed-requires-clause-desk
 close-closed-requires-clause-desk g c =
-    let many = as_many _ _ _ _ _ c.run_beside-ended.ensures in
+    let many = as_many _ _ _ _ _ _ c.run_beside-ended.ensures in
     let seats : length (map seat_in c.seated-seatings.result.items) ≡ length c.pop.new.self.items = ap length c.seated-seatings.ensures.seats in
     let short : length c.pop.new.self.items ≡ c.args.plan.now.sessions = search rules in
     desk_of c.args.ready.board c.args.plan.now.sessions g.B.Room.about c.requires.board.0 c.requires.number (length c.run_beside-ended.result.items) c.requires.board.1 (many ∙ seats ∙ short)
 
 pub close-closed-requires-clause-seats : goal.close-closed-requires-clause-seats
 close-closed-requires-clause-seats g c =
-    let many = as_many _ _ _ _ _ c.run_beside-ended.ensures in
+    let many = as_many _ _ _ _ _ _ c.run_beside-ended.ensures in
     let seats : length (map seat_in c.seated-seatings.result.items) ≡ length c.pop.new.self.items = ap length c.seated-seatings.ensures.seats in
     let short : length c.pop.new.self.items ≡ c.args.plan.now.sessions = search rules in
     (c.requires.back.0, omega (arith, many, seats, short, c.requires.back.1))
 
 pub close-closed-requires-clause-sessions : goal.close-closed-requires-clause-sessions
 close-closed-requires-clause-sessions g c =
-    let many = as_many _ _ _ _ _ c.run_beside-ended.ensures in
+    let many = as_many _ _ _ _ _ _ c.run_beside-ended.ensures in
     let seats : length (map seat_in c.seated-seatings.result.items) ≡ length c.pop.new.self.items = ap length c.seated-seatings.ensures.seats in
     let short : length c.pop.new.self.items ≡ c.args.plan.now.sessions = search rules in
     (c.requires.parted.0, omega (arith, many, seats, short, c.requires.parted.1))
@@ -67,7 +67,7 @@ returns-clause-run g c =
 
 pub returns-clause-many : goal.returns-clause-many
 returns-clause-many g c =
-    let many = as_many _ _ _ _ _ c.run_beside-ended.ensures in
+    let many = as_many _ _ _ _ _ _ c.run_beside-ended.ensures in
     let seats : length (map seat_in c.seated-seatings.result.items) ≡ length c.pop.new.self.items = ap length c.seated-seatings.ensures.seats in
     let short : length c.pop.new.self.items ≡ c.args.plan.now.sessions = search rules in
     c.close-closed.ensures.many ∙ (many ∙ seats ∙ short)
