@@ -70,8 +70,8 @@ def never_read(talk: Talk, end: str) -> None:
 def endless(talk: Talk, size: int) -> None:
     """A line of so many bytes, and then a command."""
     piece = b"x" * PIECE
-    for _ in range(size // PIECE):
-        talk.send(piece)
+    for at in range(0, size, PIECE):
+        talk.send(piece[: size - at])
     talk.send(b"\ntake\n")
     found = [talk.reply(), talk.reply()]
     if found[0].data != b"error C2 2\n" or found[1].sort != b"taken":
@@ -137,8 +137,10 @@ def use_badly(given: argparse.Namespace, live: Live, end: str) -> Asker:
     threads = [threading.Thread(target=kept, args=it, daemon=True) for it in works]
     for it in [asker, *threads]:
         it.start()
-    for it in threads:
-        it.join()
+    for (work, *_), it in zip(works, threads):
+        it.join(WAIT_SECONDS)
+        if it.is_alive():
+            raise Amiss(f"hostile: {work.__name__} did not end in {WAIT_SECONDS} s")
     deadline = time.monotonic() + WAIT_SECONDS
     while len(asker.seconds) < LEAST_ANSWERS and asker.is_alive() and time.monotonic() < deadline:
         time.sleep(0.01)
