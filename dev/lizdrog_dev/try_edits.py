@@ -142,7 +142,7 @@ def body_of(text, head):
     for row in text[at:].splitlines(keepends=True):
         line, at = row.rstrip("\n"), at + len(row)
         opens = line.lstrip().startswith((")", ">", "fn ", "pub ", "pub(", "const ", "unsafe ", "where "))
-        if opens and line.endswith(" {}"):
+        if opens and line.endswith(" {}") or line == f"{room}{{}}":
             return at - 2, at - 2
         if line == f"{room}{{" or opens and line.endswith(" {"):
             closes = re.compile(rf"^{room}\}}", re.M).search(text, at)
