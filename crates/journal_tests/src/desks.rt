@@ -1,12 +1,13 @@
 //! Two sessions whose notes are kept in a file before they are told of them.
 
-ghost use Rattle.std.specs.Prelude.{◌≡◌, ℕ, ◌+◌, ◌<◌, ◌≤◌, [], Some, length, All, IfSome, slice_get};
-ghost use Rattle.timing_defs.specs.Documents.{no_derates};
-ghost use Rattle.version_board.specs.Callers.{meaning, IsSeatOf, IsSame, IsNew};
+ghost use Rattle.std.specs.Prelude.{◌≡◌, ℕ, ◌+◌, ◌<◌, ◌≤◌, [], length, All, IfSome, slice_get};
+ghost use Rattle.version_board.specs.Callers.{IsSeatOf, IsNew};
 ghost use Rattle.live_journal.specs.Desk.{IsBoardOf};
 ghost use Rattle.live_journal.specs.Receipts.{nothing, knowing};
+ghost use Rattle.journal_tests.specs.Logs.{log_meaning, setting_of};
 
-use crate::notes::{Here, Log, Note, add, empty};
+use crate::logs::{Here, Log};
+use crate::notes::{add, empty};
 use live_journal::{Cell, Desk, Keeper, Left, Receipt, Room, Unkept, keep_shared, open_cell};
 use sta_outside::MemSink;
 use std::alloc::Global;
@@ -15,7 +16,7 @@ use std::process::Abort;
 use std::sync::{Arc, Mutex, Wait};
 use std::thread::{Threads, join};
 use timing_defs::Derates;
-use version_board::{Begun, Board, Seat, Stands};
+use version_board::{Begun, Board, Seat};
 
 /// A board of two sessions and a desk, and a cell for their receipts.
 #[derive(Drop)]
@@ -52,12 +53,12 @@ struct Ended {
 /// The board and its three seats, with a new cell.
 fn seated(rt: &impl Abort, alloc: Global, board: Board<Log>, mut seats: Vec<Seat<Log>>) -> Opened
     requires three { length seats.items ≡ 3 }
-    requires seats { let l = ⟦<Log as Stands>⟧ in All (IsSeatOf (meaning l.entries l.from l.origin l.by) board) seats.items }
+    requires seats { All (IsSeatOf log_meaning board) seats.items }
     requires new { (k : ℕ) → k < 3 → IfSome (slice_get seats.items k) (IsNew (k + 1)) }
     ensures board { result.board ≡ board }
-    ensures one { let l = ⟦<Log as Stands>⟧ in IsSeatOf (meaning l.entries l.from l.origin l.by) board result.one × IsNew 1 result.one }
-    ensures two { let l = ⟦<Log as Stands>⟧ in IsSeatOf (meaning l.entries l.from l.origin l.by) board result.two × IsNew 2 result.two }
-    ensures third { let l = ⟦<Log as Stands>⟧ in IsSeatOf (meaning l.entries l.from l.origin l.by) board result.third × IsNew 3 result.third }
+    ensures one { IsSeatOf log_meaning board result.one × IsNew 1 result.one }
+    ensures two { IsSeatOf log_meaning board result.two × IsNew 2 result.two }
+    ensures third { IsSeatOf log_meaning board result.third × IsNew 3 result.third }
 {
     let third = seats.pop().unwrap();
     let two = seats.pop().unwrap();
@@ -75,9 +76,9 @@ fn seated(rt: &impl Abort, alloc: Global, board: Board<Log>, mut seats: Vec<Seat
 
 fn begun(rt: &impl Abort, alloc: Global) -> Opened
     ensures board { (result.board.seats ≡ 3) × (result.board.opening.first ≡ 0) }
-    ensures one { let l = ⟦<Log as Stands>⟧ in IsSeatOf (meaning l.entries l.from l.origin l.by) result.board result.one × IsNew 1 result.one }
-    ensures two { let l = ⟦<Log as Stands>⟧ in IsSeatOf (meaning l.entries l.from l.origin l.by) result.board result.two × IsNew 2 result.two }
-    ensures third { let l = ⟦<Log as Stands>⟧ in IsSeatOf (meaning l.entries l.from l.origin l.by) result.board result.third × IsNew 3 result.third }
+    ensures one { IsSeatOf log_meaning result.board result.one × IsNew 1 result.one }
+    ensures two { IsSeatOf log_meaning result.board result.two × IsNew 2 result.two }
+    ensures third { IsSeatOf log_meaning result.board result.third × IsNew 3 result.third }
 {
     let value = empty(rt, alloc, 0);
     let Begun { board, seats } = Board::begin(alloc, 0, value, 3).expect(rt, "memory");
@@ -123,10 +124,10 @@ fn keep_each<R: Wait + Abort, B: Room<Here>>(
     session: Session<B>,
     count: u64,
 ) -> Session<B>
-    requires board { let l = ⟦<Log as Stands>⟧ in IsBoardOf (meaning l.entries l.from l.origin l.by) B.about board.now }
+    requires board { IsBoardOf log_meaning B.about board.now }
     requires cell { cell.now.table.shared.table_id ≡ B.about.cell }
-    requires seat { let l = ⟦<Log as Stands>⟧ in IsSeatOf (meaning l.entries l.from l.origin l.by) board.now session.seat }
-    ensures { let l = ⟦<Log as Stands>⟧ in IsSeatOf (meaning l.entries l.from l.origin l.by) board.now result.seat }
+    requires seat { IsSeatOf log_meaning board.now session.seat }
+    ensures { IsSeatOf log_meaning board.now result.seat }
 {
     let Session {
         mut seat,
@@ -159,23 +160,27 @@ fn keep_beside<R: Threads + Wait + Abort + Sync, B: Room<Here> + Send + Sync>(
     sessions: (Session<B>, Session<B>),
     count: u64,
 ) -> (Session<B>, Session<B>)
-    requires board { let l = ⟦<Log as Stands>⟧ in IsBoardOf (meaning l.entries l.from l.origin l.by) B.about board.now }
+    requires board { IsBoardOf log_meaning B.about board.now }
     requires cell { cell.now.table.shared.table_id ≡ B.about.cell }
-    requires one { let l = ⟦<Log as Stands>⟧ in IsSeatOf (meaning l.entries l.from l.origin l.by) board.now sessions.0.seat }
-    requires two { let l = ⟦<Log as Stands>⟧ in IsSeatOf (meaning l.entries l.from l.origin l.by) board.now sessions.1.seat }
-    ensures one { let l = ⟦<Log as Stands>⟧ in IsSeatOf (meaning l.entries l.from l.origin l.by) board.now result.0.seat }
-    ensures two { let l = ⟦<Log as Stands>⟧ in IsSeatOf (meaning l.entries l.from l.origin l.by) board.now result.1.seat }
+    requires one { IsSeatOf log_meaning board.now sessions.0.seat }
+    requires two { IsSeatOf log_meaning board.now sessions.1.seat }
+    ensures one { IsSeatOf log_meaning board.now result.0.seat }
+    ensures two { IsSeatOf log_meaning board.now result.1.seat }
 {
     let (one, two) = sessions;
     join(
         rt,
         || -> Session<B>
-            requires { IsBoardOf (meaning (λ (l : Log). l.notes.items) (λ (l : Log). l.first) (λ (l : Log). record {}) (λ (n : Note). n.seat)) B.about board.now × (cell.now.table.shared.table_id ≡ B.about.cell) × IsSeatOf (meaning (λ (l : Log). l.notes.items) (λ (l : Log). l.first) (λ (l : Log). record {}) (λ (n : Note). n.seat)) board.now one.seat }
-            ensures { IsSeatOf (meaning (λ (l : Log). l.notes.items) (λ (l : Log). l.first) (λ (l : Log). record {}) (λ (n : Note). n.seat)) board.entry.now result.seat }
+            requires { IsBoardOf log_meaning B.about board.now
+                × (cell.now.table.shared.table_id ≡ B.about.cell)
+                × IsSeatOf log_meaning board.now one.seat }
+            ensures { IsSeatOf log_meaning board.entry.now result.seat }
         { keep_each(rt, alloc, board, cell, desk, one, count) },
         || -> Session<B>
-            requires { IsBoardOf (meaning (λ (l : Log). l.notes.items) (λ (l : Log). l.first) (λ (l : Log). record {}) (λ (n : Note). n.seat)) B.about board.now × (cell.now.table.shared.table_id ≡ B.about.cell) × IsSeatOf (meaning (λ (l : Log). l.notes.items) (λ (l : Log). l.first) (λ (l : Log). record {}) (λ (n : Note). n.seat)) board.now two.seat }
-            ensures { IsSeatOf (meaning (λ (l : Log). l.notes.items) (λ (l : Log). l.first) (λ (l : Log). record {}) (λ (n : Note). n.seat)) board.entry.now result.seat }
+            requires { IsBoardOf log_meaning B.about board.now
+                × (cell.now.table.shared.table_id ≡ B.about.cell)
+                × IsSeatOf log_meaning board.now two.seat }
+            ensures { IsSeatOf log_meaning board.entry.now result.seat }
         { keep_each(rt, alloc, board, cell, desk, two, count) },
     )
 }
@@ -211,8 +216,8 @@ fn closed<B: Room<Here>>(
     one: Seat<Log>,
     two: Seat<Log>,
 ) -> Ended
-    requires board { let l = ⟦<Log as Stands>⟧ in (board.seats ≡ 3) × IsBoardOf (meaning l.entries l.from l.origin l.by) B.about board }
-    requires seats { let l = ⟦<Log as Stands>⟧ in IsSeatOf (meaning l.entries l.from l.origin l.by) board one × IsSeatOf (meaning l.entries l.from l.origin l.by) board two }
+    requires board { (board.seats ≡ 3) × IsBoardOf log_meaning B.about board }
+    requires seats { IsSeatOf log_meaning board one × IsSeatOf log_meaning board two }
     ensures { result.kept ≡ desk.kept }
 {
     let Left {
@@ -241,13 +246,13 @@ fn kept_beside<R: Threads + Wait + Abort + Sync, B: Room<Here> + Send + Sync>(
     file: MemSink,
     count: u64,
 ) -> (Ended, u64, u64)
-    requires about { B.about ≡ record { table = opened.board.id; first = 0; origin = Some (record {}); number = 3; before = Some []; faults = 0; derates = no_derates; cell = opened.cell.table.shared.table_id } }
+    requires about { B.about ≡ setting_of opened.board opened.keeper }
     requires file { file.bytes.items ≡ [] }
     requires faults { file.plan.faults ≡ 0 }
     requires board { (opened.board.seats ≡ 3) × (opened.board.opening.first ≡ 0) }
-    requires one { let l = ⟦<Log as Stands>⟧ in IsSeatOf (meaning l.entries l.from l.origin l.by) opened.board opened.one × (opened.one.view.number ≡ 1) }
-    requires two { let l = ⟦<Log as Stands>⟧ in IsSeatOf (meaning l.entries l.from l.origin l.by) opened.board opened.two × (opened.two.view.number ≡ 2) }
-    requires third { let l = ⟦<Log as Stands>⟧ in IsSeatOf (meaning l.entries l.from l.origin l.by) opened.board opened.third × IsNew 3 opened.third }
+    requires one { IsSeatOf log_meaning opened.board opened.one × (opened.one.view.number ≡ 1) }
+    requires two { IsSeatOf log_meaning opened.board opened.two × (opened.two.view.number ≡ 2) }
+    requires third { IsSeatOf log_meaning opened.board opened.third × IsNew 3 opened.third }
     ensures told { (result.1 ≤ result.0.kept) × (result.2 ≤ result.0.kept) }
 {
     let Opened {
@@ -316,13 +321,13 @@ fn kept_in_turn<R: Wait + Abort, B: Room<Here>>(
     opened: Opened,
     file: MemSink,
 ) -> (Ended, [Result<(), Unkept>; 4])
-    requires about { B.about ≡ record { table = opened.board.id; first = 0; origin = Some (record {}); number = 3; before = Some []; faults = 0; derates = no_derates; cell = opened.cell.table.shared.table_id } }
+    requires about { B.about ≡ setting_of opened.board opened.keeper }
     requires file { file.bytes.items ≡ [] }
     requires faults { file.plan.faults ≡ 0 }
     requires board { (opened.board.seats ≡ 3) × (opened.board.opening.first ≡ 0) }
-    requires one { let l = ⟦<Log as Stands>⟧ in IsSeatOf (meaning l.entries l.from l.origin l.by) opened.board opened.one × (opened.one.view.number ≡ 1) }
-    requires two { let l = ⟦<Log as Stands>⟧ in IsSeatOf (meaning l.entries l.from l.origin l.by) opened.board opened.two × (opened.two.view.number ≡ 2) }
-    requires third { let l = ⟦<Log as Stands>⟧ in IsSeatOf (meaning l.entries l.from l.origin l.by) opened.board opened.third × IsNew 3 opened.third }
+    requires one { IsSeatOf log_meaning opened.board opened.one × (opened.one.view.number ≡ 1) }
+    requires two { IsSeatOf log_meaning opened.board opened.two × (opened.two.view.number ≡ 2) }
+    requires third { IsSeatOf log_meaning opened.board opened.third × IsNew 3 opened.third }
 {
     let Opened {
         board,

@@ -5,6 +5,7 @@
 mod blocks;
 #[cfg(test)]
 mod desks;
+mod logs;
 #[cfg(test)]
 mod notes;
 #[cfg(test)]

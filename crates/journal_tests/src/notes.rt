@@ -1,10 +1,11 @@
 //! A board of notes, whose text is a line each: the number of its seat as a byte, and a line feed.
 
-ghost use Rattle.std.specs.Prelude.{◌≡◌, ◌+◌, ◌-◌, ◌^◌, ◌<◌, ◌≤◌, [], ◌∷◌, ◌++◌, length, drop, IfOk, Some, None};
+ghost use Rattle.std.specs.Prelude.{◌≡◌, ◌^◌, ◌≤◌, [], ◌∷◌, ◌++◌, IfOk};
 ghost use Rattle.std.specs.Arc.{arc_value};
-ghost use Rattle.std.specs.List.{flat_map};
-ghost use Rattle.version_board.specs.Callers.{meaning, IsSeatOf, IsSame};
+ghost use Rattle.version_board.specs.Callers.{IsSeatOf, IsSame};
+ghost use Rattle.journal_tests.specs.Logs.{log_meaning, lines_of};
 
+use crate::logs::{Here, Log, Note};
 use live_journal::{Room, Saves};
 use sta_units::Memory;
 use std::alloc::Global;
@@ -13,23 +14,6 @@ use std::process::Abort;
 use std::sync::{Arc, Wait};
 use timing_defs::Derates;
 use version_board::{Board, Seat, Stands, Unpublished};
-
-#[derive(Debug, Clone, Copy, PartialEq, Eq, Drop)]
-pub(crate) struct Note {
-    pub(crate) seat: u8,
-}
-
-/// What logs start from.
-#[derive(Drop)]
-pub(crate) struct Here;
-
-/// A list of notes from a first number.
-#[derive(Drop)]
-pub(crate) struct Log {
-    pub(crate) first: u64,
-    pub(crate) notes: Vec<Note>,
-    ghost within: { first + length notes.items < 2 ^ 63 },
-}
 
 impl Stands for Log {
     type Entry = Note;
@@ -56,7 +40,7 @@ impl Stands for Log {
 /// The lines of notes.
 #[tactic(auto, using(std::proofs::lemmas::List::drop_more))]
 fn lines(alloc: Global, notes: &[Note]) -> Result<Vec<u8>, Memory>
-    ensures { IfOk result (λ bytes. bytes.items ≡ flat_map (λ note. note.seat ∷ 10 ∷ []) notes.now) }
+    ensures { IfOk result (λ bytes. bytes.items ≡ lines_of notes.now) }
 {
     let mut bytes = Vec::new(alloc);
     for note in notes {
@@ -103,7 +87,8 @@ pub(crate) fn empty(rt: &impl Abort, alloc: Global, first: u64) -> Arc<Log>
 
 /// The log with one more note.
 fn longer(rt: &impl Abort, alloc: Global, base: &Log, note: Note) -> Arc<Log>
-    ensures { ((arc_value result).notes.items ≡ base.now.notes.items ++ note ∷ []) × ((arc_value result).first ≡ base.now.first) }
+    ensures notes { (arc_value result).notes.items ≡ base.now.notes.items ++ note ∷ [] }
+    ensures first { (arc_value result).first ≡ base.now.first }
 {
     assert!(rt; base.count() < 1 << 62);
     let mut notes = Vec::from_slice(alloc, base.notes.as_slice()).expect(rt, "memory");
@@ -123,7 +108,7 @@ pub(crate) fn add<R: Wait + Abort>(
     seat: &mut Seat<Log>,
     who: u8,
 ) -> u64
-    requires { let l = ⟦<Log as Stands>⟧ in IsSeatOf (meaning l.entries l.from l.origin l.by) board.now seat.old × (who ≡ seat.old.view.number) }
+    requires { IsSeatOf log_meaning board.now seat.old × (who ≡ seat.old.view.number) }
     ensures { IsSame seat.old seat.new }
 {
     for _ in rt.forever() {

@@ -1,5 +1,5 @@
 -- Each step of a pass keeps the rule of its cell.
-use Rattle.std.proofs.Common.{◌≡◌, ◌≢◌, ◌⊎◌, ℕ, zero, suc, List, [], ◌∷◌, set, Bool, true, false, true≢false, refl, sym, ◌∙◌, subst, ⊎_elim, le_refl, le_trans, zero-le, arith}
+use Rattle.std.proofs.Common.{◌≡◌, ◌≢◌, ℕ, zero, suc, List, [], ◌∷◌, set, Bool, true, false, true≢false, refl, sym, ◌∙◌, subst, ⊎_elim, le_refl, le_trans, zero-le, arith}
 use Rattle.std.specs.Prelude.{◌||◌}
 use mathlib.Core.Option.{some, some-ne-none, some-injective}
 use lib.ListN.{get_elem?}

@@ -7,6 +7,7 @@ use Rattle.atomic_table.specs.Seated.{TableId}
 use Rattle.timing_defs.specs.declared.constraints.Derates.{Derates}
 use Rattle.timing_defs.specs.declared.edits.Entry.{Entry}
 use Rattle.timing_defs.specs.Documents.{no_derates}
+use Rattle.timing_defs.specs.Saved.{block_text}
 use Rattle.sta_outside.specs.Shelf.{Rose}
 use Rattle.sta_outside.specs.Sink.{Appends, AppendsPrefix}
 use Rattle.version_board.specs.Callers.{Sitting, Standing}
@@ -20,7 +21,19 @@ abbrev pub single : List Entry → List (List Entry)
 single [] = []
 single (e ∷ es) = (e ∷ []) ∷ single es
 
+-- the text of blocks of one entry each, numbered behind `first` others
+abbrev pub entry_blocks : Derates → ℕ → List Entry → List ℕ
+entry_blocks derates first entries = blocks_text derates first (single entries)
+
+-- a text grows by the block of one entry, numbered behind `first` others
+abbrev pub AddsBlock : ℕ → Derates → Entry → List ℕ → List ℕ → Type 0
+AddsBlock first derates entry old new = new ≡ old ++ block_text first derates (entry ∷ [])
+
 module _ {E : Type 0} where
+  -- the text of a list is that of its beginning, and then that of the rest, numbered behind it
+  abbrev pub JoinsLists : (Derates → ℕ → List E → List ℕ) → Type 0
+  JoinsLists text = (d : Derates) (n : ℕ) (xs ys : List E) → text d n (xs ++ ys) ≡ text d n xs ++ text d (n + length xs) ys
+
   -- the file is what it was, then the text of the first n entries, and where a put failed a prefix of the text of the next ones.
   -- `text from es` is the text of entries that stand behind the number `from`
   abbrev pub HasText : (ℕ → List E → List ℕ) → Option (List ℕ) → Option (List ℕ) → ℕ → List E → ℕ → Bool → Type 0
@@ -110,6 +123,10 @@ module _ {E O : Type 0} where
     pub few : d.kept ≤ s.first + length d.seat.view.seen
     pub written : HasText (text s.derates) s.before d.file s.first d.seat.view.seen (d.kept - s.first) d.sound
     pub blamed : IsBlamed d.sound s.faults d.faults
+
+  -- the text of all that a desk's seat saw and that does not stand in the file
+  abbrev pub lacking_text : (Derates → ℕ → List E → List ℕ) → Setting O → Keeping E O → List ℕ
+  lacking_text text s d = text s.derates d.kept (drop (d.kept - s.first) d.seat.view.seen)
 
   -- a desk saw to it that all entries up to a number stand in the file: they did, or it looked at the board and one put wrote
   -- all that its seat saw then; or a put failed, now or before, and it never writes again

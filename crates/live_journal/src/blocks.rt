@@ -1,9 +1,7 @@
 //! The text of blocks of one entry each.
 
-ghost use Rattle.std.specs.Prelude.{◌≡◌, ◌^◌, ◌≤◌, [], ◌∷◌, ◌++◌, IfOk, OnOk};
-ghost use Rattle.timing_defs.specs.Saved.{block_text};
-ghost use Rattle.eco_journal.specs.Blocks.{blocks_text};
-ghost use Rattle.live_journal.specs.Desk.{single};
+ghost use Rattle.std.specs.Prelude.{◌≡◌, ◌^◌, ◌≤◌, [], ◌∷◌, IfOk, OnOk};
+ghost use Rattle.live_journal.specs.Desk.{entry_blocks, AddsBlock};
 
 use eco_journal::block_text;
 use sta_units::{Again, Memory, append};
@@ -30,12 +28,12 @@ fn alone(alloc: Global, entry: &Entry) -> Result<Items<Entry>, Memory>
 /// A block of one entry, behind `first` others.
 fn push_block(
     alloc: Global,
-    bytes: &mut Vec<u8>,
+    out: &mut Vec<u8>,
     first: u64,
     derates: &Derates,
     entry: &Entry,
 ) -> Result<(), Memory>
-    ensures text { OnOk result (bytes.new.items ≡ bytes.old.items ++ block_text first derates.now (entry.now ∷ [])) }
+    ensures text { OnOk result (AddsBlock first derates.now entry.now out.old.items out.new.items) }
     ensures low { OnOk result (first ≤ 2 ^ 62) }
 {
     if first > MOST {
@@ -45,7 +43,7 @@ fn push_block(
         Ok(one) => {
             let text = block_text(alloc, first, derates, &one);
             drop(one);
-            append(bytes, text?.as_slice())
+            append(out, text?.as_slice())
         }
         Err(Memory) => Err(Memory),
     }
@@ -63,7 +61,7 @@ pub fn single_blocks(
     first: u64,
     entries: &[Entry],
 ) -> Result<Vec<u8>, Memory>
-    ensures { IfOk result (λ bytes. bytes.items ≡ blocks_text derates.now first (single entries.now)) }
+    ensures { IfOk result (λ bytes. bytes.items ≡ entry_blocks derates.now first entries.now) }
 {
     let mut bytes = Vec::new(alloc);
     let mut number = first;

@@ -1,11 +1,11 @@
 //! The desk.
 
-ghost use Rattle.std.specs.Prelude.{◌≡◌, ◌+◌, ◌-◌, ◌<◌, ◌≤◌, true, false, length, drop, IfOk, OnOk, IfErr};
+ghost use Rattle.std.specs.Prelude.{◌≡◌, ◌+◌, ◌<◌, ◌≤◌, true, false, length, IfOk, OnOk, IfErr};
 ghost use Rattle.std.specs.Arc.{arc_value};
 ghost use mathlib.Core.List.{IsPrefix};
 ghost use Rattle.version_board.specs.Callers.{meaning, IsSeatOf, IsSame};
 ghost use Rattle.live_journal.specs.declared.desks.Unkept.TheVariants.{Failed};
-ghost use Rattle.live_journal.specs.Desk.{keeping, IsBoardOf, IsSeatAt, IsDesk, Keeps, Puts};
+ghost use Rattle.live_journal.specs.Desk.{keeping, lacking_text, IsBoardOf, IsSeatAt, IsDesk, Keeps, Puts};
 ghost use Rattle.live_journal.specs.Receipts.{nothing, known, knowing, IsAtMost};
 
 use crate::cells::{Cell, Keeper, Known};
@@ -54,7 +54,11 @@ impl<T: Saves, F: Sink, B: Room<<T as Stands>::Origin>> Model for Desk<T, F, B> 
 
     ghost view = { λ d. keeping d.seat d.kept d.sound (F.written d.sink) (F.faults d.sink) };
 
-    ghost invariant = { λ d. (d.derates ≡ B.about.derates) × IsDesk T.text B.about (keeping d.seat d.kept d.sound (F.written d.sink) (F.faults d.sink)) × (d.keeper.cell ≡ B.about.cell) × IsAtMost d.keeper.known (known d.kept d.sound) };
+    ghost invariant = { λ d.
+        (d.derates ≡ B.about.derates)
+        × IsDesk T.text B.about (keeping d.seat d.kept d.sound (F.written d.sink) (F.faults d.sink))
+        × (d.keeper.cell ≡ B.about.cell)
+        × IsAtMost d.keeper.known (known d.kept d.sound) };
 }
 
 /// What is left of a desk: its seat, for the board to close, and the file.
@@ -79,7 +83,8 @@ fn await_number<T: Saves, R: Wait>(
     requires { IsSeatOf (meaning T.entries T.from T.origin T.by) board.now seat.old }
     ensures same { IsSame seat.old seat.new × (seat.new.view.mine ≡ seat.old.view.mine) }
     ensures seen { IsPrefix seat.old.view.seen seat.new.view.seen }
-    ensures value { IfOk result (λ a. (T.entries (arc_value a) ≡ seat.new.view.seen) × (T.from (arc_value a) ≡ T.from board.now.opening)) }
+    ensures value { IfOk result (λ a. T.entries (arc_value a) ≡ seat.new.view.seen) }
+    ensures from { IfOk result (λ a. T.from (arc_value a) ≡ T.from board.now.opening) }
     ensures there { OnOk result (number ≤ T.from board.now.opening + length seat.new.view.seen) }
 {
     for _ in rt.forever() {
@@ -193,7 +198,8 @@ impl<T: Saves, F: Sink + Drop, B: Room<<T as Stands>::Origin>> Desk<T, F, B> {
         requires sound { self.old.sound ≡ true }
         ensures same { self.new ≡ record self.old { seat = self.new.seat } }
         ensures seen { IsPrefix self.old.seat.view.seen self.new.seat.view.seen }
-        ensures value { IfOk result (λ a. (T.entries (arc_value a) ≡ self.new.seat.view.seen) × (T.from (arc_value a) ≡ B.about.first)) }
+        ensures value { IfOk result (λ a. T.entries (arc_value a) ≡ self.new.seat.view.seen) }
+        ensures from { IfOk result (λ a. T.from (arc_value a) ≡ B.about.first) }
         ensures there { OnOk result (number ≤ B.about.first + length self.new.seat.view.seen) }
     {
         await_number(rt, board, &mut self.seat, number)
@@ -202,7 +208,7 @@ impl<T: Saves, F: Sink + Drop, B: Room<<T as Stands>::Origin>> Desk<T, F, B> {
     /// Puts the text of all that was seen and does not stand in the file; `upto` is the number of the last of these entries.
     fn put(&mut self, text: &[u8], upto: u64) -> Result<(), Unkept>
         requires sound { self.old.sound ≡ true }
-        requires text { text.now ≡ T.text B.about.derates self.old.kept (drop (self.old.kept - B.about.first) self.old.seat.view.seen) }
+        requires text { text.now ≡ lacking_text T.text B.about self.old }
         requires upto { upto ≡ B.about.first + length self.old.seat.view.seen }
         ensures seat { self.new.seat ≡ self.old.seat }
         ensures put { Puts B.about.first self.old self.new result }

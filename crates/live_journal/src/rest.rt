@@ -25,7 +25,8 @@ pub fn put_rest<T: Saves, F: Sink>(
 ) -> Result<(), Unkept>
     requires low { T.from last.now ≤ kept }
     requires high { kept ≤ T.from last.now + length (T.entries last.now) }
-    ensures rest { PutsRest (T.text derates.now) (T.from last.now) (T.entries last.now) (kept - T.from last.now) sound (F.written file.old) (F.written file.new) result }
+    ensures rest { PutsRest (T.text derates.now) (T.from last.now) (T.entries last.now)
+        (kept - T.from last.now) sound (F.written file.old) (F.written file.new) result }
     ensures blamed { RestBlamed sound (F.faults file.old) (F.faults file.new) result }
 {
     if !sound {

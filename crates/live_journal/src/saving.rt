@@ -1,7 +1,8 @@
 //! Values whose entries are kept in a file.
 
-ghost use Rattle.std.specs.Prelude.{◌≡◌, ℕ, ◌+◌, ◌-◌, ◌≤◌, List, [], ◌++◌, length, drop, IfOk};
+ghost use Rattle.std.specs.Prelude.{◌≡◌, ℕ, ◌+◌, ◌-◌, ◌≤◌, List, [], length, drop, IfOk};
 ghost use Rattle.timing_defs.specs.declared.constraints.Derates.{Derates};
+ghost use Rattle.live_journal.specs.Desk.{JoinsLists};
 
 use sta_units::Memory;
 use std::alloc::Global;
@@ -21,9 +22,10 @@ pub trait Saves: Stands {
     fn text_from(&self, alloc: Global, derates: &Derates, from: u64) -> Result<Vec<u8>, Memory>
         requires low { Self.from self.now ≤ from }
         requires high { from ≤ Self.from self.now + length (Self.entries self.now) }
-        ensures { IfOk result (λ bytes. bytes.items ≡ text derates.now from (drop (from - Self.from self.now) (Self.entries self.now))) };
+        ensures { IfOk result (λ bytes. bytes.items
+            ≡ text derates.now from (drop (from - Self.from self.now) (Self.entries self.now))) };
 
     ghost none: { (d : Derates) (n : ℕ) → text d n [] ≡ [] };
 
-    ghost joins: { (d : Derates) (n : ℕ) (xs ys : List Self.Entry) → text d n (xs ++ ys) ≡ text d n xs ++ text d (n + length xs) ys };
+    ghost joins: { JoinsLists text };
 }
