@@ -1,10 +1,9 @@
 //! A door over an input and an output that are open.
 
-ghost use Rattle.std.specs.Prelude.{◌≡◌, ◌≤◌, [], ◌∷◌, None, Some, IfOk, IfErr, IfSome, OnOk, OnErr, length, option_map, vec_items};
-ghost use Rattle.std.specs.Io.KnownBytes.{Appends};
-ghost use Rattle.live_doors.specs.Doors.{kept, said, Hears, Grows, SaysPart, HasCause};
-ghost use Rattle.live_doors.specs.Lines.{kept_length, ReadsLine};
-ghost use Rattle.live_doors.specs.Marks.{IsCut, deeds};
+ghost use Rattle.std.specs.Prelude.{◌≡◌, ◌≤◌, [], ◌∷◌, IfOk, IfErr, IfSome, OnOk, OnErr, length};
+ghost use Rattle.live_doors.specs.Doors.{kept, Grows, Says, SaysPart, HearsAt, HasCause};
+ghost use Rattle.live_doors.specs.Lines.{kept_length, TakesLine};
+ghost use Rattle.live_doors.specs.Marks.{deeds, told, untold, Writes, IsCut};
 ghost use Rattle.sta_outside.specs.Shelf.{Rose};
 
 use crate::door::{Door, Keeper, Lost};
@@ -17,7 +16,7 @@ use std::io::{BufRead, Write};
 /// A door over an input and an output. It tells what its reads gave and its writes took, in their order, and
 /// not the lines to come. The output must not hold bytes back.
 #[derive(Drop)]
-pub struct OpenDoor<B: BufRead, W: Write> {
+pub struct OpenDoor<B, W> {
     input: B,
     output: W,
     faults: u64,
@@ -42,20 +41,20 @@ impl<B: BufRead, W: Write> OpenDoor<B, W> {
 }
 
 impl<B: BufRead, W: Write> Door for OpenDoor<B, W> {
-    ghost left = { λ _. None };
+    ghost left = { untold };
 
-    ghost trace = { λ door. Some (deeds door.history) };
+    ghost trace = { told };
 
     ghost faults = { λ door. door.faults };
 
     fn hear(&mut self, alloc: Global) -> Result<Option<Vec<u8>>, Lost>
-        ensures line { IfOk result (λ got. Hears None None (Some (deeds self.old.history)) (Some (deeds self.new.history)) (option_map vec_items got)) }
+        ensures line { IfOk result (HearsAt untold told self.old self.new) }
         ensures within { IfOk result (λ got. IfSome got (λ line. length line.items ≤ kept_length)) }
         ensures quiet { OnOk result (self.new.faults ≡ self.old.faults) }
         ensures none { OnErr result (deeds self.new.history ≡ deeds self.old.history) }
         ensures cause { IfErr result (λ lost. HasCause lost self.old.faults self.new.faults) }
         // which bytes of the input it is, where they are known
-        ensures bytes { IfOk result (λ got. ReadsLine (B.remaining self.old.input) (B.remaining self.new.input) (option_map vec_items got)) }
+        ensures bytes { IfOk result (TakesLine B.remaining self.old.input self.new.input) }
     {
         match next_line(alloc, &mut self.input) {
             Ok(None) => Ok(None),
@@ -72,15 +71,15 @@ impl<B: BufRead, W: Write> Door for OpenDoor<B, W> {
     }
 
     fn say(&mut self, piece: &Vec<u8>) -> Result<(), Lost>
-        ensures whole { OnOk result (Grows (Some (deeds self.old.history)) (Some (deeds self.new.history)) (said piece.now.items ∷ [])) }
+        ensures whole { OnOk result (Says (told self.old) (told self.new) piece.now.items) }
         ensures quiet { OnOk result (self.new.faults ≡ self.old.faults) }
-        ensures partly { OnErr result (SaysPart (Some (deeds self.old.history)) (Some (deeds self.new.history)) piece.now.items) }
+        ensures partly { OnErr result (SaysPart (told self.old) (told self.new) piece.now.items) }
         ensures cause { OnErr result (Rose self.old.faults self.new.faults) }
         ensures lost { IfErr result (λ lost. lost ≡ Lost.Output) }
         // what the output was given, where its bytes are known
-        ensures bytes { OnOk result (Appends (W.contents self.old.output) (W.contents self.new.output) piece.now.items) }
+        ensures bytes { OnOk result (Writes W.contents self.old self.new piece.now.items) }
         // and that it was given what is told of a piece that was cut
-        ensures cut { OnErr result (IsCut (deeds self.old.history) (deeds self.new.history) (W.contents self.old.output) (W.contents self.new.output) piece.now.items) }
+        ensures cut { OnErr result (IsCut W.contents self.old self.new piece.now.items) }
     {
         match write_whole(&mut self.output, piece.as_slice()) {
             Ok(()) => {
@@ -96,7 +95,7 @@ impl<B: BufRead, W: Write> Door for OpenDoor<B, W> {
     }
 
     fn note<K: Keeper>(&mut self, _keeper: &K, number: u64)
-        ensures kept { Grows (Some (deeds self.old.history)) (Some (deeds self.new.history)) (kept number ∷ []) }
+        ensures kept { Grows (told self.old) (told self.new) (kept number ∷ []) }
         ensures quiet { self.new.faults ≡ self.old.faults }
     {
         self.history.keep(number);
