@@ -1,5 +1,6 @@
 -- The door of a session: the lines that come in at it, and what was done at it, in order.
-use Rattle.std.specs.Prelude.{◌≡◌, ℕ, ◌⊎◌, List, [], ◌∷◌, ◌++◌, take, ⊤}
+use Rattle.std.specs.Prelude.{◌≡◌, ℕ, ◌⊎◌, List, [], ◌∷◌, ◌++◌, option_map, take, vec_items, ⊤}
+use Rattle.std.specs.Global.{Vec}
 use Rattle.std.specs.declared.option.Option.{Option}
 use Rattle.std.specs.declared.option.Option.TheVariants.{None, Some}
 use Rattle.sta_outside.specs.Shelf.{Rose}
@@ -49,6 +50,19 @@ IsPartOf piece deeds = (deeds ≡ []) ⊎ ((n : ℕ) × (deeds ≡ said (take n 
 -- nothing of a piece was written, or a prefix of it
 abbrev pub SaysPart : Option (List Deed) → Option (List Deed) → List ℕ → Type 0
 SaysPart before after piece = (deeds : List Deed) × IsPartOf piece deeds × Grows before after deeds
+
+-- a piece was said
+abbrev pub Says : Option (List Deed) → Option (List Deed) → List ℕ → Type 0
+Says before after piece = Grows before after (said piece ∷ [])
+
+module _ {D : Type 0} where
+  -- what was heard at a door that tells its lines to come and its deeds in this way
+  abbrev pub HearsAt : (D → Option (List (List ℕ))) → (D → Option (List Deed)) → D → D → Option (Vec ℕ) → Type 0
+  HearsAt left trace old new got = Hears (left old) (left new) (trace old) (trace new) (option_map vec_items got)
+
+  -- nothing was heard at it
+  abbrev pub HearsNothing : (D → Option (List (List ℕ))) → (D → Option (List Deed)) → D → D → Type 0
+  HearsNothing left trace old new = Loses (left old) (left new) [] × Grows (trace old) (trace new) []
 
 -- why no line was heard, by the counts of faults before and after
 abbrev pub HasCause : Lost → ℕ → ℕ → Type 0

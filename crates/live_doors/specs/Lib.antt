@@ -5,3 +5,4 @@ pub mod Halls
 pub mod InMemory
 pub mod Lines
 pub mod Marks
+pub mod MemDoors

@@ -1,7 +1,8 @@
 -- The lines of an input: each ends at a line feed, or with the input.
-use Rattle.std.specs.Prelude.{◌≡◌, ◌≢◌, ℕ, List, [], ◌∷◌, ◌++◌, ◌==◌, if◌then◌else◌, All, take, ⊤}
+use Rattle.std.specs.Prelude.{◌≡◌, ◌≢◌, ℕ, List, [], ◌∷◌, ◌++◌, ◌==◌, if◌then◌else◌, All, option_map, take, vec_items, ⊤}
 use Rattle.std.specs.Io.BufRead.{drop_through}
 use Rattle.std.specs.Io.KnownBytes.{Consumes, IsAtEnd}
+use Rattle.std.specs.Global.{Vec}
 use Rattle.std.specs.declared.option.Option.{Option}
 use Rattle.std.specs.declared.option.Option.TheVariants.{None, Some}
 use Rattle.live_doors.specs.declared.lines.Behind.{Behind}
@@ -32,6 +33,10 @@ ReadsLine None left got = ⊤
 ReadsLine (Some bytes) None got = ⊥
 ReadsLine (Some bytes) (Some left) got = IsNextLine bytes left got
 
+-- a line is read from an input that tells its bytes in this way, where they are known
+abbrev pub TakesLine : {B : Type 0} → (B → Option (List ℕ)) → B → B → Option (Vec ℕ) → Type 0
+TakesLine remaining old new got = ReadsLine (remaining old) (remaining new) (option_map vec_items got)
+
 -- some bytes of a line are read and kept as far as they fit, with what ends it
 abbrev pub ReadsPart : Option (List ℕ) → Option (List ℕ) → List ℕ → List ℕ → List ℕ → Type 0
 ReadsPart old new before after end =
@@ -42,3 +47,7 @@ abbrev pub Reads : Option (List ℕ) → Option (List ℕ) → List ℕ → List
 Reads old new before after More = ReadsPart old new before after []
 Reads old new before after LineEnd = ReadsPart old new before after (10 ∷ [])
 Reads old new before after InputEnd = Consumes old new [] × IsAtEnd old × (after ≡ before)
+
+-- the same of an input that tells its bytes in this way
+abbrev pub ReadsOn : {B : Type 0} → (B → Option (List ℕ)) → B → B → Vec ℕ → Vec ℕ → Behind → Type 0
+ReadsOn remaining old new before after end = Reads (remaining old) (remaining new) before.items after.items end

@@ -2,9 +2,8 @@
 
 ghost use Rattle.std.specs.Prelude.{◌≡◌, ◌≤◌, [], ◌++◌, Some, IfOk, OnOk, OnErr, length, take};
 ghost use Rattle.std.specs.Io.KnownBytes.{Appends as Grows};
-ghost use Rattle.live_doors.specs.Marks.{IsPut, put_bytes};
+ghost use Rattle.live_doors.specs.Marks.{put_bytes, HasPut, HasPutPart, IsPut};
 ghost use Rattle.sta_outside.specs.Shelf.{Rose};
-ghost use Rattle.sta_outside.specs.Sink.{AppendsPrefix};
 
 use crate::log::Log;
 use crate::writing::write_whole;
@@ -115,12 +114,12 @@ impl<F: Write + OpenFile> Sink for AppendSink<F> {
 
     fn put(&mut self, bytes: &[u8]) -> Result<(), PutFault>
         ensures count { self.old.faults ≤ self.new.faults }
-        ensures appended { OnOk result (put_bytes self.new.told.items ≡ put_bytes self.old.told.items ++ bytes.now) }
+        ensures appended { OnOk result (HasPut self.old self.new bytes.now) }
         ensures quiet { OnOk result (self.new.faults ≡ self.old.faults) }
         ensures cause { OnErr result (Rose self.old.faults self.new.faults) }
-        ensures partly { OnErr result (AppendsPrefix (Some (put_bytes self.old.told.items)) (Some (put_bytes self.new.told.items)) bytes.now) }
+        ensures partly { OnErr result (HasPutPart self.old self.new bytes.now) }
         // the file was given what is told, where its bytes are known
-        ensures file { IsPut (put_bytes self.old.told.items) (put_bytes self.new.told.items) (F.contents self.old.file) (F.contents self.new.file) }
+        ensures file { IsPut F.contents self.old self.new }
     {
         let (count, result) = append(&mut self.file, bytes);
         tell(&mut self.told, &bytes[..count]);

@@ -1,8 +1,8 @@
 //! The door of a session: what comes in and what goes out, in one order.
 
-ghost use Rattle.std.specs.Prelude.{◌≡◌, ℕ, ◌≤◌, List, [], ◌∷◌, IfOk, IfErr, IfSome, OnOk, OnErr, length, option_map, vec_items};
+ghost use Rattle.std.specs.Prelude.{◌≡◌, ℕ, ◌≤◌, List, [], ◌∷◌, IfOk, IfErr, IfSome, OnOk, OnErr, length};
 ghost use Rattle.std.specs.declared.option.Option.{Option};
-ghost use Rattle.live_doors.specs.Doors.{Deed, kept, said, Hears, Loses, Grows, SaysPart, HasCause, IsUntouched};
+ghost use Rattle.live_doors.specs.Doors.{Deed, kept, Loses, Grows, Says, SaysPart, HearsAt, HearsNothing, HasCause, IsUntouched};
 ghost use Rattle.live_doors.specs.Lines.{kept_length};
 ghost use Rattle.sta_outside.specs.Shelf.{Rose};
 
@@ -47,10 +47,10 @@ pub trait Door {
     ///
     /// `Input` only where the count of faults rose, and `Memory`; no line was heard.
     fn hear(&mut self, alloc: Global) -> Result<Option<Vec<u8>>, Lost>
-        ensures line { IfOk result (λ got. Hears (left self.old) (left self.new) (trace self.old) (trace self.new) (option_map vec_items got)) }
+        ensures line { IfOk result (HearsAt left trace self.old self.new) }
         ensures within { IfOk result (λ got. IfSome got (λ line. length line.items ≤ kept_length)) }
         ensures quiet { OnOk result (faults self.new ≡ faults self.old) }
-        ensures none { OnErr result (Loses (left self.old) (left self.new) [] × Grows (trace self.old) (trace self.new) []) }
+        ensures none { OnErr result (HearsNothing left trace self.old self.new) }
         ensures cause { IfErr result (λ lost. HasCause lost (faults self.old) (faults self.new)) };
 
     /// Writes a piece and hands it on.
@@ -60,7 +60,7 @@ pub trait Door {
     /// `Output`, where the count of faults rose; nothing or a prefix of the piece was written.
     fn say(&mut self, piece: &Vec<u8>) -> Result<(), Lost>
         ensures same { Loses (left self.old) (left self.new) [] }
-        ensures whole { OnOk result (Grows (trace self.old) (trace self.new) (said piece.now.items ∷ [])) }
+        ensures whole { OnOk result (Says (trace self.old) (trace self.new) piece.now.items) }
         ensures quiet { OnOk result (faults self.new ≡ faults self.old) }
         ensures partly { OnErr result (SaysPart (trace self.old) (trace self.new) piece.now.items) }
         ensures cause { OnErr result (Rose (faults self.old) (faults self.new)) }

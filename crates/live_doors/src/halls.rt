@@ -1,17 +1,16 @@
 //! The halls of the system: the standard input and output, and named files and pipes.
 
-ghost use Rattle.std.specs.Prelude.{◌≡◌, ◌-◌, None, slice_get};
+ghost use Rattle.std.specs.Prelude.{◌≡◌, [], None};
 ghost use Rattle.std.specs.Io.{WritesAtMost};
-ghost use Rattle.live_doors.specs.Halls.{DeniesNames};
+ghost use Rattle.live_doors.specs.Halls.{names_at, DeniesNames};
 
 use crate::door::{Hall, Lost};
+use crate::ends::Ends;
 use crate::open_door::OpenDoor;
 use sta_units::Memory;
 use std::alloc::Global;
-use std::fs::File;
-use std::io::{BufReader, ErrorKind, Input, Print, Write};
-use std::rt::Files;
-use std::{fs, io};
+use std::io;
+use std::io::{BufReader, Input, Print, Write};
 
 /// The standard output of a runtime that it owns, as a writer without a buffer.
 #[derive(Drop)]
@@ -61,23 +60,30 @@ impl<R: Input + Print + Copy + Drop> Hall<StandardDoor<R>> for StandardHall<R> {
 }
 
 /// The door of two files or pipes.
-pub type NamedDoor<R> = OpenDoor<BufReader<<R as Files>::File>, <R as Files>::File>;
+pub type NamedDoor<E> = OpenDoor<BufReader<<E as Ends>::End>, <E as Ends>::End>;
+
+/// The names of a seat's input and output.
+#[derive(Clone, Copy, Drop)]
+struct NamedSeat<'a> {
+    input: &'a str,
+    output: &'a str,
+}
 
 /// A hall whose seats have names of their own, one of an input and one of an output each.
 #[derive(Drop)]
-pub struct NamedHall<'a, R: Files> {
-    rt: &'a R,
-    inputs: Vec<&'a str>,
-    outputs: Vec<&'a str>,
+pub struct NamedHall<'a, E> {
+    ends: &'a E,
+    seats: Vec<NamedSeat<'a>>,
 }
 
-impl<'a, R: Files> NamedHall<'a, R> {
-    /// A hall without a seat.
-    pub fn new(alloc: Global, rt: &'a R) -> NamedHall<'a, R> {
+impl<'a, E: Ends> NamedHall<'a, E> {
+    /// A hall without a seat, whose ends are opened there.
+    pub fn new(alloc: Global, ends: &'a E) -> NamedHall<'a, E>
+        ensures { result.seats.items ≡ [] }
+    {
         NamedHall {
-            rt,
-            inputs: Vec::new(alloc),
-            outputs: Vec::new(alloc),
+            ends,
+            seats: Vec::new(alloc),
         }
     }
 
@@ -87,41 +93,26 @@ impl<'a, R: Files> NamedHall<'a, R> {
     ///
     /// Want of memory alone; the hall is then of no use.
     pub fn add_seat(&mut self, input: &'a str, output: &'a str) -> Result<(), Memory> {
-        self.inputs.push(input)?;
-        self.outputs.push(output)?;
+        self.seats.push(NamedSeat { input, output })?;
         Ok(())
     }
 }
 
-/// Opens a file or a pipe to write from its start; a file that is missing is made.
-fn open_output<R: Files>(rt: &R, name: &str) -> Result<R::File, Lost> {
-    match File::options().write(true).truncate(true).open(rt, name) {
-        Ok(output) => Ok(output),
-        Err(fault) if fault.kind() == ErrorKind::NotFound => match File::create(rt, name) {
-            Ok(output) => Ok(output),
-            Err(_) => Err(Lost::Output),
-        },
-        Err(_) => Err(Lost::Output),
-    }
-}
-
-impl<R: Files> Hall<NamedDoor<R>> for NamedHall<'_, R> {
+impl<E: Ends> Hall<NamedDoor<E>> for NamedHall<'_, E> {
     ghost lines = { λ _ _. None };
 
-    ghost denies = { λ hall seat lost. DeniesNames (slice_get hall.inputs.items (seat - 1)) (slice_get hall.outputs.items (seat - 1)) lost };
+    ghost denies = { λ hall seat. DeniesNames (E.refuses hall.ends.now) (names_at hall seat) };
 
-    fn open(&self, alloc: Global, seat: u32) -> Result<NamedDoor<R>, Lost> {
-        let at = seat.saturating_sub(1) as usize;
-        let Some(name) = self.inputs.get(at) else {
+    fn open(&self, alloc: Global, seat: u32) -> Result<NamedDoor<E>, Lost> {
+        let Some(names) = self.seats.get(seat.saturating_sub(1) as usize) else {
             return Err(Lost::Input);
         };
-        let Ok(input) = fs::open(self.rt, *name) else {
+        let Ok(input) = self.ends.open_input(names.input) else {
             return Err(Lost::Input);
         };
-        let Some(name) = self.outputs.get(at) else {
+        let Ok(output) = self.ends.open_output(names.output) else {
             return Err(Lost::Output);
         };
-        let output = open_output(self.rt, name)?;
         let Ok(input) = BufReader::new(alloc, input) else {
             return Err(Lost::Memory);
         };

@@ -5,6 +5,7 @@
 
 mod append_sink;
 mod door;
+mod ends;
 mod halls;
 mod history;
 mod lines;
@@ -19,6 +20,7 @@ mod writing;
 
 pub use append_sink::{AppendSink, NotOpened};
 pub use door::{Door, Hall, Keeper, Lost};
+pub use ends::Ends;
 pub use halls::{NamedDoor, NamedHall, Printed, StandardDoor, StandardHall};
 pub use live_gate::LiveGate;
 pub use mem_door::{MemDoor, MemHall, MemSeat};

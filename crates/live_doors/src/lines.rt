@@ -1,8 +1,8 @@
 //! Reading an input line by line, in bounded memory.
 
-ghost use Rattle.std.specs.Prelude.{◌≡◌, ◌≢◌, ◌≤◌, ◌<◌, ℕ, List, [], ◌++◌, All, IfOk, IfErr, IfSome, length, take, get_or, option_map, vec_items, vec_len};
+ghost use Rattle.std.specs.Prelude.{◌≡◌, ◌≢◌, ◌≤◌, ◌<◌, ℕ, List, [], ◌++◌, All, IfOk, IfErr, IfSome, length, take, get_or, vec_len};
 ghost use Rattle.std.specs.Io.KnownBytes.{Consumes, IsAtEnd};
-ghost use Rattle.live_doors.specs.Lines.{kept_length, kept_line, ReadsLine, Reads};
+ghost use Rattle.live_doors.specs.Lines.{kept_length, kept_line, TakesLine, ReadsOn};
 
 use crate::door::Lost;
 use std::alloc::Global;
@@ -45,7 +45,7 @@ fn first_end(bytes: &[u8]) -> usize
 /// `Input` and `Memory`.
 fn read_on<B: BufRead>(input: &mut B, line: &mut Vec<u8>) -> Result<Behind, Lost>
     requires { vec_len line.old ≤ kept_length }
-    ensures read { IfOk result (λ behind. Reads (B.remaining input.old) (B.remaining input.new) line.old.items line.new.items behind) }
+    ensures read { IfOk result (ReadsOn B.remaining input.old input.new line.old line.new) }
     ensures within { vec_len line.new ≤ kept_length }
     ensures lost { IfErr result (λ lost. lost ≢ Lost.Output) }
 {
@@ -79,7 +79,7 @@ fn read_on<B: BufRead>(input: &mut B, line: &mut Vec<u8>) -> Result<Behind, Lost
 ///
 /// `Input` and `Memory`.
 pub(crate) fn next_line<B: BufRead>(alloc: Global, input: &mut B) -> Result<Option<Vec<u8>>, Lost>
-    ensures line { IfOk result (λ got. ReadsLine (B.remaining input.old) (B.remaining input.new) (option_map vec_items got)) }
+    ensures line { IfOk result (TakesLine B.remaining input.old input.new) }
     ensures within { IfOk result (λ got. IfSome got (λ line. length line.items ≤ kept_length)) }
     ensures lost { IfErr result (λ lost. lost ≢ Lost.Output) }
 {

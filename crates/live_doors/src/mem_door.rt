@@ -1,10 +1,12 @@
 //! Doors in memory.
 
-ghost use Rattle.std.specs.Prelude.{◌≡◌, ◌≤◌, [], ◌∷◌, ◌++◌, Some, IfOk, IfErr, IfSome, OnOk, OnErr, drop, is_ok, length, map, not, option_map, slice_get, take, vec_items, ◌-◌};
-ghost use Rattle.live_doors.specs.Doors.{kept, said, Hears, Loses, Grows, SaysPart, HasCause};
-ghost use Rattle.live_doors.specs.InMemory.{done_deed, kept_lines, next_fails, after_call, HearsBy, said_by, DeniesSeat};
+ghost use Rattle.std.specs.Prelude.{◌≡◌, ◌≤◌, [], ◌∷◌, IfOk, IfErr, IfSome, OnOk, OnErr, drop, is_ok, length, map, not, option_map, take};
+ghost use Rattle.live_doors.specs.Doors.{kept, Loses, Grows, Says, SaysPart, HearsAt, HearsNothing};
+ghost use Rattle.live_doors.specs.Halls.{seat_at, seat_lines, DeniesSeat};
+ghost use Rattle.live_doors.specs.InMemory.{done_deed, kept_lines, next_fails, after_call, HearsBy, HasPlannedCause};
 ghost use Rattle.live_doors.specs.Lines.{kept_length};
 ghost use Rattle.live_doors.specs.Marks.{deeds};
+ghost use Rattle.live_doors.specs.MemDoors.{lines_left, coming, told, said_by};
 ghost use Rattle.sta_outside.specs.Shelf.{Rose};
 
 use crate::door::{Door, Hall, Keeper, Lost};
@@ -68,18 +70,18 @@ fn kept_of(alloc: Global, line: &[u8]) -> Result<Vec<u8>, Lost>
 }
 
 impl Door for MemDoor {
-    ghost left = { λ door. Some (kept_lines (drop door.next door.lines.items)) };
+    ghost left = { coming };
 
-    ghost trace = { λ door. Some (deeds door.account.history) };
+    ghost trace = { told };
 
     ghost faults = { λ door. door.plan.faults };
 
     fn hear(&mut self, alloc: Global) -> Result<Option<Vec<u8>>, Lost>
-        ensures line { IfOk result (λ got. Hears (Some (kept_lines (drop self.old.next self.old.lines.items))) (Some (kept_lines (drop self.new.next self.new.lines.items))) (Some (deeds self.old.account.history)) (Some (deeds self.new.account.history)) (option_map vec_items got)) }
+        ensures line { IfOk result (HearsAt coming told self.old self.new) }
         ensures within { IfOk result (λ got. IfSome got (λ line. length line.items ≤ kept_length)) }
         ensures quiet { OnOk result (self.new.plan.faults ≡ self.old.plan.faults) }
-        ensures none { OnErr result (Loses (Some (kept_lines (drop self.old.next self.old.lines.items))) (Some (kept_lines (drop self.new.next self.new.lines.items))) [] × Grows (Some (deeds self.old.account.history)) (Some (deeds self.new.account.history)) []) }
-        ensures cause { IfErr result (λ lost. HasCause lost self.old.plan.faults self.new.plan.faults) }
+        ensures none { OnErr result (HearsNothing coming told self.old self.new) }
+        ensures cause { IfErr result (λ lost. HasPlannedCause lost self.old.plan self.new.plan) }
         // when it fails
         ensures answer { HearsBy (next_fails self.old.plan) result }
         ensures plan { self.new.plan ≡ after_call self.old.plan }
@@ -97,15 +99,15 @@ impl Door for MemDoor {
     }
 
     fn say(&mut self, piece: &Vec<u8>) -> Result<(), Lost>
-        ensures same { Loses (Some (kept_lines (drop self.old.next self.old.lines.items))) (Some (kept_lines (drop self.new.next self.new.lines.items))) [] }
-        ensures whole { OnOk result (Grows (Some (deeds self.old.account.history)) (Some (deeds self.new.account.history)) (said piece.now.items ∷ [])) }
+        ensures same { Loses (coming self.old) (coming self.new) [] }
+        ensures whole { OnOk result (Says (told self.old) (told self.new) piece.now.items) }
         ensures quiet { OnOk result (self.new.plan.faults ≡ self.old.plan.faults) }
-        ensures partly { OnErr result (SaysPart (Some (deeds self.old.account.history)) (Some (deeds self.new.account.history)) piece.now.items) }
+        ensures partly { OnErr result (SaysPart (told self.old) (told self.new) piece.now.items) }
         ensures cause { OnErr result (Rose self.old.plan.faults self.new.plan.faults) }
         ensures lost { IfErr result (λ lost. lost ≡ Lost.Output) }
         // when it fails, and what it writes
         ensures answer { is_ok result ≡ not (next_fails self.old.plan) }
-        ensures said { deeds self.new.account.history ≡ deeds self.old.account.history ++ said (said_by (next_fails self.old.plan) piece.now.items) ∷ [] }
+        ensures said { Says (told self.old) (told self.new) (said_by self.old piece.now.items) }
         ensures plan { self.new.plan ≡ after_call self.old.plan }
     {
         if self.plan.next_fails() {
@@ -117,8 +119,8 @@ impl Door for MemDoor {
     }
 
     fn note<K: Keeper>(&mut self, _keeper: &K, number: u64)
-        ensures same { Loses (Some (kept_lines (drop self.old.next self.old.lines.items))) (Some (kept_lines (drop self.new.next self.new.lines.items))) [] }
-        ensures kept { Grows (Some (deeds self.old.account.history)) (Some (deeds self.new.account.history)) (kept number ∷ []) }
+        ensures same { Loses (coming self.old) (coming self.new) [] }
+        ensures kept { Grows (told self.old) (told self.new) (kept number ∷ []) }
         ensures quiet { self.new.plan.faults ≡ self.old.plan.faults }
         ensures plan { self.new.plan ≡ self.old.plan }
     {
@@ -167,8 +169,9 @@ fn copied(alloc: Global, lines: &[Vec<u8>]) -> Result<Vec<Vec<u8>>, Memory>
 
 /// The door of a seat.
 fn door_of(alloc: Global, seat: &MemSeat) -> Result<MemDoor, Memory>
-    ensures lines { IfOk result (λ door. kept_lines (drop door.next door.lines.items) ≡ kept_lines seat.now.lines.items) }
-    ensures plan { IfOk result (λ door. (door.plan.fails.items ≡ seat.now.fails.items) × (door.plan.calls ≡ 0) × (door.plan.faults ≡ 0)) }
+    ensures lines { IfOk result (λ door. lines_left door ≡ seat_lines seat.now) }
+    ensures plan { IfOk result (λ door. door.plan.fails.items ≡ seat.now.fails.items) }
+    ensures sound { IfOk result (λ door. (door.plan.calls ≡ 0) × (door.plan.faults ≡ 0)) }
     ensures untouched { IfOk result (λ door. deeds door.account.history ≡ []) }
 {
     let lines = copied(alloc, seat.lines.as_slice())?;
@@ -177,9 +180,9 @@ fn door_of(alloc: Global, seat: &MemSeat) -> Result<MemDoor, Memory>
 }
 
 impl Hall<MemDoor> for MemHall {
-    ghost lines = { λ hall seat. option_map (λ found. kept_lines found.lines.items) (slice_get hall.seats.items (seat - 1)) };
+    ghost lines = { λ hall seat. option_map seat_lines (seat_at hall seat) };
 
-    ghost denies = { λ hall seat lost. DeniesSeat (slice_get hall.seats.items (seat - 1)) lost };
+    ghost denies = { λ hall seat lost. DeniesSeat (seat_at hall seat) lost };
 
     fn open(&self, alloc: Global, seat: u32) -> Result<MemDoor, Lost> {
         let Some(found) = self.seats.get(seat.saturating_sub(1) as usize) else {

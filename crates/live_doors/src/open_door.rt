@@ -1,11 +1,10 @@
-//! A door over an input and an output that are open until it is closed.
+//! A door over an input and an output, which are open until it is closed.
 
-ghost use Rattle.std.specs.Prelude.{◌≡◌, ◌≢◌, ◌≤◌, [], ◌∷◌, None, Some, IfOk, IfErr, IfSome, OnOk, OnErr, length, option_map, take, vec_items};
-ghost use Rattle.std.specs.Io.KnownBytes.{Appends};
-ghost use Rattle.live_doors.specs.Doors.{kept, said, Hears, Grows, SaysPart, HasCause};
-ghost use Rattle.live_doors.specs.Lines.{kept_length, ReadsLine};
-ghost use Rattle.live_doors.specs.Marks.{IsCut, deeds};
+ghost use Rattle.std.specs.Prelude.{◌≡◌, ◌≢◌, ◌≤◌, [], ◌∷◌, None, Some, IfOk, IfErr, IfSome, OnOk, OnErr, length};
+ghost use Rattle.live_doors.specs.Doors.{kept, Grows, Says, SaysPart, HearsAt, HasCause};
+ghost use Rattle.live_doors.specs.Lines.{kept_length, TakesLine};
 ghost use Rattle.live_doors.specs.Ends.{coming, given};
+ghost use Rattle.live_doors.specs.Marks.{deeds, told, untold, IsGiven, IsGivenPart, Writes, IsCut};
 ghost use Rattle.sta_outside.specs.Shelf.{Rose};
 
 use crate::door::{Door, Keeper, Lost};
@@ -25,7 +24,7 @@ struct Ends<B, W> {
 /// A door over an input and an output. It tells what its reads gave and its writes took, in their order, and
 /// not the lines to come. The output must not hold bytes back. Closed, it has given up both.
 #[derive(Drop)]
-pub struct OpenDoor<B: BufRead, W: Write> {
+pub struct OpenDoor<B, W> {
     ends: Option<Ends<B, W>>,
     faults: u64,
     history: History,
@@ -51,11 +50,11 @@ impl<B: BufRead, W: Write> OpenDoor<B, W> {
 /// # Errors
 ///
 /// `Input` and `Memory`.
-fn line_of<B: BufRead, W: Write>(
+fn line_of<B: BufRead, W>(
     alloc: Global,
     ends: &mut Option<Ends<B, W>>,
 ) -> Result<Option<Vec<u8>>, Lost>
-    ensures line { IfOk result (λ got. ReadsLine (coming B.remaining ends.old) (coming B.remaining ends.new) (option_map vec_items got)) }
+    ensures line { IfOk result (TakesLine (coming B.remaining) ends.old ends.new) }
     ensures within { IfOk result (λ got. IfSome got (λ line. length line.items ≤ kept_length)) }
     ensures lost { IfErr result (λ lost. lost ≢ Lost.Output) }
 {
@@ -67,12 +66,9 @@ fn line_of<B: BufRead, W: Write>(
 
 /// Writes a piece into an output that is not closed. Where that fails, it answers how many of its bytes were
 /// written.
-fn written_to<B: BufRead, W: Write>(
-    ends: &mut Option<Ends<B, W>>,
-    piece: &[u8],
-) -> Result<(), usize>
-    ensures whole { OnOk result (Appends (given W.contents ends.old) (given W.contents ends.new) piece.now) }
-    ensures partly { IfErr result (λ count. Appends (given W.contents ends.old) (given W.contents ends.new) (take count piece.now)) }
+fn written_to<B, W: Write>(ends: &mut Option<Ends<B, W>>, piece: &[u8]) -> Result<(), usize>
+    ensures whole { OnOk result (IsGiven (given W.contents) ends.old ends.new piece.now) }
+    ensures partly { IfErr result (IsGivenPart (given W.contents) ends.old ends.new piece.now) }
     ensures bound { IfErr result (λ count. count ≤ length piece.now) }
 {
     match ends {
@@ -82,20 +78,20 @@ fn written_to<B: BufRead, W: Write>(
 }
 
 impl<B: BufRead + Drop, W: Write + Drop> Door for OpenDoor<B, W> {
-    ghost left = { λ _. None };
+    ghost left = { untold };
 
-    ghost trace = { λ door. Some (deeds door.history) };
+    ghost trace = { told };
 
     ghost faults = { λ door. door.faults };
 
     fn hear(&mut self, alloc: Global) -> Result<Option<Vec<u8>>, Lost>
-        ensures line { IfOk result (λ got. Hears None None (Some (deeds self.old.history)) (Some (deeds self.new.history)) (option_map vec_items got)) }
+        ensures line { IfOk result (HearsAt untold told self.old self.new) }
         ensures within { IfOk result (λ got. IfSome got (λ line. length line.items ≤ kept_length)) }
         ensures quiet { OnOk result (self.new.faults ≡ self.old.faults) }
         ensures none { OnErr result (deeds self.new.history ≡ deeds self.old.history) }
         ensures cause { IfErr result (λ lost. HasCause lost self.old.faults self.new.faults) }
         // which bytes of the input it is, where they are known
-        ensures bytes { IfOk result (λ got. ReadsLine (coming B.remaining self.old.ends) (coming B.remaining self.new.ends) (option_map vec_items got)) }
+        ensures bytes { IfOk result (TakesLine (coming B.remaining) self.old.ends self.new.ends) }
     {
         match line_of(alloc, &mut self.ends) {
             Ok(None) => Ok(None),
@@ -112,15 +108,15 @@ impl<B: BufRead + Drop, W: Write + Drop> Door for OpenDoor<B, W> {
     }
 
     fn say(&mut self, piece: &Vec<u8>) -> Result<(), Lost>
-        ensures whole { OnOk result (Grows (Some (deeds self.old.history)) (Some (deeds self.new.history)) (said piece.now.items ∷ [])) }
+        ensures whole { OnOk result (Says (told self.old) (told self.new) piece.now.items) }
         ensures quiet { OnOk result (self.new.faults ≡ self.old.faults) }
-        ensures partly { OnErr result (SaysPart (Some (deeds self.old.history)) (Some (deeds self.new.history)) piece.now.items) }
+        ensures partly { OnErr result (SaysPart (told self.old) (told self.new) piece.now.items) }
         ensures cause { OnErr result (Rose self.old.faults self.new.faults) }
         ensures lost { IfErr result (λ lost. lost ≡ Lost.Output) }
         // what the output was given, where its bytes are known
-        ensures bytes { OnOk result (Appends (given W.contents self.old.ends) (given W.contents self.new.ends) piece.now.items) }
+        ensures bytes { OnOk result (Writes W.contents self.old self.new piece.now.items) }
         // and that it was given what is told of a piece that was cut
-        ensures cut { OnErr result (IsCut (deeds self.old.history) (deeds self.new.history) (given W.contents self.old.ends) (given W.contents self.new.ends) piece.now.items) }
+        ensures cut { OnErr result (IsCut W.contents self.old self.new piece.now.items) }
     {
         match written_to(&mut self.ends, piece.as_slice()) {
             Ok(()) => {
@@ -136,7 +132,7 @@ impl<B: BufRead + Drop, W: Write + Drop> Door for OpenDoor<B, W> {
     }
 
     fn note<K: Keeper>(&mut self, _keeper: &K, number: u64)
-        ensures kept { Grows (Some (deeds self.old.history)) (Some (deeds self.new.history)) (kept number ∷ []) }
+        ensures kept { Grows (told self.old) (told self.new) (kept number ∷ []) }
         ensures quiet { self.new.faults ≡ self.old.faults }
     {
         self.history.keep(number);

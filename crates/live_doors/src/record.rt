@@ -1,9 +1,9 @@
 //! The deeds of a door in memory, for those who look at them afterwards.
 
-ghost use Rattle.std.specs.Prelude.{◌≡◌, ◌≤◌, [], ◌∷◌, ◌++◌, true, IfSome, map, take, vec_len};
+ghost use Rattle.std.specs.Prelude.{◌≡◌, ◌≤◌, [], true, IfSome, map, take, vec_len};
 ghost use Rattle.live_doors.specs.Doors.{heard, kept, said};
-ghost use Rattle.live_doors.specs.InMemory.{done_deed};
-ghost use Rattle.live_doors.specs.Marks.{deeds};
+ghost use Rattle.live_doors.specs.InMemory.{done_deed, IsRecorded};
+ghost use Rattle.live_doors.specs.Marks.{deeds, IsDone};
 
 use crate::history::History;
 use std::alloc::Global;
@@ -32,7 +32,7 @@ pub(crate) struct Record {
 /// Adds a line that was heard; tells whether memory was there for it.
 #[tactic(auto, using(crate::proofs::Pieces::marks))]
 fn push_heard(alloc: Global, done: &mut Vec<Done>, line: &[u8]) -> bool
-    ensures { result ≡ true → map done_deed done.new.items ≡ map done_deed done.old.items ++ heard line.now ∷ [] }
+    ensures { result ≡ true → IsRecorded done.old done.new (heard line.now) }
 {
     match Vec::from_slice(alloc, line) {
         Ok(copy) => done.push(Done::Heard(copy)).is_ok(),
@@ -43,7 +43,7 @@ fn push_heard(alloc: Global, done: &mut Vec<Done>, line: &[u8]) -> bool
 /// Adds a piece that was said; tells whether memory was there for it.
 #[tactic(auto, using(crate::proofs::Pieces::marks))]
 fn push_said(alloc: Global, done: &mut Vec<Done>, piece: &[u8]) -> bool
-    ensures { result ≡ true → map done_deed done.new.items ≡ map done_deed done.old.items ++ said piece.now ∷ [] }
+    ensures { result ≡ true → IsRecorded done.old done.new (said piece.now) }
 {
     match Vec::from_slice(alloc, piece) {
         Ok(copy) => done.push(Done::Said(copy)).is_ok(),
@@ -54,7 +54,7 @@ fn push_said(alloc: Global, done: &mut Vec<Done>, piece: &[u8]) -> bool
 /// Adds a number that was kept; tells whether memory was there for it.
 #[tactic(auto, using(crate::proofs::Pieces::marks))]
 fn push_kept(done: &mut Vec<Done>, number: u64) -> bool
-    ensures { result ≡ true → map done_deed done.new.items ≡ map done_deed done.old.items ++ kept number ∷ [] }
+    ensures { result ≡ true → IsRecorded done.old done.new (kept number) }
 {
     done.push(Done::Kept(number)).is_ok()
 }
@@ -85,7 +85,7 @@ impl Record {
 
     /// A line was heard.
     pub(crate) fn hear(&mut self, line: &Vec<u8>)
-        ensures { deeds self.new.history ≡ deeds self.old.history ++ heard line.now.items ∷ [] }
+        ensures { IsDone self.old.history self.new.history (heard line.now.items) }
     {
         let is_recorded = push_heard(self.alloc, &mut self.done, line.as_slice());
         self.history.hear(line);
@@ -94,7 +94,7 @@ impl Record {
 
     /// A piece was said.
     pub(crate) fn say(&mut self, piece: &Vec<u8>)
-        ensures { deeds self.new.history ≡ deeds self.old.history ++ said piece.now.items ∷ [] }
+        ensures { IsDone self.old.history self.new.history (said piece.now.items) }
     {
         let is_recorded = push_said(self.alloc, &mut self.done, piece.as_slice());
         self.history.say(piece);
@@ -104,7 +104,7 @@ impl Record {
     /// Of a piece the first bytes were said, so many of them.
     pub(crate) fn cut(&mut self, piece: &Vec<u8>, count: usize)
         requires { count ≤ vec_len piece.now }
-        ensures { deeds self.new.history ≡ deeds self.old.history ++ said (take count piece.now.items) ∷ [] }
+        ensures { IsDone self.old.history self.new.history (said (take count piece.now.items)) }
     {
         let is_recorded = push_said(self.alloc, &mut self.done, &piece[..count]);
         self.history.cut(piece, count);
@@ -113,7 +113,7 @@ impl Record {
 
     /// A number was kept.
     pub(crate) fn keep(&mut self, number: u64)
-        ensures { deeds self.new.history ≡ deeds self.old.history ++ kept number ∷ [] }
+        ensures { IsDone self.old.history self.new.history (kept number) }
     {
         let is_recorded = push_kept(&mut self.done, number);
         self.history.keep(number);

@@ -1,15 +1,16 @@
 //! Writing a piece, in as many calls as it takes.
 
-ghost use Rattle.std.specs.Prelude.{◌≤◌, OnOk, IfOk, IfErr, length, take};
-ghost use Rattle.std.specs.Io.KnownBytes.{Appends, WriteAppends};
+ghost use Rattle.std.specs.Prelude.{◌≤◌, OnOk, IfOk, IfErr, length};
+ghost use Rattle.std.specs.Io.KnownBytes.{WriteAppends};
+ghost use Rattle.live_doors.specs.Marks.{IsGiven, IsGivenPart};
 
 use crate::door::Lost;
 use std::io::{ErrorKind, Write};
 
 /// Writes a piece. Where that fails, it answers how many of its bytes were written.
 pub(crate) fn write_whole<W: Write>(output: &mut W, piece: &[u8]) -> Result<(), usize>
-    ensures whole { OnOk result (Appends (W.contents output.old) (W.contents output.new) piece.now) }
-    ensures partly { IfErr result (λ count. Appends (W.contents output.old) (W.contents output.new) (take count piece.now)) }
+    ensures whole { OnOk result (IsGiven W.contents output.old output.new piece.now) }
+    ensures partly { IfErr result (IsGivenPart W.contents output.old output.new piece.now) }
     ensures bound { IfErr result (λ count. count ≤ length piece.now) }
 {
     let mut at = 0;
