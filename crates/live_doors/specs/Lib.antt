@@ -1,8 +1,8 @@
 -- What the contracts of doors, halls and journals cite.
 pub mod Doors
-pub mod Ends
 pub mod Halls
 pub mod InMemory
 pub mod Lines
 pub mod Marks
 pub mod MemDoors
+pub mod Streams

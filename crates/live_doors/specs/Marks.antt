@@ -11,7 +11,7 @@ use Rattle.live_doors.specs.declared.history.History.{History}
 use Rattle.live_doors.specs.declared.mark.Mark.{Mark}
 use Rattle.live_doors.specs.declared.mark.Mark.TheVariants.{Heard, Kept, Said, Cut}
 use Rattle.live_doors.specs.declared.open_door.OpenDoor.{OpenDoor}
-use Rattle.live_doors.specs.Ends.{given}
+use Rattle.live_doors.specs.Streams.{given}
 
 -- the deed that a mark stands for
 abbrev pub marked : Mark × Vec ℕ → Deed
@@ -47,7 +47,7 @@ module _ {B W : Type 0} where
 
   -- its output was given bytes more, where they are known
   abbrev pub Writes : (W → Option (List ℕ)) → OpenDoor B W → OpenDoor B W → List ℕ → Type 0
-  Writes contents old new bytes = IsGiven (given contents) old.ends new.ends bytes
+  Writes contents old new bytes = IsGiven (given contents) old.streams new.streams bytes
 
   -- of a piece the first bytes were said, and the output was given these, where its bytes are known
   abbrev pub IsCut : (W → Option (List ℕ)) → OpenDoor B W → OpenDoor B W → List ℕ → Type 0

@@ -3,7 +3,7 @@
 ghost use Rattle.std.specs.Prelude.{◌≡◌, ◌≢◌, ◌≤◌, [], ◌∷◌, None, Some, IfOk, IfErr, IfSome, OnOk, OnErr, length};
 ghost use Rattle.live_doors.specs.Doors.{kept, Grows, Says, SaysPart, HearsAt, HasCause};
 ghost use Rattle.live_doors.specs.Lines.{kept_length, TakesLine};
-ghost use Rattle.live_doors.specs.Ends.{coming, given};
+ghost use Rattle.live_doors.specs.Streams.{coming, given};
 ghost use Rattle.live_doors.specs.Marks.{deeds, told, untold, IsGiven, IsGivenPart, Writes, IsCut};
 ghost use Rattle.sta_outside.specs.Shelf.{Rose};
 
@@ -14,9 +14,9 @@ use crate::writing::write_whole;
 use std::alloc::Global;
 use std::io::{BufRead, Write};
 
-/// The two ends of a door.
+/// The input and the output of a door.
 #[derive(Drop)]
-struct Ends<B, W> {
+struct Streams<B, W> {
     input: B,
     output: W,
 }
@@ -25,7 +25,7 @@ struct Ends<B, W> {
 /// not the lines to come. The output must not hold bytes back. Closed, it has given up both.
 #[derive(Drop)]
 pub struct OpenDoor<B, W> {
-    ends: Option<Ends<B, W>>,
+    streams: Option<Streams<B, W>>,
     faults: u64,
     history: History,
 }
@@ -33,12 +33,12 @@ pub struct OpenDoor<B, W> {
 impl<B: BufRead, W: Write> OpenDoor<B, W> {
     /// The door at which nothing was done yet.
     pub fn new(alloc: Global, input: B, output: W) -> OpenDoor<B, W>
-        ensures ends { result.ends ≡ Some (record { input = input; output = output }) }
+        ensures streams { result.streams ≡ Some (record { input = input; output = output }) }
         ensures sound { result.faults ≡ 0 }
         ensures untouched { deeds result.history ≡ [] }
     {
         OpenDoor {
-            ends: Some(Ends { input, output }),
+            streams: Some(Streams { input, output }),
             faults: 0,
             history: History::new(alloc),
         }
@@ -52,28 +52,28 @@ impl<B: BufRead, W: Write> OpenDoor<B, W> {
 /// `Input` and `Memory`.
 fn line_of<B: BufRead, W>(
     alloc: Global,
-    ends: &mut Option<Ends<B, W>>,
+    streams: &mut Option<Streams<B, W>>,
 ) -> Result<Option<Vec<u8>>, Lost>
-    ensures line { IfOk result (TakesLine (coming B.remaining) ends.old ends.new) }
+    ensures line { IfOk result (TakesLine (coming B.remaining) streams.old streams.new) }
     ensures within { IfOk result (λ got. IfSome got (λ line. length line.items ≤ kept_length)) }
     ensures lost { IfErr result (λ lost. lost ≢ Lost.Output) }
 {
-    match ends {
+    match streams {
         None => Err(Lost::Input),
-        Some(ends) => next_line(alloc, &mut ends.input),
+        Some(streams) => next_line(alloc, &mut streams.input),
     }
 }
 
 /// Writes a piece into an output that is not closed. Where that fails, it answers how many of its bytes were
 /// written.
-fn written_to<B, W: Write>(ends: &mut Option<Ends<B, W>>, piece: &[u8]) -> Result<(), usize>
-    ensures whole { OnOk result (IsGiven (given W.contents) ends.old ends.new piece.now) }
-    ensures partly { IfErr result (IsGivenPart (given W.contents) ends.old ends.new piece.now) }
+fn written_to<B, W: Write>(streams: &mut Option<Streams<B, W>>, piece: &[u8]) -> Result<(), usize>
+    ensures whole { OnOk result (IsGiven (given W.contents) streams.old streams.new piece.now) }
+    ensures partly { IfErr result (IsGivenPart (given W.contents) streams.old streams.new piece.now) }
     ensures bound { IfErr result (λ count. count ≤ length piece.now) }
 {
-    match ends {
+    match streams {
         None => Err(0),
-        Some(ends) => write_whole(&mut ends.output, piece),
+        Some(streams) => write_whole(&mut streams.output, piece),
     }
 }
 
@@ -91,9 +91,9 @@ impl<B: BufRead + Drop, W: Write + Drop> Door for OpenDoor<B, W> {
         ensures none { OnErr result (deeds self.new.history ≡ deeds self.old.history) }
         ensures cause { IfErr result (λ lost. HasCause lost self.old.faults self.new.faults) }
         // which bytes of the input it is, where they are known
-        ensures bytes { IfOk result (TakesLine (coming B.remaining) self.old.ends self.new.ends) }
+        ensures bytes { IfOk result (TakesLine (coming B.remaining) self.old.streams self.new.streams) }
     {
-        match line_of(alloc, &mut self.ends) {
+        match line_of(alloc, &mut self.streams) {
             Ok(None) => Ok(None),
             Ok(Some(line)) => {
                 self.history.hear(&line);
@@ -118,7 +118,7 @@ impl<B: BufRead + Drop, W: Write + Drop> Door for OpenDoor<B, W> {
         // and that it was given what is told of a piece that was cut
         ensures cut { OnErr result (IsCut W.contents self.old self.new piece.now.items) }
     {
-        match written_to(&mut self.ends, piece.as_slice()) {
+        match written_to(&mut self.streams, piece.as_slice()) {
             Ok(()) => {
                 self.history.say(piece);
                 Ok(())
@@ -141,9 +141,9 @@ impl<B: BufRead + Drop, W: Write + Drop> Door for OpenDoor<B, W> {
     fn close(&mut self)
         ensures same { deeds self.new.history ≡ deeds self.old.history }
         ensures quiet { self.new.faults ≡ self.old.faults }
-        // both ends are given up
-        ensures closed { self.new.ends ≡ None }
+        // both are given up
+        ensures closed { self.new.streams ≡ None }
     {
-        drop(self.ends.take());
+        drop(self.streams.take());
     }
 }
