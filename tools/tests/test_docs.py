@@ -199,6 +199,20 @@ class Documents(unittest.TestCase):
             # As above: an edit that does not apply shows nothing, and is no reason to refuse the change.
             self.skipTest(f"edits that must be refused do not apply: {'; '.join(gone)}")
 
+    def test_all_that_is_trusted_is_named(self):
+        """The page names each type with an `unsafe impl`, each proof by hand, and each ported crate."""
+        trusted = (DOCS / "GUARANTEE.md").read_text().partition("## What is trusted")[2].partition("\n## ")[0]
+        said = set(re.findall(r"\w+", " ".join(re.findall(r"`([^`]+)`", trusted))))
+        sources = "\n".join(text_of(it) for it in CRATES.glob("*/src/**/*.rt"))
+        named = re.findall(r"(?m)^unsafe impl\b.* for (\w+)", sources)
+        self.assertEqual(len(named), len(re.findall(r"(?m)^\s*(?!//).*\bunsafe\b", sources)))
+        for file in CRATES.glob("*/proofs/**/Proof.antt"):
+            named += file.parent.parts[-2:]
+        crates = (common.TOP / "crates.txt").read_text().partition("\n# tests\n")[0]
+        uses = dict(re.findall(r"(?m)^(\w+):(.*)$", crates))
+        named += [it for used in uses.values() for it in used.split() if it not in uses]
+        self.assertEqual(sorted(set(named) - said), [])
+
     def test_faults_have_all_codes(self):
         text = (DOCS / "FAULTS.md").read_text()
         lasts = (("L", 10), ("V", 6), ("S", 6), ("P", 5), ("C", 2), ("J", 5), ("E", 17))
