@@ -71,7 +71,7 @@ It reads the documents once, answers each line before it reads the next, and end
 answer; `take` is answered at once. Rows are those of `run`; a wrong line is answered by `error CODE LINE`, and the session goes on.
 
       IN OUT   1 to 16 pairs of FIFOs or files, each a session; without a pair there is one, on standard input and output
-      NAME     a journal, which an empty file begins (: >NAME); each accepted ECO stands there, on disk, before anybody is told of it
+      NAME     a journal, which an empty file begins (: >NAME); each accepted ECO is there, on disk, before anybody hears of it
 
 Status: as for `run`. 1 is also some error; 4 also an IN that can not be read; 5 also an OUT that can not be written, and a journal that
 can not be written or that another server holds. `lizdrog serve` and `lizdrog connect` are for people: a prompt with history and names.

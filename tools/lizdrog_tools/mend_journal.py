@@ -86,7 +86,7 @@ class Blocks:
             self.line("derates", DERATES)
         count, before = int(head.groups()[-1]), int(head[1]) if head.re is HEADS[1] else 0
         if before != first:
-            raise Fault(begin, f"this block is behind {before} entries, and {first} are before it")
+            raise Fault(begin, f"this block says that {before} entries come before it, and {first} do")
         for number in range(first + 1, first + count + 1):
             place = self.at
             entry = self.line("entry", ENTRY)

@@ -122,8 +122,8 @@ def warn_of_journal(words: list[str]) -> None:
     """Warns of a saved journal that may be cut short in its last line: a part of `BUF_X16` is read as `BUF_X1`."""
     _, journal = command_line.without_journal(words) if words[:1] == ["run"] else (words, None)
     if journal is not None and lacks_line_end(journal):
-        say(f"warning: {journal} does not end with a line feed: its last line may be cut short, and is read as it "
-            f"stands; `tools/mend_journal.py {journal}` tells more")
+        say(f"warning: {journal} does not end with a line feed: its last line may be cut short, and the run reads "
+            f"it so; `tools/mend_journal.py {journal}` tells more")
 
 
 def serve(given: dict, words: list[str]) -> int:

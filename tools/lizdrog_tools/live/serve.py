@@ -178,7 +178,7 @@ def report(bridge: Bridge, status: int, given: argparse.Namespace, documents: li
     say(f"ended with {status_text(status)}: {bridge.served} clients, {rows} rows, {errors} wrong lines, {ecos} ECOs")
     if bridge.transcripts and bridge.is_ready:
         check = bridge.transcripts.check(documents, f"{TOP}/tools/check_sessions.py")
-        say(f"to check what was told: {check}")
+        say(f"to check what each session heard: {check}")
     if status > 1 and output.startswith("fault"):
         words = ["run", *(["--journal", given.journal] if given.journal else []), *documents]
         for line in explain_fault.explain(status, output, words):
