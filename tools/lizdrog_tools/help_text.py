@@ -67,8 +67,8 @@ OTHERS = [
     ("take", "take", "holds the newest design"),
     ("await N LOOKS", "await 5 1000", "looks until there is the design N"),
 ]
-WORDS = """PIN is instance:pin or a port, SPLIT early or late, EDGE rise or fall, KIND setup or hold. ` / ` ends a line of an
-example."""
+WORDS = """PIN is instance:pin or a port, SPLIT early or late, EDGE rise or fall, KIND setup or hold.
+` / ` ends a line of an example."""
 GENERATE = """  lizdrog generate NUMBER GATES EDITS
       NUMBER  below 2^64: the same number draws the same design and edits
       GATES   a multiple of 4 from 4 to 40,000, in four lanes

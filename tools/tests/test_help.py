@@ -39,9 +39,8 @@ class Help(unittest.TestCase):
     def test_which_help_is_asked(self):
         asked = command_line.asked_help
         for words, command in ((["--help"], ""), (["-h"], ""), (["help"], ""), (["help", "run"], "run"),
-                               (["run", "-h"], "run"), (["generate", "--help"], "generate"), (["live", "--help"], "live"),
-                               (["run", "help"], None),
-                               ([], None)):
+                               (["run", "-h"], "run"), (["generate", "--help"], "generate"),
+                               (["live", "--help"], "live"), (["run", "help"], None), ([], None)):
             self.assertEqual(asked(words), command, words)
 
 
