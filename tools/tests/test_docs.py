@@ -213,6 +213,17 @@ class Documents(unittest.TestCase):
         named += [it for used in uses.values() for it in used.split() if it not in uses]
         self.assertEqual(sorted(set(named) - said), [])
 
+    def test_decisions_have_a_day_and_a_place(self):
+        rows = re.findall(r"(?m)^\| (\d+) \| (\d\d-\d\d) \| .* \| ([^|]*) \|$", (DOCS / "DECISIONS.md").read_text())
+        self.assertEqual([int(it[0]) for it in rows], list(range(1, len(rows) + 1)))
+        self.assertEqual(len(rows), len(re.findall(r"(?m)^\| \d+ \|", (DOCS / "DECISIONS.md").read_text())))
+        for number, _, place in rows:
+            names = re.findall(r"`([A-Z]\w+|\w+/[\w/.]+)`", place)
+            self.assertTrue(names, number)
+            for name in names:
+                file = CRATES / (name if "/" in name else f"{RULES}/specs/{name}")
+                self.assertTrue(file.exists() or file.with_suffix(".antt").exists(), f"{number}: {name}")
+
     def test_faults_have_all_codes(self):
         text = (DOCS / "FAULTS.md").read_text()
         lasts = (("L", 10), ("V", 6), ("S", 6), ("P", 5), ("C", 2), ("J", 5), ("E", 17))
