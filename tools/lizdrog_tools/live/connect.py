@@ -1,8 +1,8 @@
 """A prompt at a live server: lizdrog connect ADDRESS [--name WHO] [--json]
 
-ADDRESS is unix:PATH, or PATH alone, or tcp:127.0.0.1:PORT, as `lizdrog serve` says it. The server answers each line at once. The
-prompt sends a group of edits or a draft once it is complete. `help` lists the commands; besides those of scripts the prompt
-knows
+ADDRESS is unix:PATH, or PATH alone, or tcp:127.0.0.1:PORT, as `lizdrog serve` says it. The server answers each line at
+once. The prompt sends a group of edits or a draft once it is complete. `help` lists the commands; besides those of
+scripts the prompt knows
 
   who, journal [COUNT]    who sits where; who made which ECO
   undo [N] [yes]          takes your last ECO back, or entry N; shown first
