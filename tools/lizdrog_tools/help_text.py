@@ -13,11 +13,10 @@ USAGE = """Lizdrog, a static timing server.
   lizdrog live [--journal NAME] EARLY LATE NETLIST SDC SPEF WORKERS [IN OUT ..]    answers each line at once
   lizdrog generate NUMBER GATES EDITS   draws a design of GATES gates and runs four sessions with EDITS resizes on it
   lizdrog test       tries this clone: examples, tools, and the program against a plain timer
-  lizdrog install PREFIX   copies the program that would run, to run without a clone
   lizdrog --build    builds the program without proof, in minutes (`rt ci` proves it and builds it, in hours)
-  lizdrog --version  names the commit and the toolchain, and says whether the program that would run is proved
-  lizdrog --help     prints this, and the commands of scripts"""
-MORE = """  lizdrog serve DESIGN.. --listen unix:PATH, connect PATH   a live server that several people attach to
+  lizdrog --version  says which program would run, and whether it is proved    --help   prints this, and the commands"""
+MORE = """  lizdrog install PREFIX   copies the program that would run, to run without a clone
+  lizdrog serve DESIGN.. --listen unix:PATH, connect PATH   a live server that several people attach to
   lizdrog corners | report | summary FILE.toml ..   several corners of a design, a page of their answers, sums
       each of these five has --help
   --proved           refuses to run a program that is not proved    --program FILE   runs this program, whatever it is

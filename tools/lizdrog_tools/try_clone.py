@@ -102,9 +102,15 @@ def parts_of_rows(is_proved: bool) -> tuple[list[Part], list[str]]:
     return parts, skipped
 
 
+def surroundings() -> dict[str, str]:
+    """The environment of a part. What Python compiles is kept, beside the logs: a part starts hundreds of short runs."""
+    said = {name: value for name, value in os.environ.items() if name != "PYTHONDONTWRITEBYTECODE"}
+    return {**said, "PYTHONPYCACHEPREFIX": str(LOGS / "bytecode")}
+
+
 def run_words(words: tuple[str, ...], **how) -> float:
     """Runs a command, and ends it after PART_SECONDS; gives the processor seconds of it and of its children."""
-    child = subprocess.Popen(words, **how)
+    child = subprocess.Popen(words, env=surroundings(), **how)
     ender = threading.Timer(PART_SECONDS, child.kill)
     ender.start()
     try:
