@@ -1,4 +1,5 @@
-"""What must be read to know what `serve` says: dev/audit_words.py [--files | --words | --write] [--call CRATE FILE NAME]
+"""What must be read to know what `serve` says:
+dev/audit_words.py [--files | --words | --write] [--call CRATE FILE NAME]
 
 Follows the words of specifications (`crates/*/specs`) from the clauses of `pub fn serve` in
 crates/shell_session/src/serving.rt: each word that a clause names, each word that the definition of such a word names,

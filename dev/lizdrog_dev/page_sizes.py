@@ -16,8 +16,10 @@ import sys
 from lizdrog_tools.places import TOP
 
 MOST_BYTES_OF_ALL, MOST_BYTES, MOST_WORDS, LONG = 200_000, 25_000, 20, 40
+# Pages with a limit of their own, in KB of 1,024 bytes.
+MOST_KB_OF = {"GUARANTEE.md": 10, "DEFINITIONS.md": 22, "RULES.md": 28, "ARCHITECTURE.md": 12, "DECISIONS.md": 12,
+              "SPEED.md": 4}
 SENTENCE_END = re.compile(r"(?<=[^.][.!?])[*)\"]* (?=[*(\[\"`A-Z0-9])|(?<=[.!?][)\"]) ")
-LARGE_PAGES = {"RULES.md"}
 SHORT_SENTENCES = {"README.md", "SCRIPTS.md", "GUARANTEE.md"}
 
 
@@ -26,6 +28,10 @@ class Page:
     name: str
     size: int
     sentences: list[str]
+
+    @property
+    def most_bytes(self) -> int:
+        return MOST_KB_OF[self.name] * 1024 if self.name in MOST_KB_OF else MOST_BYTES
 
     @property
     def words(self) -> int:
@@ -73,8 +79,8 @@ def complaints(found: list[Page]) -> list[str]:
     if total > MOST_BYTES_OF_ALL:
         said.append(f"all pages have {total} bytes, {MOST_BYTES_OF_ALL} at most are wanted")
     for it in found:
-        if it.size > MOST_BYTES and it.name not in LARGE_PAGES:
-            said.append(f"{it.name} has {it.size} bytes, {MOST_BYTES} at most are wanted")
+        if it.size > it.most_bytes:
+            said.append(f"{it.name} has {it.size} bytes, {it.most_bytes} at most are wanted")
         if it.mean >= MOST_WORDS and it.name in SHORT_SENTENCES:
             said.append(f"{it.name} has {it.mean:.1f} words in a sentence, fewer than {MOST_WORDS} are wanted")
     return said

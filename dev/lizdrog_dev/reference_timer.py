@@ -5,6 +5,7 @@ without a fault; faults of the script, refusals of ECOs and questions without an
 loops or overflows may be named, E11 and E16, one of them). Each ECO, tried or not, is followed by a whole analysis.
 Paths through pins and the worst paths of an endpoint come from a list of all paths to it; where that has more than
 MOST_PARTS parts of paths, from the best ways from each node."""
+import functools
 import sys
 from math import gcd, isqrt
 
@@ -45,6 +46,7 @@ class Design:
         )
 
 
+@functools.cache
 def node_key(n):
     """What orders nodes: the bytes of the pin's name, and then the edge."""
     return n[0].encode(), ORDER[n[1]]
@@ -68,6 +70,7 @@ class TooMany(Exception):
 class Timing:
     def __init__(self, d):
         self.d, self.beyond = d, []
+        self.walks, self.befores = {}, {}
         self.build()
         self.propagate()
 
@@ -423,14 +426,14 @@ class Timing:
             return test['arrival'] + sep - test['need'] - clk['setup'] + credit - length
         return length - test['arrival'] - sep - test['need'] - clk['hold'] + credit
 
-    def walk(self, n):
+    def walk(self, end):
         """The network walk that ends at the node."""
-        w = [n]
-        while n[0] not in self.clock_ports:
-            a = [x for x in self.ins(n)]
-            n = a[0][0]
-            w.append(n)
-        return w[::-1]
+        if end not in self.walks:
+            w = [end]
+            while w[-1][0] not in self.clock_ports:
+                w.append(self.ins(w[-1])[0][0])
+            self.walks[end] = w[::-1]
+        return self.walks[end]
 
     def endpoints(self):
         d = self.d
@@ -578,17 +581,35 @@ class Timing:
             return (clock, RISE), delay
         return None
 
+    def before(self, node, split):
+        """The nodes from which an arc with a delay leads to the node."""
+        if (node, split) not in self.befores:
+            found = {a for a, _, _ in self.ins(node)}
+            self.befores[node, split] = [a for a in found if (a, node) in self.delay[split]]
+        return self.befores[node, split]
+
+    def parts_to(self, end, split):
+        """How many lists of nodes lead to the node, from wherever they begin."""
+        ways, todo = {end: 1}, [end]
+        while todo:
+            new = [a for a in self.before(todo.pop(), split) if a not in ways]
+            ways.update(dict.fromkeys(new, 0))
+            todo += dict.fromkeys(new)
+        for b in self.cone_order(ways):
+            for a in self.before(b, split):
+                ways[a] += ways[b]
+        return sum(ways.values())
+
     def lists_to(self, end, split):
         """All lists of nodes from a start to the node."""
-        parts, seen = [(end,)], 0
+        if self.parts_to(end, split) > MOST_PARTS:
+            raise TooMany
+        parts = [(end,)]
         while parts:
             part = parts.pop()
-            seen += 1
-            if seen > MOST_PARTS:
-                raise TooMany
             if self.start_of(part[0], split):
                 yield part
-            parts += [(a,) + part for a in {a for a, _, _ in self.ins(part[0])} if (a, part[0]) in self.delay[split]]
+            parts += [(a,) + part for a in self.before(part[0], split)]
 
     def all_paths(self, end_pin, kind):
         """All tested paths to an endpoint, each by its slack, its nodes and the test that counts, in order."""

@@ -12,15 +12,18 @@ import argparse
 import subprocess
 import sys
 import tempfile
+from collections.abc import Callable
 
 from lizdrog_tools import explain_fault, read_answers
 from lizdrog_tools.files import InputFault, tool
 from lizdrog_tools.places import TOP
 
 MOST = 10000
+# A question or a refused ECO at a design: its number, and the lines that ask it.
+Asked = tuple[int, tuple[str, ...]]
 
 
-def in_order(edit):
+def in_order(edit: str) -> str:
     """An edit as the journal writes it: of parasitics the capacitances come before the resistors."""
     name, *words = edit.split()
     if name != "set_parasitics":
@@ -36,29 +39,29 @@ def in_order(edit):
 SORTS = {"report_through": "path", "begin_what_if": "what_if", "advise": "advice"}
 
 
-def edits_of(command):
+def edits_of(command: read_answers.Command) -> list[str]:
     """The edits of an ECO's command, each by its words, or none where it is no ECO."""
     name = command.words[0]
     is_other = name in ("take", "await") or name in SORTS or name.startswith("report_")
     return [] if is_other else [in_order(it) for it in command.edits()]
 
 
-def sort_of(question):
+def sort_of(question: str) -> str:
     """What the answer to a question begins with."""
     return SORTS.get(question, question.removeprefix("report_"))
 
 
-def lines_of(edits):
+def lines_of(edits: list[str]) -> list[str]:
     return edits if len(edits) == 1 else ["begin_eco", *edits, "commit_eco"]
 
 
-def asked_again(command):
+def asked_again(command: read_answers.Command) -> list[str]:
     """The lines that ask a command again: those of an ECO with its edits in the order of the journal."""
     edits = edits_of(command)
     return lines_of(edits) if edits else [" ".join(it.split()) for it in command.lines]
 
 
-def answer(row):
+def answer(row: read_answers.Row) -> tuple[list[str], list[list[str]]]:
     return [row.sort, *row.words], row.below
 
 
@@ -66,19 +69,20 @@ class Sessions:
     """Scripts with the rows of their sessions, and what is wrong with these; refusals can be left out of the run of one
     session."""
 
-    def __init__(self, scripts, output, refusals=True):
-        self.scripts, self.output, self.faults = scripts, output, []
+    def __init__(self, scripts: list[list[read_answers.Command]], output: read_answers.Output, refusals: bool = True):
+        self.scripts, self.output = scripts, output
+        self.faults: list[str] = []
         self.newest = output.first + len(output.ecos)
         self.told_elsewhere = {"accepted", "taken", "reached", "not_yet"} | (set() if refusals else {"refused", "no"})
 
-    def say(self, session, row, what):
+    def say(self, session: int, row: read_answers.Row, what: str) -> None:
         self.faults.append(f"session {session}, command {row.command}: {what}")
 
-    def eco(self, number):
+    def eco(self, number: int) -> list[str]:
         """The ECO that made the design of this number."""
         return self.output.ecos[number - self.output.first - 1]
 
-    def look(self):
+    def look(self) -> None:
         """Looks at what needs no run: the numbers, and who made which entry."""
         if len(self.output.sessions) != len(self.scripts):
             self.faults.append(f"{len(self.scripts)} scripts, and {len(self.output.sessions)} sessions")
@@ -89,7 +93,9 @@ class Sessions:
                 continue
             self.look_at_rows(number, commands, rows)
 
-    def look_at_rows(self, session, commands, rows):
+    def look_at_rows(
+        self, session: int, commands: list[read_answers.Command], rows: list[read_answers.Row]
+    ) -> None:
         last, made = None, []
         for command, row in zip(commands, rows):
             if last is not None and row.design < last or not self.output.first <= row.design <= self.newest:
@@ -102,7 +108,9 @@ class Sessions:
         if made != entries:
             self.faults.append(f"session {session}: its rows accept {made}, and its entries are {entries}")
 
-    def look_at_row(self, session, command, row, last):
+    def look_at_row(
+        self, session: int, command: read_answers.Command, row: read_answers.Row, last: int | None
+    ) -> None:
         """Whether the sort of the answer is that of the command, and its number fits."""
         name, edits = command.words[0], edits_of(command)
         if name == "take":
@@ -124,7 +132,7 @@ class Sessions:
                 session, row, f"{command.text()} has the answer {row.sort} {' '.join(row.words)} (design {row.design})"
             )
 
-    def asked(self):
+    def asked(self) -> dict[Asked, list[tuple[int, read_answers.Row]]]:
         """The questions and refused ECOs of each design, each once, with the rows that have them."""
         found = {}
         for session, (commands, rows) in enumerate(zip(self.scripts, self.output.sessions), 1):
@@ -133,8 +141,8 @@ class Sessions:
                     found.setdefault((row.design, tuple(asked_again(command))), []).append((session, row))
         return found
 
-    def compare(self, run):
-        """Compares with what one session answers; `run` runs a script."""
+    def compare(self, run: Callable[[str], read_answers.Output]) -> int:
+        """Compares with what one session answers; `run` runs a script. Gives how many commands it had."""
         asked, script, places = self.asked(), [], []
         for number in range(self.output.first, self.newest + 1):
             if number > self.output.first:
@@ -168,11 +176,11 @@ class Sessions:
         return len(script)
 
 
-def runner(program, words, journal):
+def runner(program: str, words: list[str], journal: str | None) -> Callable[[str], read_answers.Output]:
     """Runs a script on the documents of the words of a run, and on its saved journal."""
     option = ["--journal", journal] if journal else []
 
-    def run(text):
+    def run(text: str) -> read_answers.Output:
         with tempfile.NamedTemporaryFile("w", suffix=".eco") as script:
             script.write(text)
             script.flush()
@@ -188,7 +196,7 @@ def runner(program, words, journal):
 
 
 @tool("check_sessions")
-def main():
+def main() -> int:
     parser = argparse.ArgumentParser(description=__doc__, formatter_class=argparse.RawDescriptionHelpFormatter)
     parser.add_argument("--program", default=str(TOP / "lizdrog"))
     parser.add_argument("output")

@@ -67,7 +67,7 @@ def misfit(words: list[str]) -> str | None:
 def misfit_pairs(names: list[str]) -> str | None:
     """Why these are no names of the inputs and outputs of a live server's sessions."""
     if len(names) % 2:
-        return f"behind WORKERS come IN and OUT of each session, two and two, and here is {names[-1]} alone"
+        return f"after WORKERS come IN and OUT of each session, in pairs, and here is {names[-1]} alone"
     count = len(names) // 2
     return f"live takes {MOST_PAIRS} pairs IN OUT at most, and here are {count}" if count > MOST_PAIRS else None
 

@@ -17,7 +17,8 @@ import re
 from lizdrog_tools.files import TextFault, parsed, tool
 
 COUNT = re.compile("[0-9]{1,9}")
-HEAD = """# Edits of a Lizdrog journal, in the words of OpenSTA. Another tool: define these three for it, and replace_cell and the like.
+HEAD = """# Edits of a Lizdrog journal, in the words of OpenSTA.
+# Another tool: define these three for it, and replace_cell and the like.
 proc pin_names {instance way} {
   set names {}
   foreach pin [get_pins $instance/*] {

@@ -1,4 +1,4 @@
-"""Copies the program, the tools, the pages and the examples, so that they run without a clone and without a toolchain."""
+"""Copies the program, the tools, the pages and the examples, to run without a clone and without a toolchain."""
 import os
 import pathlib
 import shutil

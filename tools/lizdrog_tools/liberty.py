@@ -4,6 +4,7 @@ It is no check, and nothing of it is proved: the program alone says whether a li
 """
 import os
 import re
+from collections.abc import Iterator
 
 from lizdrog_tools.files import TextFault, parsed
 
@@ -23,15 +24,17 @@ READ_TYPES = {"combinational", *EDGES, *TESTS}
 class Group:
     """A group of a Liberty text: its simple attributes, its complex ones, and its groups in order."""
 
-    def __init__(self, name, args, offset):
+    def __init__(self, name: str, args: list[str], offset: int):
         self.name, self.args, self.offset = name, args, offset
-        self.simple, self.complex, self.groups = {}, {}, []
+        self.simple: dict[str, str] = {}
+        self.complex: dict[str, list[str]] = {}
+        self.groups: list[Group] = []
 
-    def named(self, name):
+    def named(self, name: str) -> list["Group"]:
         return [it for it in self.groups if it.name == name]
 
 
-def liberty_tokens(text):
+def liberty_tokens(text: str) -> Iterator[tuple[str, str, int]]:
     """Each token as its sort (quoted, mark, word, end) with its text and its place."""
     sorts = (None, "quoted", "mark", "word", "end")
     for found in LIBERTY_TOKEN.finditer(text):
@@ -43,18 +46,18 @@ def liberty_tokens(text):
 class LibertyReader:
     """Goes over the tokens of a Liberty text, one ahead."""
 
-    def __init__(self, text):
+    def __init__(self, text: str):
         self.tokens = liberty_tokens(text)
         self.step()
 
-    def step(self):
+    def step(self) -> None:
         self.sort, self.text, self.offset = next(self.tokens, ("stop", "", 0))
 
-    def skip_ends(self):
+    def skip_ends(self) -> None:
         while self.sort == "end":
             self.step()
 
-    def arguments(self):
+    def arguments(self) -> list[str]:
         """The words up to the closing bracket, which is passed."""
         self.step()
         args = []
@@ -65,7 +68,7 @@ class LibertyReader:
         self.step()
         return args
 
-    def value(self):
+    def value(self) -> str:
         """The words of a simple attribute, up to its end."""
         self.step()
         words = []
@@ -74,7 +77,7 @@ class LibertyReader:
             self.step()
         return " ".join(words)
 
-    def statement(self, open_groups):
+    def statement(self, open_groups: list[Group]) -> None:
         """Reads one statement into the innermost open group."""
         name, offset, inner = self.text, self.offset, open_groups[-1]
         self.step()
@@ -112,7 +115,7 @@ def read_groups(text: str) -> Group:
 class Table:
     """Values over axes of slew and load, or of two slews; an axis that a table lacks has one entry."""
 
-    def __init__(self, xs, ys, values):
+    def __init__(self, xs: list[float], ys: list[float], values: list[float]):
         self.xs, self.ys, self.values = xs, ys, values
 
     def at(self, x: float, y: float) -> float | None:
@@ -124,7 +127,7 @@ class Table:
         return line(self.ys, columns, y)
 
 
-def line(axis, values, x):
+def line(axis: list[float], values: list[float], x: float) -> float:
     if len(axis) == 1:
         return values[0]
     i = max((k for k in range(len(axis) - 1) if axis[k] <= x), default=0)
@@ -140,22 +143,31 @@ def numbers(words: list[str], unit: float) -> list[float]:
         return []
 
 
+# An arc: where it begins, with the edge, where it ends, with the edge, and `edge` or `comb`. A test: the data pin with
+# the edge, the clock pin with the edge, and its kind.
+Arc = tuple[str, str, str, str, str]
+Test = tuple[str, str, str, str, str]
+
+
 class Cell:
     """A cell: its pins with direction and load in aF; its arcs and tests by their nodes, each with its tables."""
 
-    def __init__(self, name, offset):
+    def __init__(self, name: str, offset: int):
         self.name, self.offset = name, offset
-        self.pins, self.arcs, self.tests, self.passed_over = {}, {}, {}, {}
-        self.left_out = None
+        self.pins: dict[str, tuple[str, float]] = {}
+        self.arcs: dict[Arc, list[tuple[Table, Table]]] = {}
+        self.tests: dict[Test, list[Table]] = {}
+        self.passed_over: dict[str, int] = {}
+        self.left_out: str | None = None
         self.is_register = False
 
-    def clock_pins(self):
+    def clock_pins(self) -> set[str]:
         return {arc[0] for arc in self.arcs if arc[4] == "edge"} | {test[2] for test in self.tests}
 
-    def data_pins(self):
+    def data_pins(self) -> set[str]:
         return {test[0] for test in self.tests}
 
-    def parts(self):
+    def parts(self) -> dict[str, set]:
         """What has to be the same in both libraries."""
         return {"pin": {(name, way) for name, (way, _) in self.pins.items()}, "arc": set(self.arcs),
                 "test": set(self.tests)}
@@ -164,20 +176,21 @@ class Cell:
 class Library:
     """The cells of a Liberty text by name, with the units in fs and aF."""
 
-    def __init__(self, text):
+    def __init__(self, text: str):
         root = read_groups(text)
         self.time_unit = TIME_UNITS.get(root.simple.get("time_unit", "1ns"), 1e6)
         self.load_unit, self.load_words = 1e3, root.complex.get("capacitive_load_unit")
         if self.load_words and len(self.load_words) == 2 and numbers(self.load_words[:1], 1):
             self.load_unit = numbers(self.load_words[:1], 1)[0] * LOAD_UNITS.get(self.load_words[1].lower(), 1e3)
         self.templates = {it.args[0]: it for it in reversed(root.named("lu_table_template")) if it.args}
-        self.cells, self.left_out = {}, {}
+        self.cells: dict[str, Cell] = {}
+        self.left_out: dict[str, Cell] = {}
         for group in root.named("cell"):
             if group.args:
                 cell = self.cell(group)
                 (self.left_out if cell.left_out else self.cells)[cell.name] = cell
 
-    def cell(self, group):
+    def cell(self, group: Group) -> Cell:
         cell = Cell(group.args[0], group.offset)
         pins = [(name, pin) for pin in group.named("pin") for name in pin.args]
         for name, pin in pins:
@@ -198,7 +211,7 @@ class Library:
                     self.timing(cell, name, timing)
         return cell
 
-    def timing(self, cell, pin, group):
+    def timing(self, cell: Cell, pin: str, group: Group) -> None:
         kind = group.simple.get("timing_type", "combinational")
         related = [it for it in group.simple.get("related_pin", "").split() if it in cell.pins]
         if kind not in READ_TYPES:
@@ -212,7 +225,7 @@ class Library:
                         test = (pin, tran, clock, TESTS[kind][1], TESTS[kind][0])
                         cell.tests.setdefault(test, []).append(self.table(table, "related_pin_transition"))
 
-    def arcs(self, cell, pin, clock, kind, group):
+    def arcs(self, cell: Cell, pin: str, clock: str, kind: str, group: Group) -> None:
         edge = EDGES.get(kind)
         nodes = [(edge, it) for it in (RISE, FALL)] if edge else SENSES.get(group.simple.get("timing_sense"),
                                                                             BOTH_SENSES)
@@ -223,7 +236,7 @@ class Library:
                 cell.arcs.setdefault(arc, []).append((self.table(delays[-1], "input_net_transition"),
                                                       self.table(slews[-1], "input_net_transition")))
 
-    def table(self, group, first):
+    def table(self, group: Group, first: str) -> Table:
         """A table with the variable `first` along xs."""
         template = self.templates.get(group.args[0] if group.args else "scalar")
         axes = {}

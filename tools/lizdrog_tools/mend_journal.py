@@ -1,9 +1,9 @@
 """Tells whether a saved journal is torn at its end: mend_journal.py JOURNAL [--cut]
 
 A crash or a full disk may leave a part of the last block. This tool tells at which line and byte such a part begins.
-With --cut it cuts it off, and keeps the file as it was beside it, as JOURNAL.torn. No session was told of an entry of a
-torn block, since the live server tells of an entry only when the whole block is on disk. A fault at any other place
-comes of something else, and is told and never cut.
+With --cut it cuts it off, and keeps the file as it was beside it, as JOURNAL.torn. No session has heard of an entry of
+a torn block, since the live server tells of an entry only when the whole block is on disk. A fault at any other place
+comes of something else: the tool names it and never cuts it.
 
 The status is 0 where the journal is whole (or was cut), 1 where it is torn, 2 where it cannot be used.
 """
@@ -86,7 +86,7 @@ class Blocks:
             self.line("derates", DERATES)
         count, before = int(head.groups()[-1]), int(head[1]) if head.re is HEADS[1] else 0
         if before != first:
-            raise Fault(begin, f"this block is behind {before} entries, and {first} are before it")
+            raise Fault(begin, f"this block says that {before} entries come before it, and {first} do")
         for number in range(first + 1, first + count + 1):
             place = self.at
             entry = self.line("entry", ENTRY)

@@ -23,12 +23,13 @@ import csv
 import json
 import os
 import sys
+from collections.abc import Iterable, Iterator
 
 from lizdrog_tools import convert_journal, explain_fault
 from lizdrog_tools.files import InputFault, TextFault, parsed, tool
-from lizdrog_tools.liberty import read_library
+from lizdrog_tools.liberty import Library, read_library
 from lizdrog_tools.reporting.histogram import bins_of, histograms, picoseconds
-from lizdrog_tools.verilog import Instance, Joined, read_netlist
+from lizdrog_tools.verilog import Instance, Joined, Netlist, read_netlist
 
 QUESTIONS = {
     "Q1": "there is no such pin",
@@ -40,15 +41,20 @@ QUESTIONS = {
 # ------------------------------------------------------------------------------------------------ the script and the
 # output
 
+Numbered = tuple[int, str]
+# Slacks of endpoints in fs by kind; none where no path is tested.
+Slacks = dict[str, dict[str, int | None]]
+
+
 class Command:
     """A command of a script: its number, its lines with their numbers, where it begins, and its words."""
 
-    def __init__(self, number, numbered):
+    def __init__(self, number: int, numbered: list[Numbered]):
         self.number, self.numbered = number, numbered
         self.line, self.lines = numbered[0][0], [line for _, line in numbered]
         self.words = self.lines[0].split()
 
-    def text(self):
+    def text(self) -> str:
         if len(self.lines) == 1:
             return " ".join(self.words)
         return (
@@ -57,11 +63,11 @@ class Command:
             else f"begin_what_if ({len(self.trials())} trials)"
         )
 
-    def trials(self):
+    def trials(self) -> list["Command"]:
         """The trials of a draft, groups of edits as one."""
         return commands_of(self.numbered[1:-1], "begin_eco") if self.words[0] == "begin_what_if" else []
 
-    def edits(self):
+    def edits(self) -> list[str]:
         """The edits of an ECO, alone or as a group, by their words."""
         return self.lines[1:-1] if self.words[0] == "begin_eco" else [" ".join(self.words)]
 
@@ -69,7 +75,7 @@ class Command:
 ENDS = {"begin_eco": "commit_eco", "begin_what_if": "end_what_if"}
 
 
-def commands_of(numbered, *begins):
+def commands_of(numbered: Iterable[Numbered], *begins: str) -> list[Command]:
     """The commands of some lines with their numbers: what these words begin is one, up to its end."""
     commands, group, end = [], None, None
     for number, line in numbered:
@@ -88,7 +94,7 @@ def commands_of(numbered, *begins):
     return commands
 
 
-def read_script(text):
+def read_script(text: str) -> list[Command]:
     """The commands of a script, groups of edits and drafts as one."""
     return commands_of(enumerate(text.split("\n"), 1), *ENDS)
 
@@ -102,7 +108,7 @@ ANSWERS = {
 }
 
 
-def may_answer(words, row):
+def may_answer(words: list[str], row: "Row") -> bool:
     """Whether a row may answer a command: its first word fits, and where it is a path it is one of that kind to that
     pin."""
     name = words[0]
@@ -117,11 +123,11 @@ def may_answer(words, row):
 class Row:
     """A row of a session: command, design, what it is, and what belongs to it."""
 
-    def __init__(self, words, below):
+    def __init__(self, words: list[str], below: list[list[str]]):
         self.command, self.design, self.sort = int(words[0]), int(words[1]), words[2]
         self.words, self.below = words[3:], below
 
-    def parts(self):
+    def parts(self) -> list["Row"]:
         """Each path of a row of several, or each answer of a draft, as a row of its own."""
         found, at = [], 0
         while at < len(self.below):
@@ -132,7 +138,7 @@ class Row:
         return found
 
 
-def lines_below(answer, lines, at):
+def lines_below(answer: list[str], lines: list[list[str]], at: int) -> int:
     """How many lines of paths, of a list of endpoints or of the answers of a draft belong to an answer; they begin at
     this line."""
     if answer[0] == "worst":
@@ -207,7 +213,7 @@ class Edited:
     """A netlist with its library, taken through the ECOs of a journal one after the other, and through those of a draft
     and back."""
 
-    def __init__(self, netlist, library, ecos):
+    def __init__(self, netlist: Netlist, library: Library, ecos: list[list[str]]):
         self.netlist, self.library, self.ecos, self.number, self.joined = netlist, library, ecos, 0, None
         self.tried: list[str] = []
         self.before: list[tuple[str, Instance | None]] = []
@@ -250,7 +256,7 @@ class Edited:
         if self.joined is not None:
             self.joined.exchange(old, made)
 
-    def pin(self, word):
+    def pin(self, word: str) -> tuple[Instance, str]:
         instance, _, pin = word.rpartition(":")
         return self.netlist.instances[instance], pin
 
@@ -270,7 +276,7 @@ class Edited:
         made.nets[pin] = net
         self.put(made.name, made)
 
-    def edit(self, words):
+    def edit(self, words: list[str]) -> None:
         name, instances = words[0], self.netlist.instances
         if name == "repower_gate":
             made = instances[words[1]].copied()
@@ -303,15 +309,18 @@ class Drafted:
         return self.edited.at(number, self.edits)
 
 
-def beside(design, pin, direction):
-    """What stands beside a pin of a path: its cell, and where it drives a net that net with its number of sinks."""
+Designs = Edited | Drafted | None
+
+
+def beside(design: Joined, pin: str, direction: str) -> dict[str, str | int | None]:
+    """What is beside a pin of a path: its cell, and where it drives a net that net with its number of sinks."""
     net = design.nets.get(design.net_of.get(pin))
     cell = design.cell_of(pin) or f"{direction} port"
     drives = net is not None and pin in net.drivers
     return {"cell": cell, "net": net.name if drives else None, "fanout": len(net.sinks) if drives else None}
 
 
-def draft_rows(command, row, edited):
+def draft_rows(command: Command, row: Row, edited: Designs) -> Iterator[tuple[Command, Row, Designs]]:
     """Each trial of a draft with its answer, and the design that it speaks of where designs are there."""
     tried, shown = [], edited
     for trial, answer in zip(command.trials(), row.parts()):
@@ -324,8 +333,8 @@ def draft_rows(command, row, edited):
             shown = edited.drafted([edit for edits in tried for edit in edits]) if tried else edited
 
 
-def path_lines(row, edited):
-    """The pins of a path with the delay of each stage, and what stands beside them."""
+def path_lines(row: Row, edited: Designs) -> list[dict]:
+    """The pins of a path with the delay of each stage, and what is beside them."""
     design, before, found = edited.at(row.design) if edited else None, None, []
     for pin, edge, time in row.below:
         value = thousandths(time)
@@ -342,14 +351,14 @@ def path_lines(row, edited):
     return found
 
 
-def thousandths(time):
+def thousandths(time: str) -> int:
     """A printed time as a whole number of femtoseconds."""
     return int(time.replace(".", ""))
 
 
 # ------------------------------------------------------------------------------------------------ lines for people
 
-def answer_text(row):
+def answer_text(row: Row) -> str:
     """The answer of a row, in a line."""
     words = row.words
     if row.sort in ("taken", "reached", "accepted", "tried", "dropped"):
@@ -382,7 +391,7 @@ def answer_text(row):
     return words[0] if words[0] == "none" else f"{words[0]} ps"
 
 
-def bound_text(row):
+def bound_text(row: Row) -> str:
     """What the test of a path asks of its time."""
     time, slack = thousandths(row.below[-1][2]), thousandths(row.words[3])
     if row.words[0] == "setup":
@@ -390,7 +399,7 @@ def bound_text(row):
     return f"  {picoseconds(time - slack):>11} is the earliest time that the hold test allows, with credit"
 
 
-def path_text(row, edited):
+def path_text(row: Row, edited: Designs) -> Iterator[str]:
     """The lines of a path in columns."""
     lines = path_lines(row, edited)
     width = max(len(it["pin"]) for it in lines)
@@ -408,8 +417,8 @@ def path_text(row, edited):
     yield bound_text(row)
 
 
-def lines_of_row(command, row, edited):
-    """What stands below the line of a row."""
+def lines_of_row(command: Command, row: Row, edited: Designs) -> Iterator[str]:
+    """What is below the line of a row."""
     if row.sort == "worst":
         width = max((len(time) for _, time in row.below), default=0)
         for pin, time in row.below:
@@ -426,7 +435,7 @@ def lines_of_row(command, row, edited):
             yield from (f"  {line}" for line in lines_of_row(trial, answer, shown))
 
 
-def print_lines(commands, output, edited):
+def print_lines(commands: list[Command], output: Output, edited: Designs) -> None:
     for row in output.rows:
         command = commands[row.command - 1]
         print(f"{command.text()} -> {answer_text(row)} (design {row.design})")
@@ -442,7 +451,7 @@ def print_lines(commands, output, edited):
 
 # ------------------------------------------------------------------------------------------------ rows for programs
 
-def row_value(command, row, edited):
+def row_value(command: Command, row: Row, edited: Designs) -> dict:
     """The answer of a row as data; times are texts in picoseconds."""
     words = row.words
     if row.sort == "what_if":
@@ -481,7 +490,7 @@ def row_value(command, row, edited):
     return {"time": None if words[0] == "none" else words[0]} if words else {}
 
 
-def as_data(commands, output, edited):
+def as_data(commands: list[Command], output: Output, edited: Designs) -> dict:
     rows = [
         {
             "command": row.command,
@@ -502,7 +511,7 @@ def as_data(commands, output, edited):
     return {"first": output.first, "journal": output.ecos, "rows": rows, "final": final}
 
 
-def print_csv(commands, output):
+def print_csv(commands: list[Command], output: Output) -> None:
     """One line for each row and each trial of a draft, or for each edge or line below it: command, design, question,
     answer, pin or clock, edge, time. Trials of a draft are marked by a > before them."""
     out = csv.writer(sys.stdout, lineterminator="\n")
@@ -515,7 +524,7 @@ def print_csv(commands, output):
             out.writerows(csv_lines([row.command, row.design, f"> {trial.text()}", answer.sort], answer))
 
 
-def csv_lines(head, row):
+def csv_lines(head: list, row: Row) -> Iterator[list]:
     """The lines of a row, which begin with its head."""
     if row.sort in ("at", "rat") and len(row.words) > 1:
         for i in range(1, len(row.words) - 2, 3):
@@ -537,7 +546,7 @@ def csv_lines(head, row):
 
 # ------------------------------------------------------------------------------------------------ slacks of endpoints
 
-def slacks_of(commands, output, design):
+def slacks_of(commands: list[Command], output: Output, design: int | None) -> tuple[int, Slacks]:
     """The slacks of endpoints by kind, in fs, from the rows of one design, and the number of that design."""
     found = {}
     for row in output.rows:
@@ -554,7 +563,7 @@ def slacks_of(commands, output, design):
     return number, found.get(number, {"setup": {}, "hold": {}})
 
 
-def print_failing(number, slacks):
+def print_failing(number: int, slacks: Slacks) -> None:
     for kind, ends in slacks.items():
         failing = sorted((slack, pin) for pin, slack in ends.items() if slack is not None and slack < 0)
         untested = sum(slack is None for slack in ends.values())
@@ -564,7 +573,7 @@ def print_failing(number, slacks):
             print(f"  {picoseconds(slack):>12} ps  {pin}")
 
 
-def print_histogram(number, slacks):
+def print_histogram(number: int, slacks: Slacks) -> None:
     for kind, ends in slacks.items():
         values = [it for it in ends.values() if it is not None]
         if not values:
@@ -579,7 +588,7 @@ def print_histogram(number, slacks):
 
 # ------------------------------------------------------------------------------------------------ the command
 
-def arguments():
+def arguments() -> argparse.Namespace:
     parser = argparse.ArgumentParser(description=__doc__, formatter_class=argparse.RawDescriptionHelpFormatter)
     parser.add_argument("script")
     parser.add_argument("output")
@@ -592,7 +601,7 @@ def arguments():
     return parser.parse_args()
 
 
-def rows_of_session(given, commands, output):
+def rows_of_session(given: argparse.Namespace, commands: list[Command], output: Output) -> list[Row]:
     """The rows that answer the commands of the script."""
     count, name = len(output.sessions), given.output
     if given.session is None and count > 1:
@@ -619,7 +628,7 @@ def rows_of_session(given, commands, output):
     return rows
 
 
-def edited_design(given, output):
+def edited_design(given: argparse.Namespace, output: Output) -> Edited | None:
     """The design that the ECOs of the journal edit, where the netlist and the library are given; else none."""
     if not (given.netlist and given.library):
         return None
@@ -634,7 +643,7 @@ def edited_design(given, output):
     return Edited(read_netlist(given.netlist), read_library(given.library), ecos)
 
 
-def show(given, commands, output, edited):
+def show(given: argparse.Namespace, commands: list[Command], output: Output, edited: Designs) -> None:
     """Prints what the options ask for."""
     number, slacks = slacks_of(commands, output, given.design)
     if given.json:
@@ -654,7 +663,7 @@ def show(given, commands, output, edited):
 
 
 @tool("read_answers")
-def main():
+def main() -> None:
     given = arguments()
     commands, output = read_script_file(given.script), read_output(given.output)
     output.rows = rows_of_session(given, commands, output)

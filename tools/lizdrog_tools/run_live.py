@@ -102,5 +102,5 @@ def not_written(journal: str | None) -> list[str]:
     except BlockingIOError:
         return [f"{journal}: another live server holds it"]
     except OSError as why:
-        return [f"{journal}: {why.strerror}: each ECO has to stand there before it is told"]
+        return [f"{journal}: {why.strerror}: each ECO has to be there before anybody hears of it"]
     return [f"{journal}, or {more}; `tools/mend_journal.py {journal}` tells whether it is torn"]

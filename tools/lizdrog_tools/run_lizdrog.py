@@ -15,9 +15,10 @@ NO_PROGRAM = 70
 BESIDE = {"connect": "connect_live.py", "corners": "corners.py", "import": "import_design.py", "report": "report.py",
           "serve": "serve_live.py", "summary": "summary.py"}
 FIRST_BYTES = 65536
-# What the C library does with memory, where nobody has said it. Large pages: the kernel gives them to those that ask (docs/SPEED.md).
-# One arena: where each thread has its own, the others do not use what is freed in it. Of 16 sessions with 40 ECOs each on 7,000 cells,
-# that more than doubled the memory (183 to 205 MB against 69), and took 37 to 43 s of processors against 29 to 33.
+# What the C library does with memory, where nobody has said it. Large pages: the kernel gives them to those that ask
+# (docs/SPEED.md). One arena: where each thread has its own, the others do not use what is freed in it. For 16 sessions
+# with 40 ECOs each on 7,000 cells, that more than doubled the memory (183 to 205 MB against 69), and took 37 to 43 s of
+# processors against 29 to 33.
 TUNABLES = {"glibc.malloc.hugetlb": "1", "glibc.malloc.arena_max": "1"}
 
 
@@ -87,8 +88,8 @@ def usage(why: str) -> None:
 def explain(status: int, first: bytes, words: list[str]) -> None:
     """Says more of a run that did not end with answers alone."""
     if status == 1:
-        say("status 1: some row is refused, no or not_yet; tools/read_answers.py SCRIPT OUTPUT shows the command of each, and what "
-            "its code means")
+        say("status 1: some row is refused, no or not_yet; tools/read_answers.py SCRIPT OUTPUT shows the command of each, "
+            "and what its code means")
         return
     from lizdrog_tools import explain_fault
     if status == 2:
@@ -122,15 +123,15 @@ def warn_of_journal(words: list[str]) -> None:
     """Warns of a saved journal that may be cut short in its last line: a part of `BUF_X16` is read as `BUF_X1`."""
     _, journal = command_line.without_journal(words) if words[:1] == ["run"] else (words, None)
     if journal is not None and lacks_line_end(journal):
-        say(f"warning: {journal} does not end with a line feed: its last line may be cut short, and is read as it "
-            f"stands; `tools/mend_journal.py {journal}` tells more")
+        say(f"warning: {journal} does not end with a line feed: its last line may be cut short, and the run reads "
+            f"it so; `tools/mend_journal.py {journal}` tells more")
 
 
 def serve(given: dict, words: list[str]) -> int:
     """Chooses the program, runs it, and explains what it refused."""
     program = given["program"]
     if program and given["proved"]:
-        raise Stop("--program and --proved do not go together: nothing is known of the proof of a program that is given")
+        raise Stop("--program and --proved do not go together: nobody knows whether a program that you give is proved")
     if words[:1] == ["live"]:
         from lizdrog_tools import run_live
         return run_live.run(program or programs.choose_live(given["proved"], given["build"], say), words)
@@ -188,8 +189,8 @@ def answer(words: list[str]) -> int:
         except (files.InputFault, OSError) as why:
             say(str(why))
             return 2 if write_all(b"fault words\n") else 5
-    why = "" if words == [] and given["build"] else command_line.misfit(words) if words is not None else "there is no such option"
-    if why:
+    why = "there is no such option" if words is None else command_line.misfit(words)
+    if why and not (words == [] and given["build"]):
         written = write_all(b"fault words\n")
         usage(why)
         return 2 if written else 5

@@ -9,18 +9,19 @@ PLAIN = re.compile(r"(?:[^\s;\\]|\\(?!\r?\n))+")
 class Word:
     """A word of a command: plain, a list, or what a bracket asks for."""
 
-    def __init__(self, sort, names, offset, text):
+    def __init__(self, sort: str, names: list[str], offset: int, text: str):
         self.sort, self.names, self.offset, self.text = sort, names, offset, text
 
 
 class SdcCommand:
     """A command of the constraints with its words."""
 
-    def __init__(self, name, offset):
-        self.name, self.offset, self.words = name, offset, []
+    def __init__(self, name: str, offset: int):
+        self.name, self.offset = name, offset
+        self.words: list[Word] = []
 
     def after(self, option: str) -> Word | None:
-        """The word behind an option, or none."""
+        """The word after an option, or none."""
         for at, word in enumerate(self.words[:-1]):
             if word.text == option:
                 return self.words[at + 1]
@@ -31,8 +32,8 @@ class SdcCommand:
         return any(it.text == option for it in self.words)
 
 
-def closing(text, at, opening, ending):
-    """The place behind the mark that closes the one at `at`, on this line."""
+def closing(text: str, at: int, opening: str, ending: str) -> int:
+    """The place after the mark that closes the one at `at`, on this line."""
     depth = 0
     for place in range(at, len(text)):
         if text[place] == opening:
@@ -46,8 +47,8 @@ def closing(text, at, opening, ending):
     return len(text)
 
 
-def sdc_word(text, at):
-    """The word at a place, and the place behind it."""
+def sdc_word(text: str, at: int) -> tuple[Word, int]:
+    """The word at a place, and the place after it."""
     if text[at] == "{":
         end = closing(text, at, "{", "}")
         return Word("list", text[at + 1:end].rstrip("}").replace("\\", " ").split(), at, text[at:end]), end

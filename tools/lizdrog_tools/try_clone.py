@@ -1,11 +1,10 @@
 """Tries a clone: its examples, its tools, its rows, and the program against a plain timer on random scripts (`lizdrog
 test`).
 
-Each part is a run of its own, several beside each other; what it said stays in out/test. The last line is `N passed, M
-failed`.
+Each part is a run of its own, several beside each other. What it said is in out/test, and the processor seconds of all
+parts are in out/test/seconds, the costliest first. The last line is `N passed, M failed`.
 """
 import argparse
-import collections
 import concurrent.futures
 import dataclasses
 import os
@@ -13,6 +12,7 @@ import pathlib
 import re
 import subprocess
 import sys
+import threading
 import time
 from collections.abc import Callable
 
@@ -21,9 +21,9 @@ from lizdrog_tools.help_text import TEST
 from lizdrog_tools.places import BENCH, CRATES, TOOLS, TOP
 
 LOGS = TOP / "out" / "test"
-# The forms of random scripts (bench/compare.py tells them), how many of each, and how many one part has. The plain
-# timer takes some seconds for each of the first form, whose designs are large.
-FORMS = {"": (40, 5), "paths": (80, 20), "drafts": (80, 20)}
+# The forms of random scripts (bench/compare.py explains them), how many of each, and how many one part has. Designs of
+# the first form have up to 1,200 cells, and the plain timer takes up to half a minute for one.
+FORMS = {"": (20, 4), "paths": (90, 15), "drafts": (90, 15)}
 QUICK_FORMS = {"": (4, 4), "paths": (8, 8), "drafts": (8, 8)}
 PART_SECONDS = 1800
 TESTS_LINE = re.compile(r"^tools: (\d+) tests passed, (\d+) failed, \d+ skipped$", re.M)
@@ -45,13 +45,14 @@ class Part:
 
 @dataclasses.dataclass(frozen=True)
 class Result:
-    """What came of a part."""
+    """What came of a part, and the processor seconds that it took."""
 
     part: Part
     passed: int
     failed: int
     skipped: list[str]
     tail: str
+    seconds: float
 
 
 def counts_of_tests(text: str) -> tuple[int, int] | None:
@@ -101,37 +102,60 @@ def parts_of_rows(is_proved: bool) -> tuple[list[Part], list[str]]:
     return parts, skipped
 
 
+def surroundings() -> dict[str, str]:
+    """The environment of a part. What Python compiles is kept, beside the logs: a part starts hundreds of short runs."""
+    said = {name: value for name, value in os.environ.items() if name != "PYTHONDONTWRITEBYTECODE"}
+    return {**said, "PYTHONPYCACHEPREFIX": str(LOGS / "bytecode")}
+
+
+def run_words(words: tuple[str, ...], **how) -> float:
+    """Runs a command, and ends it after PART_SECONDS; gives the processor seconds of it and of its children."""
+    child = subprocess.Popen(words, env=surroundings(), **how)
+    ender = threading.Timer(PART_SECONDS, child.kill)
+    ender.start()
+    try:
+        _, status, used = os.wait4(child.pid, 0)
+        child.returncode = os.waitstatus_to_exitcode(status)
+    finally:
+        ender.cancel()
+    return used.ru_utime + used.ru_stime
+
+
 def run_part(part: Part) -> Result:
     """Runs a part in a folder of its own; what it says goes to the log there."""
     folder = LOGS / part.name.replace(" ", "-")
     folder.mkdir(parents=True, exist_ok=True)
-    log = folder / "log"
+    log, seconds = folder / "log", 0.0
     with open(log, "wb") as out, open(part.given or os.devnull, "rb") as given:
         try:
-            subprocess.run(part.words, cwd=folder, stdin=given, stdout=out, stderr=subprocess.STDOUT,
-                           timeout=PART_SECONDS, check=False)
-        except (OSError, subprocess.TimeoutExpired) as why:
+            seconds = run_words(part.words, cwd=folder, stdin=given, stdout=out, stderr=subprocess.STDOUT)
+        except OSError as why:
             out.write(f"\n{why}\n".encode())
     text = log.read_text(encoding="latin-1")
     passed, failed = part.counts(text) or (0, part.count)
     tail = "\n".join(text.strip().split("\n")[-20:]) if failed or not passed else ""
-    return Result(part, passed, failed, SKIPPED_LINE.findall(text), tail)
+    return Result(part, passed, failed, SKIPPED_LINE.findall(text), tail, seconds)
 
 
-def run_all(parts: list[Part], lanes: int) -> tuple[int, int, list[str]]:
-    """Runs all parts, so many at once, and tells of each as it ends; gives how many passed and failed, and what was
-    skipped."""
-    began, sums, skipped = time.monotonic(), collections.Counter(), []
+def keep_seconds(results: list[Result]) -> float:
+    """Writes the processor seconds of all parts, the costliest first; gives their sum."""
+    lines = [f"{it.seconds:6.1f}  {it.part.name}" for it in sorted(results, key=lambda it: -it.seconds)]
+    (LOGS / "seconds").write_text("\n".join([*lines, ""]))
+    return sum(it.seconds for it in results)
+
+
+def run_all(parts: list[Part], lanes: int) -> list[Result]:
+    """Runs all parts, so many at once, and says of each as it ends what came of it."""
+    began, results = time.monotonic(), []
     with concurrent.futures.ThreadPoolExecutor(lanes) as pool:
         for done in concurrent.futures.as_completed([pool.submit(run_part, it) for it in parts]):
             it = done.result()
-            sums.update(passed=it.passed, failed=it.failed)
-            skipped += it.skipped
+            results.append(it)
             print(f"{time.monotonic() - began:5.0f} s  {it.part.name}: {it.passed} passed, {it.failed} failed",
                   flush=True)
             if it.failed:
                 print("".join(f"         {line}\n" for line in it.tail.split("\n")), end="", flush=True)
-    return sums["passed"], sums["failed"], sorted(set(skipped))
+    return results
 
 
 def main(words: list[str], wants_proved: bool, say: Callable[[str], None]) -> int:
@@ -150,9 +174,10 @@ def main(words: list[str], wants_proved: bool, say: Callable[[str], None]) -> in
           f"{program}", flush=True)
     rows, skipped = parts_of_rows(is_proved)
     parts = [*parts_of_scripts(program, QUICK_FORMS if given.quick else FORMS), *rows]
-    passed, failed, more = run_all([*parts_of_tests(program), *parts], max(2, len(os.sched_getaffinity(0))))
-    for reason in [*skipped, *more]:
+    results = run_all([*parts_of_tests(program), *parts], max(2, len(os.sched_getaffinity(0))))
+    for reason in [*skipped, *sorted({reason for it in results for reason in it.skipped})]:
         print(f"skipped: {reason}")
-    print(f"what each part said is in {LOGS}; it took {time.monotonic() - began:.0f} s")
+    used, passed, failed = keep_seconds(results), sum(it.passed for it in results), sum(it.failed for it in results)
+    print(f"what each part said is in {LOGS}; it took {time.monotonic() - began:.0f} s, {used:.0f} processor seconds")
     print(f"{passed} passed, {failed} failed")
     return 1 if failed or not passed else 0

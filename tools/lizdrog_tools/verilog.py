@@ -5,6 +5,7 @@ import os
 import re
 
 from lizdrog_tools.files import TextFault, line_of, parsed
+from lizdrog_tools.liberty import Library
 
 VERILOG_TOKEN = re.compile(
     r"//[^\n]*|/\*.*?\*/|\(\*(?!\)).*?\*\)|^`[^\n]*|\\(\S+)|([A-Za-z_][\w$]*)|(\d+'\w+)|(\d+)|([^\s\w])", re.S | re.M
@@ -35,8 +36,10 @@ class Instance:
 
     __slots__ = ("cell", "name", "nets", "offset", "tied")
 
-    def __init__(self, name, cell, offset):
-        self.name, self.cell, self.offset, self.nets, self.tied = name, cell, offset, {}, set()
+    def __init__(self, name: str, cell: str, offset: int):
+        self.name, self.cell, self.offset = name, cell, offset
+        self.nets: dict[str, str | None] = {}
+        self.tied: set[str] = set()
 
     def copied(self) -> "Instance":
         """A copy with connections of its own."""
@@ -237,7 +240,7 @@ class Net:
 class Joined:
     """A netlist with its cells: each net with its drivers and sinks, as pin words."""
 
-    def __init__(self, netlist, library):
+    def __init__(self, netlist: Netlist, library: Library):
         self.netlist, self.library, self.net_of = netlist, library, {}
         self.ends = None
         self.nets = {name: Net(name) for name in netlist.declared}
@@ -246,7 +249,7 @@ class Joined:
         for instance in netlist.instances.values():
             self.join_all(instance)
 
-    def join(self, pin, name, drives):
+    def join(self, pin: str, name: str, drives: bool) -> None:
         net = self.nets.get(name) or self.nets.setdefault(name, Net(name))
         (net.drivers if drives else net.sinks).append(pin)
         self.net_of[pin] = name

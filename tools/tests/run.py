@@ -1,7 +1,7 @@
 #!/usr/bin/env python3
 """Runs the tests of the tools: tools/tests/run.py [-v] [--program FILE] [WORD ..]
 
-They need no proof and take some two minutes. Tests that need the program take FILE, or the one that the gate has built,
+They need no proof and take some minutes. Tests that need the program take FILE, or the one that the gate has built,
 else one built without proof (dev/quick_build.py), and else are skipped; the last line says how many. WORD takes only
 tests with it in their name.
 """
@@ -12,7 +12,7 @@ import sys
 import unittest
 
 HERE = pathlib.Path(__file__).resolve().parent
-sys.dont_write_bytecode = True
+sys.dont_write_bytecode = sys.pycache_prefix is None
 
 
 def main():

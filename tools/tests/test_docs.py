@@ -199,6 +199,31 @@ class Documents(unittest.TestCase):
             # As above: an edit that does not apply shows nothing, and is no reason to refuse the change.
             self.skipTest(f"edits that must be refused do not apply: {'; '.join(gone)}")
 
+    def test_all_that_is_trusted_is_named(self):
+        """The page names each type with an `unsafe impl`, each proof by hand, and each ported crate."""
+        trusted = (DOCS / "GUARANTEE.md").read_text().partition("## What is trusted")[2].partition("\n## ")[0]
+        said = set(re.findall(r"\w+", " ".join(re.findall(r"`([^`]+)`", trusted))))
+        sources = "\n".join(text_of(it) for it in CRATES.glob("*/src/**/*.rt"))
+        named = re.findall(r"(?m)^unsafe impl\b.* for (\w+)", sources)
+        self.assertEqual(len(named), len(re.findall(r"(?m)^\s*(?!//).*\bunsafe\b", sources)))
+        for file in CRATES.glob("*/proofs/**/Proof.antt"):
+            named += file.parent.parts[-2:]
+        crates = (common.TOP / "crates.txt").read_text().partition("\n# tests\n")[0]
+        uses = dict(re.findall(r"(?m)^(\w+):(.*)$", crates))
+        named += [it for used in uses.values() for it in used.split() if it not in uses]
+        self.assertEqual(sorted(set(named) - said), [])
+
+    def test_decisions_have_a_day_and_a_place(self):
+        rows = re.findall(r"(?m)^\| (\d+) \| (\d\d-\d\d) \| .* \| ([^|]*) \|$", (DOCS / "DECISIONS.md").read_text())
+        self.assertEqual([int(it[0]) for it in rows], list(range(1, len(rows) + 1)))
+        self.assertEqual(len(rows), len(re.findall(r"(?m)^\| \d+ \|", (DOCS / "DECISIONS.md").read_text())))
+        for number, _, place in rows:
+            names = re.findall(r"`([A-Z]\w+|\w+/[\w/.]+)`", place)
+            self.assertTrue(names, number)
+            for name in names:
+                file = CRATES / (name if "/" in name else f"{RULES}/specs/{name}")
+                self.assertTrue(file.exists() or file.with_suffix(".antt").exists(), f"{number}: {name}")
+
     def test_faults_have_all_codes(self):
         text = (DOCS / "FAULTS.md").read_text()
         lasts = (("L", 10), ("V", 6), ("S", 6), ("P", 5), ("C", 2), ("J", 5), ("E", 17))

@@ -121,9 +121,10 @@ class Pages(unittest.TestCase):
         self.check_scripts_page("closing-setup", "sizes.lib sizes.lib accumulator.v accumulator.sdc accumulator.spef")
 
     def check_scripts_page(self, name, documents):
-        """The rows of docs/SCRIPTS.md are those of its commands, behind "Of `examples/NAME`" on the documents of that
+        """The rows of docs/SCRIPTS.md are those of its commands, after "From `examples/NAME`" on the documents of that
         example."""
-        parts = re.split(r"(?m)^Of `examples/([\w-]+)`:\n", (common.TOP / "docs" / "SCRIPTS.md").read_text())
+        parts = re.split(r"(?m)^From `examples/([\w-]+)`:\n", (common.TOP / "docs" / "SCRIPTS.md").read_text())
+        compared = 0
         for example, text in zip(parts[1::2], parts[2::2]):
             for block in re.findall(r"^```\n(.*?)\n```", text, re.S | re.M):
                 if example == name and re.search(r" {3,}1 \d ", block):
@@ -132,3 +133,5 @@ class Pages(unittest.TestCase):
                     (self.top / "s.eco").write_text("\n".join(script) + "\n")
                     out = self.run_blocks([f"../../lizdrog run {documents} 1 ../../s.eco"], f"examples/{name}")
                     self.assertIn("\n".join(rows) + "\n", out)
+                    compared += 1
+        self.assertTrue(compared)

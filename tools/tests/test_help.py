@@ -34,14 +34,13 @@ class Help(unittest.TestCase):
     def test_all_of_it_is_narrow(self):
         for command in ("", "run", "live", "generate", "install", "test"):
             for line in help_text.of(command).split("\n"):
-                self.assertLessEqual(len(line), 140, line)
+                self.assertLessEqual(len(line), 120, line)
 
     def test_which_help_is_asked(self):
         asked = command_line.asked_help
         for words, command in ((["--help"], ""), (["-h"], ""), (["help"], ""), (["help", "run"], "run"),
-                               (["run", "-h"], "run"), (["generate", "--help"], "generate"), (["live", "--help"], "live"),
-                               (["run", "help"], None),
-                               ([], None)):
+                               (["run", "-h"], "run"), (["generate", "--help"], "generate"),
+                               (["live", "--help"], "live"), (["run", "help"], None), ([], None)):
             self.assertEqual(asked(words), command, words)
 
 

@@ -1,7 +1,7 @@
 """Runs scripts at several corners of a design and merges the answers: corners.py FILE.toml [options] SCRIPT..
 
 FILE.toml names the documents of the design, with a table for each corner (docs/CORNERS.md). Each corner is one run
-of Lizdrog behind the one list of ECOs (the key `ecos`). A corner that has answered the same scripts before is not run
+of Lizdrog after the one list of ECOs (the key `ecos`). A corner that has answered the same scripts before does not run
 again. SCRIPT is as for a run; a line `@slow set_parasitics ..` has wires for the corner slow alone.
 
   --launch HOW      local (GNU parallel, or a pool of processes where it is not installed), slurm (one array job), or

@@ -44,7 +44,7 @@ def line_for(line: str, number: int, corner: str, names: list[str]) -> str:
     asked = words[0][1:].split(",")
     rest = words[1] if len(words) > 1 else ""
     if rest.split(maxsplit=1)[:1] != ["set_parasitics"]:
-        raise TextFault(number, f"{words[0]} stands before a set_parasitics alone: every other line is for all corners")
+        raise TextFault(number, f"{words[0]} goes before a set_parasitics alone: every other line is for all corners")
     for name in asked:
         if name not in (*names, ALL):
             raise TextFault(

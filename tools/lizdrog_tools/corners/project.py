@@ -12,7 +12,7 @@
     early = "fast.lib"
     late = "typical.lib"
 
-A corner's table overrides what stands above it. A project without the table `corners` has one corner, with the name of
+A corner's table overrides what is above it. A project without the table `corners` has one corner, with the name of
 the file. Names of files count from the folder of the project.
 """
 import dataclasses

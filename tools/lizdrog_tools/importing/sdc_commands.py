@@ -401,7 +401,7 @@ class TimingCommands:
             if self.constraints.drives.pop(port, None):
                 self.session.lose(
                     "transition-beside-drive",
-                    f"the port {port} has a driving cell: timers differ in whether that or a transition behind it "
+                    f"the port {port} has a driving cell: timers differ in whether that or a later transition "
                     "counts; leave out one (accepted: the transition counts)",
                 )
 

@@ -9,7 +9,7 @@ OF_PROMPT = {
     "who": "who sits where",
     "journal": "who made which ECO: journal [COUNT]",
     "undo": "takes an ECO of yours back: undo [ENTRY] [yes]",
-    "keep": "makes the edits of the last draft that stand: keep [yes]",
+    "keep": "makes the edits that the last draft kept: keep [yes]",
     "source": "says the lines of a file: source FILE",
     "help": "help [COMMAND]",
     "leave": "gives the seat up and ends",

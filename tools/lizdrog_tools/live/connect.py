@@ -1,12 +1,12 @@
 """A prompt at a live server: lizdrog connect ADDRESS [--name WHO] [--json]
 
-ADDRESS is unix:PATH, or PATH alone, or tcp:127.0.0.1:PORT, as `lizdrog serve` says it. Each line is answered at once. A
-group of edits or a draft is sent once it is complete. `help` lists the commands; besides those of scripts the prompt
-knows
+ADDRESS is unix:PATH, or PATH alone, or tcp:127.0.0.1:PORT, as `lizdrog serve` says it. The server answers each line at
+once. The prompt sends a group of edits or a draft once it is complete. `help` lists the commands; besides those of
+scripts the prompt knows
 
   who, journal [COUNT]    who sits where; who made which ECO
   undo [N] [yes]          takes your last ECO back, or entry N; shown first
-  keep [yes]              makes the edits of your last draft that stand, as one ECO; shown first
+  keep [yes]              makes the edits that your last draft kept, as one ECO; shown first
   source FILE             says the lines of a script
   quit, leave             ends, and the seat stays yours; ends and gives the seat up
 
@@ -15,7 +15,7 @@ knows
   --json        an object a row, for programs; other words go to standard error
   --plain       no prompt: lines of standard input, as where it is no terminal
 
-Ctrl-C drops what is typed, or leaves where an answer is awaited; the server goes on, and keeps the answer. The status
+Ctrl-C drops what you type, or leaves where you wait for an answer; the server goes on, and keeps the answer. The status
 is 0 where each reply was an answer, 1 where one was refused, no, not_yet or an error, 2 for wrong words, 4 where the
 server is not there or has ended.
 """

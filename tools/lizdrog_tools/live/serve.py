@@ -7,8 +7,8 @@ outlives its client, who takes it up again by its name.
   --listen unix:PATH             a Unix socket, for this user alone (mode 600)
   --listen tcp:127.0.0.1:PORT    a port of the loopback address, for all users of this machine; PORT 0 takes a free one
   --sessions N                   how many sessions, 1 to 16 (default 4)
-  --journal NAME                 goes on from the entries of this file, and adds each accepted ECO before it is told
-  --transcript FOLDER            keeps what each session asked and was told, for tools/check_sessions.py
+  --journal NAME                 goes on from the entries of this file, and adds each accepted ECO before anybody hears of it
+  --transcript FOLDER            keeps what each session asked and heard, for tools/check_sessions.py
   --program FILE, --proved       this program; refuses one that is not proved
 
 SIGTERM and SIGINT end it: the sessions are closed, and the server writes its last line. The status is that of the live
@@ -178,7 +178,7 @@ def report(bridge: Bridge, status: int, given: argparse.Namespace, documents: li
     say(f"ended with {status_text(status)}: {bridge.served} clients, {rows} rows, {errors} wrong lines, {ecos} ECOs")
     if bridge.transcripts and bridge.is_ready:
         check = bridge.transcripts.check(documents, f"{TOP}/tools/check_sessions.py")
-        say(f"to check what was told: {check}")
+        say(f"to check what each session heard: {check}")
     if status > 1 and output.startswith("fault"):
         words = ["run", *(["--journal", given.journal] if given.journal else []), *documents]
         for line in explain_fault.explain(status, output, words):
