@@ -156,6 +156,23 @@ class Merging(StandIn):
             lines[lines.index("report_wns setup") :][:3], ["report_wns setup", "  slow  -2.500 ps", "  fast  4.000 ps"]
         )
 
+    def test_lines_below_an_answer(self):
+        """Endpoints and paths stand below their corner, in a draft too; equal first lines alone make no equal answer."""
+        worst = "begin_what_if\nreport_worst setup 2\nreport_path q setup\nend_what_if\n"
+        (self.folder / "s.eco").write_text(f"report_worst setup 2\n{worst}")
+        path = ["path setup q slack -0.250 credit 0.000 from clk rise to clk rise nodes 2", "clk rise 0.000"]
+        slacks = {"slow": ["r2:D -2.500", "q 1.000"], "fast": ["q -0.250", "r2:D 4.000"]}
+        rows = {it: ["1 0 worst 2", *own, "2 0 what_if 2", "worst 2", *own, *path] for it, own in slacks.items()}
+        ends = {"slow": "q rise 21.000", "fast": "q rise 21.000"}
+        self.project({it: (answers([*own, ends[it]]), "") for it, own in rows.items()})
+        out = self.corners("s.eco", "--quiet")[1]
+        listed = "  slow  2 endpoints\n    -2.500 ps  r2:D\n     1.000 ps  q\n  fast  2 endpoints\n    -0.250 ps  q\n"
+        self.assertIn(f"\nreport_worst setup 2\n{listed}     4.000 ps  r2:D\n", out)
+        inner = "".join(f"  {it}\n" for it in f"report_worst setup 2\n{listed}".splitlines())
+        self.assertIn(f"begin_what_if (2 trials)\n{inner}", out)
+        self.assertEqual(out.count("  report_path q setup -> slack -0.250 ps, credit 0.000 ps"), 1)
+        self.assertEqual(out.count(" 21.000     21.000 rise q"), 1)
+
     def test_untested_and_failing_in_several(self):
         (self.folder / "s.eco").write_text("report_endpoint a setup\nreport_endpoint b setup\n")
         self.project(

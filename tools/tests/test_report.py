@@ -142,6 +142,11 @@ class Paths(unittest.TestCase):
             ],
         )
         self.assertEqual((path.slowest().pin, path.arrival(), path.required()), ("r1:Q", 40500, 85500))
+        self.assertEqual([it.sinks_text() for it in path.stages], ["", "g1:A", "", ""])
+
+    def test_many_sinks(self):
+        stage = paths.Stage("g:Z", "rise", 0, 1, True, False, "BUF", "n", tuple(f"s{it}:A" for it in range(43)))
+        self.assertRegex(stage.sinks_text(), "^s0:A s1:A .* s39:A and 3 more$")
 
     def test_required_time_by_parts(self):
         # 100 of the period and 2 of the capture clock, less 2 of uncertainty and 15 of setup, make 85; credit is 0.5.
@@ -258,9 +263,13 @@ class Pages(unittest.TestCase):
         self.assertIn("a&lt;b&gt;&amp;c:D", page)
         self.assertNotIn("a<b>", page)
 
+    def test_a_net_names_its_sinks(self):
+        self.assertIn('<td class="tells" title="g1:A">n1, 1</td>', self.page(*self.DOCUMENTS))
+
     def test_eco_says_what_it_changed(self):
         page = self.page(*self.DOCUMENTS)
         self.assertIn("repower_gate g1: BUF becomes BUF", page)
+        self.assertIn("from clk rise to clk rise, before a later ECO</summary>", page)
         self.assertRegex(page, r"out: setup wns 44\.250")
 
     def test_what_is_refused(self):
@@ -387,6 +396,27 @@ class PageOfEcos(unittest.TestCase):
             self.assertIn(f"slow_cmax setup: worst {before[0]} → {after[0]}", row)
             self.assertIn(f"sum_5:D setup {before[1]} → {after[1]} (", row)
             self.assertIn(f"{edits[number - 1].split()[1]}: NAND2_X1 becomes NAND2_X2", row)
+
+    def test_paths_before_the_last_eco_are_left_out(self):
+        with tempfile.TemporaryDirectory() as name:
+            folder = pathlib.Path(name) / "four-corners"
+            for it in ("four-corners", "closing-setup"):
+                left_out = shutil.ignore_patterns("*.results")
+                shutil.copytree(common.TOP / "examples" / it, folder.parent / it, ignore=left_out)
+
+            def page_after(*words):
+                words = ["design.toml", "--program", common.PROGRAM, "--quiet", *words]
+                self.assertEqual(common.tool("corners", *words, cwd=folder)[0], 0)
+                self.assertEqual(common.tool("report", "design.toml", "--out", "page.html", cwd=folder), (0, "", ""))
+                return (folder / "page.html").read_text(encoding="utf-8")
+
+            before = page_after("--paths", "1")
+            (folder / "ecos.list").write_text("repower_gate carry_2 NAND2_X2\n")
+            after, again = page_after("--endpoints"), page_after("--paths", "1")
+        slack = '<b class="fails-words">{} ps</b>'
+        self.assertEqual([slack.format("-30.055") in it for it in (before, after, again)], [True, False, False])
+        self.assertEqual([slack.format("-3.972") in it for it in (before, after, again)], [False, False, True])
+        self.assertEqual(['id="no-paths"' in it for it in (before, after, again)], [False, True, False])
 
 
 @needs_jinja2

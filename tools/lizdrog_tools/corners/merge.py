@@ -14,6 +14,7 @@ from lizdrog_tools.read_answers import (
     Row,
     answer_text,
     draft_rows,
+    lines_of_row,
     may_answer,
     read_output,
     read_script,
@@ -243,15 +244,17 @@ def question_lines(merged: Merged) -> Iterator[str]:
 
 
 def answer_lines(command: Command, rows: list[tuple[str, Row]]) -> Iterator[str]:
-    """A question with the answers of the corners, in one line where they are the same."""
-    texts = [answer_text(row) for _, row in rows]
-    if len(set(texts)) == 1 and len(rows) > 1:
-        yield f"{command.text()} -> {texts[0]} (all corners)"
+    """A question with the answers of the corners and what stands below them, once where they are the same."""
+    told = [(answer_text(row), list(lines_of_row(command, row, None))) for _, row in rows]
+    if len(told) > 1 and all(it == told[0] for it in told):
+        yield f"{command.text()} -> {told[0][0]} (all corners)"
+        yield from told[0][1]
         return
     width = max(len(corner) for corner, _ in rows)
     yield command.text()
-    for (corner, _), text in zip(rows, texts):
+    for (corner, _), (text, below) in zip(rows, told):
         yield f"  {corner:{width}}  {text}"
+        yield from (f"  {line}" for line in below)
 
 
 def text_of(merged: Merged, most: int) -> str:

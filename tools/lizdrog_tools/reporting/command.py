@@ -57,10 +57,13 @@ def of_project(file: pathlib.Path, results: pathlib.Path | None) -> Source:
     for corner in [it for it in answers if it.is_there()]:
         if corner.output.first != len(saved[corner.name]):
             raise Refused(f"the list of ECOs has changed since corner {corner.name} answered: call corners again")
+    # Paths that were asked of an earlier list or of other documents end otherwise than the answers.
+    finals = {it.name: it.output.final for it in answers if it.is_there()}
+    paths = [it for it in paths if it.is_there() and it.output.final == finals.get(it.name)]
     return Source(
         file.name,
         Merged(answers),
-        [it for it in (*answers, *paths) if it.is_there()],
+        [it for it in answers if it.is_there()] + paths,
         project.corners[0].netlist,
         {it.name: it.late for it in project.corners},
         {it.name: it.sdc for it in project.corners},

@@ -62,7 +62,7 @@ def draw_axes(picture: Picture, axes: Axes, edges: list[int]) -> None:
     if axes.low <= 0 <= axes.high:
         picture.line(axes.x(0), axes.top + TOP - 8, axes.x(0), axes.y(0), "zero")
     picture.text(WIDTH - RIGHT, axes.y(0) + 32, "slack in ps", "soft", "end", 10)
-    picture.text(LEFT, axes.y(0) + 32, "endpoints, a scale of its own", "soft", "start", 10)
+    picture.text(LEFT, axes.y(0) + 32, "endpoints (each picture has its own scale)", "soft", "start", 10)
 
 
 def draw_histogram(picture: Picture, top: float, title: str, values: list[int]) -> None:

@@ -230,6 +230,7 @@ class Page:
                 )
                 for row in rows:
                     path = shown_path(corner.name, row, edited, clocks, times)
+                    path.is_former = design != corner.design()
                     found[(path.kind, path.pin, path.corner, design, tuple(it.pin for it in path.stages))] = path
         last = max((key[3] for key in found), default=0)
         paths = [path for key, path in found.items() if key[3] == last]

@@ -5,6 +5,8 @@ from lizdrog_tools.read_answers import Edited, Row, path_lines, picoseconds, tho
 from lizdrog_tools.reporting.clocks import SETUP, Clock, clock_edge, ends_the_network, separation
 from lizdrog_tools.verilog import Joined
 
+MOST_SINKS = 40
+
 
 @dataclasses.dataclass(frozen=True)
 class Stage:
@@ -18,11 +20,16 @@ class Stage:
     is_network: bool
     cell: str
     net: str
-    fanout: int | None
+    sinks: tuple[str, ...]
 
     def delay(self) -> int:
         """What the step adds."""
         return self.end - self.start
+
+    def sinks_text(self) -> str:
+        """The sinks of the net that the step drives, by name."""
+        more = len(self.sinks) - MOST_SINKS
+        return " ".join(self.sinks[:MOST_SINKS]) + (f" and {more} more" if more > 0 else "")
 
     def sort(self) -> str:
         """What the step is, in words."""
@@ -53,6 +60,8 @@ class ShownPath:
     start: tuple[str, str, int]
     stages: list[Stage]
     parts: list[Part]
+    # Whether a later ECO of the same run came after it.
+    is_former: bool = False
 
     def arrival(self) -> int:
         """When the path ends."""
@@ -90,7 +99,7 @@ def stages_of(row: Row, edited: Edited | None) -> tuple[tuple[str, str, int], li
                 at <= last,
                 line.get("cell", ""),
                 line.get("net") or "",
-                line.get("fanout"),
+                tuple(joined.nets[line["net"]].sinks) if line.get("net") else (),
             )
         )
     first = lines[0]
