@@ -34,7 +34,7 @@ no_file (Some old) xs ys h = absurd h
 
 module _ (before file : Option (List ℕ)) (f g : ℕ) (d : Derates) (first : ℕ) (J : List Entry) (kept : ℕ) (was : Bool)
     (low : first ≤ kept) (few : kept - first ≤ length J) (has : HasFile before file d first J (kept - first) was) (blamed : IsBlamed was f g) where
-  End : Option (List ℕ) → ℕ → Result Unit Unkept → Type 0
+  abbrev End : Option (List ℕ) → ℕ → Result Unit Unkept → Type 0
   End after h = Filed (at_file before f) (at_file after h) d first J kept was
 
   well : was ≡ true → HasFile before file d first J (kept - first) true
