@@ -143,3 +143,19 @@ fn a_fault_of_the_input_ends_the_hearing(rt: HostRuntime) {
     assert_eq!(rt; lines_heard(&rt, alloc, 5), (1, Some(Lost::Input)));
     assert_eq!(rt; lines_heard(&rt, alloc, 6), (1, Some(Lost::Input)));
 }
+
+/// What a door lost that was closed behind its first line: when it was asked for the next one, and when a piece was said.
+fn lost_when_closed(rt: &impl Abort, alloc: Global) -> (Option<Lost>, Option<Lost>) {
+    let mut written = Vec::new(alloc);
+    let mut door = OpenDoor::new(alloc, b"take\nnext".as_slice(), &mut written);
+    assert_line(rt, alloc, &mut door, b"take".as_slice());
+    door.close();
+    let piece = repeated(rt, alloc, 3, "\n");
+    (door.hear(alloc).err(), door.say(&piece).err())
+}
+
+#[test]
+fn a_closed_door_hears_and_says_nothing(rt: HostRuntime) {
+    let lost = lost_when_closed(&rt, rt.alloc());
+    assert_eq!(rt; lost, (Some(Lost::Input), Some(Lost::Output)));
+}
