@@ -1,5 +1,5 @@
 -- The seats of halls, and why halls open no door.
-use Rattle.std.specs.Prelude.{ℕ, ◌-◌, List, slice_get, ⊤}
+use Rattle.std.specs.Prelude.{◌≡◌, ℕ, ◌-◌, List, [], ◌∷◌, ◌++◌, map, slice_get, ⊤}
 use Rattle.std.specs.declared.option.Option.{Option}
 use Rattle.std.specs.declared.option.Option.TheVariants.{None, Some}
 use Rattle.live_doors.specs.InMemory.{kept_lines}
@@ -31,6 +31,14 @@ DeniesSeat (Some found) Memory = ⊤
 -- the names of the seat of a number, from 1
 abbrev pub names_at : {E : Type 0} → NamedHall E → ℕ → Option NamedSeat
 names_at hall seat = slice_get hall.seats.items (seat - 1)
+
+-- the names of its seats, in order
+abbrev pub seat_names : {E : Type 0} → NamedHall E → List (List ℕ × List ℕ)
+seat_names hall = map (λ (names : NamedSeat). (names.input.now, names.output.now)) hall.seats.items
+
+-- it has a seat more, with these names, behind the others
+abbrev pub HasSeatMore : {E : Type 0} → NamedHall E → NamedHall E → List ℕ → List ℕ → Type 0
+HasSeatMore old new input output = seat_names new ≡ seat_names old ++ (input, output) ∷ []
 
 -- why a hall of names opens no door at a seat, by the names that the outside refuses: where the seat has no names its input is
 -- lacking; else the outside refused its input's name or its output's, or memory is wanting

@@ -1,8 +1,8 @@
 //! The halls of the system: the standard input and output, and named files and pipes.
 
-ghost use Rattle.std.specs.Prelude.{◌≡◌, [], None};
+ghost use Rattle.std.specs.Prelude.{◌≡◌, [], None, OnOk, OnErr};
 ghost use Rattle.std.specs.Io.{WritesAtMost};
-ghost use Rattle.live_doors.specs.Halls.{names_at, DeniesNames};
+ghost use Rattle.live_doors.specs.Halls.{names_at, seat_names, HasSeatMore, DeniesNames};
 
 use crate::door::{Hall, Lost};
 use crate::ends::Ends;
@@ -76,10 +76,12 @@ pub struct NamedHall<'a, E> {
     seats: Vec<NamedSeat<'a>>,
 }
 
+#[tactic(auto, using(crate::proofs::Pieces::marks))]
 impl<'a, E: Ends> NamedHall<'a, E> {
     /// A hall without a seat, whose ends are opened there.
     pub fn new(alloc: Global, ends: &'a E) -> NamedHall<'a, E>
-        ensures { result.seats.items ≡ [] }
+        ensures ends { result.ends.now ≡ ends.now }
+        ensures seats { seat_names result ≡ [] }
     {
         NamedHall {
             ends,
@@ -91,8 +93,12 @@ impl<'a, E: Ends> NamedHall<'a, E> {
     ///
     /// # Errors
     ///
-    /// Want of memory alone; the hall is then of no use.
-    pub fn add_seat(&mut self, input: &'a str, output: &'a str) -> Result<(), Memory> {
+    /// Want of memory alone; the hall is then as before.
+    pub fn add_seat(&mut self, input: &'a str, output: &'a str) -> Result<(), Memory>
+        ensures ends { self.new.ends.now ≡ self.old.ends.now }
+        ensures seat { OnOk result (HasSeatMore self.old self.new input.now output.now) }
+        ensures none { OnErr result (seat_names self.new ≡ seat_names self.old) }
+    {
         self.seats.push(NamedSeat { input, output })?;
         Ok(())
     }
