@@ -194,7 +194,7 @@ class Words(Folder):
         said = "live takes 6 words or more after --journal j, and here are 5"
         self.refused(said, "--journal", "j", *self.documents[:5])
         self.refused("is a number from 1 to 32, and here it is 33", *self.documents[:5], "33")
-        self.refused("two and two, and here is out2 alone", *self.documents, "in1", "out1", "out2")
+        self.refused("in pairs, and here is out2 alone", *self.documents, "in1", "out1", "out2")
         self.refused("16 pairs IN OUT at most, and here are 17", *self.documents, *["it"] * 34)
 
     def test_help(self):
