@@ -240,7 +240,7 @@ class Doubts(Project):
             (
                 CLOCK + "set_load 4000 q\n",
                 {},
-                "top.sdc: load: 1 ports such as q have a load of 4000 fF, and the tables end at 10",
+                "top.sdc:3: load: 1 ports such as q have a load of 4000 fF, and the tables end at 10",
             ),
             ("set_load 4 q\n", {}, "top.sdc: no-clock: the constraints create no clock"),
             (

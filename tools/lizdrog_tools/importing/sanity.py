@@ -89,7 +89,7 @@ def check_ports(constraints: Constraints, last: dict[str, Fraction], report: Rep
             port, value = next(iter(far.items()))
             report.lose(
                 word,
-                place,
+                constraints.places.get((word, port), place),
                 f"{len(far)} ports such as {port} have a {word} of {value.normalize():f} {unit}, and the tables end "
                 f"at {float(last[word]):.3g}: is the unit right?",
             )
