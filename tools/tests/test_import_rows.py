@@ -22,10 +22,19 @@ set_output_delay 70 -clock clk [get_ports {y[*] z w}]
 set_input_transition 40 [all_inputs]
 """
 BASE = CLOCKS + DELAYS
-# Variables, expr, foreach, list, all_inputs, all_outputs, patterns and remove_from_collection.
+# Variables, expr, foreach, list, all_inputs, all_outputs, patterns and remove_from_collection, which OpenSTA lacks.
 TCL = (
     CLOCKS
-    + """set PERIOD 600.0
+    + """if {[info commands remove_from_collection] eq ""} {
+  proc remove_from_collection {from gone} {
+    set names {}
+    foreach it [concat {*}$gone] { lappend names [get_full_name $it] }
+    set kept {}
+    foreach it $from { if {[lsearch -exact $names [get_full_name $it]] < 0} { lappend kept $it } }
+    return $kept
+  }
+}
+set PERIOD 600.0
 set others [list [get_ports clk] [get_ports clk2] [get_ports b*]]
 foreach {side share} {max 0.15 min 0.05} {
   set_input_delay -$side [expr $PERIOD * $share] -clock clk [remove_from_collection [all_inputs] $others]
