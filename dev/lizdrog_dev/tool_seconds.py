@@ -1,8 +1,8 @@
 """Times the tools that read whole designs: tools.py [--program FILE] [--cells N]
 
 A design of N cells (default: 52510) is made by bench/design.py with parasitics by bench/spef.py. Each tool runs three
-times. It prints the least seconds of processors and the peak memory of each; its status is 1 where one takes more than
-3 s or 300 MB. read_answers is asked for paths of designs between ECOs, which the program answers first. An import of the
+times. It prints the least seconds of processors and the peak memory of each; its status is 1 where one takes more
+than 3 s or 300 MB. read_answers is asked for paths of designs between ECOs, which the program answers first. An import of the
 design as it is, and of one that has it as a block with parasitics of its own, may take 60 s and 1,000 MB; the second
 needs yosys.
 """

@@ -352,7 +352,9 @@ class Timing(Constraints):
         )
         self.assertIn(
             "top.sdc:5: latency: the clock c2 has a latency of 0 ps (early rise), and another of 5 ps",
-            self.refusal("create_clock -name c2 -period 100 e\nset_propagated_clock c2\nset_clock_latency -source 5 clk\n"),
+            self.refusal(
+                "create_clock -name c2 -period 100 e\nset_propagated_clock c2\nset_clock_latency -source 5 clk\n"
+            ),
         )
 
     def test_uncertainties_between_clocks(self):
