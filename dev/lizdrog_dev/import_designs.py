@@ -515,7 +515,7 @@ MODES_V = """module modes (clk, clk2, sel, a, b, c, d, y, z, w);
   NAND2 g8 (.A(q4), .B(c), .Y(w));
 endmodule
 """
-MODES_SDC = """# Constraints as people write them for synthesis: 60 commands and more when they run.
+MODES_SDC = """# Constraints as people write them for synthesis: 60 commands, of which some run several times.
 set PERIOD 600.0
 set IO_SHARE 0.15
 set IN_PORTS {c d sel}
@@ -552,24 +552,38 @@ set_driving_cell -lib_cell BUF [get_ports b[*]]
 set_driving_cell -lib_cell INV -input_transition_rise 30 -input_transition_fall 40 [get_ports $IN_PORTS]
 set_output_delay [share $PERIOD 0.2] -clock io [get_ports y]
 set_output_delay -min -8 -clock io [get_ports y]
+set_output_delay -max -rise [share $PERIOD 0.21] -clock io [get_ports y[3]]
+set_output_delay -add_delay -max [share $PERIOD 0.22] -clock io [get_ports {y[1] y[2]}]
 set outputs [list [get_ports z] [get_ports w]]
 foreach port $outputs { set_output_delay 55 -clock clk $port }
 set_load 4 [all_outputs]
 set_load -max 6 [get_ports {y[0] y[1]}]
+set_load -min 3 [get_ports y[*]]
+set_load [expr {4 + 0.5}] [get_ports w]
 if {$has_test} { set_case_analysis 0 [get_ports sel] }
 set_disable_timing -from A -to Y [get_cells g2]
+set_disable_timing [get_pins x3/B]
 set_clock_groups -asynchronous -name halves -group [get_clocks clk2] -group [get_clocks {io}]
 set_false_path -from [get_clocks clk2] -to [get_cells r4]
 set_false_path -hold -from [get_ports b*] -to [get_ports y[3]]
+set_false_path -setup -from [get_ports c] -to [get_ports w]
+set_false_path -from [get_pins ra_1/CK] -to [get_ports {y[0] y[1]}]
+set_false_path -through [get_pins g5/A]
 set_multicycle_path 2 -setup -to [get_cells r2]
 set_multicycle_path 1 -hold -to [get_cells r2]
 set_multicycle_path 3 -setup -from [get_clocks clk] -to [get_clocks clk2]
 set_multicycle_path 2 -hold -from [get_clocks clk] -to [get_clocks clk2]
+set_multicycle_path 2 -setup -from [get_cells ra_*] -to [get_clocks io]
+set_multicycle_path 1 -hold -from [get_cells ra_*] -to [get_clocks io]
+set_multicycle_path 2 -from [list [get_ports d] [get_ports c]] -to [get_cells r1]
 set_timing_derate -early 0.95
 set_timing_derate -late -cell_delay 1.04
 set_max_fanout 20 [current_design]
 set_max_transition 400 [current_design]
+set_max_capacitance 200 [current_design]
+set_max_area 0
 group_path -name outputs -to [all_outputs]
+group_path -name inputs -from [get_ports {c d}]
 """
 
 

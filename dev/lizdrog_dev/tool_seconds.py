@@ -1,12 +1,15 @@
 """Times the tools that read whole designs: tools.py [--program FILE] [--cells N]
 
 A design of N cells (default: 52510) is made by bench/design.py with parasitics by bench/spef.py. Each tool runs three
-times. It prints the least seconds of processors and the peak memory of each; its status is 1 where one takes more than
-3 s or 300 MB. read_answers is asked for paths of designs between ECOs, which the program answers first.
+times. It prints the least seconds of processors and the peak memory of each; its status is 1 where one takes more
+than 3 s or 300 MB. read_answers is asked for paths of designs between ECOs, which the program answers first. An import of the
+design as it is, and of one that has it as a block with parasitics of its own, may take 60 s and 1,000 MB; the second
+needs yosys.
 """
 import argparse
 import os
 import pathlib
+import shutil
 import subprocess
 import sys
 import tempfile
@@ -16,7 +19,11 @@ from lizdrog_tools.liberty import read_library
 from lizdrog_tools.places import TOP, find_program
 from lizdrog_tools.verilog import Joined, read_netlist
 
-MOST_SECONDS, MOST_MEGABYTES, TIMES, ASKED = 3, 300, 3, 20
+TIMES, ASKED = 3, 20
+# Seconds and megabytes.
+Limits = tuple[float, float]
+OF_TOOLS: Limits = (3, 300)
+OF_IMPORTS: Limits = (60, 1000)
 DOCUMENTS = ["bench.lib", "bench.lib", "bench.v", "bench.sdc", "bench.spef"]
 
 
@@ -31,6 +38,21 @@ def write_questions(folder: pathlib.Path) -> str:
     return joined.net_of[f"{ends[0].rpartition(':')[0]}:Q"]
 
 
+def write_project(folder: pathlib.Path, is_block: bool) -> str:
+    """A project of the design, or of a chip with it as the block u; gives the name of the file."""
+    netlist = read_netlist(folder / "bench.v")
+    ports = ", ".join(f"{way} {port}" for port, way in netlist.ports.items())
+    pins = ", ".join(f".{it}({it})" for it in netlist.ports)
+    (folder / "chip.v").write_text(f"module chip ({ports});\n {netlist.name} u ({pins});\nendmodule\n")
+    files, spef = '"bench.v"', '"bench.spef"'
+    if is_block:
+        files, spef = '["chip.v", "bench.v"]\ntop = "chip"', '{ file = "bench.spef", instance = "u" }'
+    name = "chip.toml" if is_block else "flat.toml"
+    text = f'library = "bench.lib"\nnetlist = {files}\nsdc = "bench.sdc"\nspef = [{spef}]\n'
+    (folder / name).write_text(text)
+    return name
+
+
 def spent(folder: pathlib.Path, words: list[str]) -> tuple[float, float]:
     """Seconds of processors and MB of a tool."""
     with open(os.devnull, "wb") as sink:
@@ -39,6 +61,18 @@ def spent(folder: pathlib.Path, words: list[str]) -> tuple[float, float]:
     if os.waitstatus_to_exitcode(status) not in (0, 1):
         sys.exit(f"tools.py: {words[0]} ended with the wait status {status}")
     return used.ru_utime + used.ru_stime, used.ru_maxrss / 1000
+
+
+def has_yosys() -> bool:
+    return shutil.which("yosys") is not None
+
+
+def is_slow(folder: pathlib.Path, words: list[str], limits: Limits) -> bool:
+    """Prints what a tool takes; whether that is more than it may."""
+    runs = [spent(folder, words) for _ in range(TIMES)]
+    seconds, memory = min(it[0] for it in runs), max(it[1] for it in runs)
+    print(f"{' '.join(words[:2])}: {seconds:.2f} s of processors, {memory:.0f} MB", flush=True)
+    return seconds > limits[0] or memory > limits[1]
 
 
 def main() -> int:
@@ -58,10 +92,7 @@ def main() -> int:
         beside = ["--netlist", "bench.v", "--library", "bench.lib"]
         calls = [["net_parasitics.py", "bench.spef", net], ["check_setup.py", *DOCUMENTS],
                  ["read_answers.py", "ask.eco", "ask.out", *beside], ["endpoint_questions.py", "bench.lib", "bench.v"]]
-        is_slow = False
-        for words in calls:
-            runs = [spent(folder, words) for _ in range(TIMES)]
-            seconds, memory = min(it[0] for it in runs), max(it[1] for it in runs)
-            is_slow |= seconds > MOST_SECONDS or memory > MOST_MEGABYTES
-            print(f"{words[0]}: {seconds:.2f} s of processors, {memory:.0f} MB", flush=True)
-    return 1 if is_slow else 0
+        imports = [["import_design.py", write_project(folder, it)] for it in (False, True) if not it or has_yosys()]
+        timed = [(it, OF_TOOLS) for it in calls] + [(it, OF_IMPORTS) for it in imports]
+        slow = [words for words, limits in timed if is_slow(folder, words, limits)]
+    return 1 if slow else 0

@@ -4,7 +4,7 @@ from collections.abc import Iterator
 
 from lizdrog_tools.importing.mistyped import meant
 
-# A period of fewer gates than this, or of more, is one in another unit; so is a slew or a load so far from the tables.
+# A period of fewer gates than this, or of more, is one in another unit; so is a slew so far beyond the tables.
 FEWEST_GATES, MOST_GATES = 1, 100_000
 FAR_BEYOND = 30
 NAME = re.compile(r"^[ \t]*([A-Za-z_]\w*)\s*[:(]", re.M)
@@ -73,7 +73,7 @@ def last_entries(library, used: list[str]) -> tuple[float, float]:
 
 
 def out_of_proportion(commands, library, used: list[str]) -> Iterator[str]:
-    """Periods, slews and loads of constraints that are far from the tables."""
+    """Periods and slews of constraints that are far from the tables, and loads beyond the last entry of each."""
     units, (last_slew, last_load) = Units(library), last_entries(library, used)
     gates = sorted(delay for _, delay in delays(library, used) if delay > 0)
     gate = gates[len(gates) // 2] if gates else 0.0
@@ -90,7 +90,7 @@ def out_of_proportion(commands, library, used: list[str]) -> Iterator[str]:
                 yield f"a transition of {slew / 1000:g} ps, where tables end at {last_slew / 1000:.3g} ps"
         elif command.name == "set_load" and last_load:
             load = (first_number(command) or 0.0) * units.load
-            if load > FAR_BEYOND * last_load:
+            if load > last_load:
                 yield f"a load of {load / 1000:g} fF, where tables end at {last_load / 1000:.3g} fF"
 
 

@@ -220,6 +220,33 @@ class Verilog(Project):
         self.assertEqual(text.count("module"), 2)
 
     @needs_yosys
+    def test_parameters_part_selects_and_vectors(self):
+        self.write(
+            {
+                "top.v": "module wide #(parameter N = 1) (input [N-1:0] a, output [N-1:0] y);\n wire [N-1:0] m;\n"
+                " assign m[N-1:1] = a[N-2:0];\n assign m[0] = a[N-1];\n"
+                " BUF b0 (m[0], y[0]);\n BUF b1 (.A(m[1]), .Z(y[1]));\nendmodule\n"
+                "module top (input clk, input [3:0] d, output [1:0] q);\n wire [1:0] n;\n"
+                " wide #(.N(2)) u (.a(d[2:1]), .y(n));\n"
+                " DFF r0 (.D(n[0]), .CK(clk), .Q(q[0]));\n DFF r1 (.D(n[1]), .CK(clk), .Q(q[1]));\nendmodule\n"
+            }
+        )
+        self.assertEqual(self.run_import(top="top"), (0, ""))
+        for line in ("  BUF \\u/b0  (.A(d[2]), .Z(n[0]));", "  BUF \\u/b1  (.A(d[1]), .Z(n[1]));"):
+            self.assertIn(line, self.made("netlist.v").splitlines())
+
+    @needs_yosys
+    def test_a_connection_of_another_width_has_its_line(self):
+        self.write({"top.v": HIERARCHY.replace(".a({d[0], d[1]})", ".a({d[0], d})")})
+        status, errors = self.run_import(top="top")
+        self.assertEqual(status, 2)
+        self.assertIn(
+            "import: top.v:8: width: a connection has another width than its port: Resizing cell port top.u1.a from 3 "
+            "bits to 2 bits\n",
+            errors,
+        )
+
+    @needs_yosys
     def test_ports_that_are_one_net(self):
         self.write(
             {
@@ -252,6 +279,21 @@ class Verilog(Project):
         self.assertEqual(status, 2)
         self.assertIn("is no instance of a cell", errors)
         self.assertIn("top.v:2", errors)
+
+    def test_more_than_is_read(self):
+        """The limits of the readers, here as small ones: what is past one is told with its document."""
+        for name, most, said in (
+            ("MOST_NETS", 4, "top.v: the flat design has 5 nets (V6), and 4 are read"),
+            ("MOST_INSTANCES", 2, "top.v: the flat design has 3 instances (V6), and 2 are read"),
+            ("MOST_PINS", 10, "top.v: the flat design has 11 pins with the ports (E17), and 10 are read"),
+            ("MOST_CELLS", 1, "p.toml: 2 cells are in use or named by keep, and 1 are read (L10)"),
+            ("MOST_BYTES", 400, "cells.lib: the early.lib that comes of it has "),
+        ):
+            with self.subTest(name), mock.patch(f"lizdrog_tools.importing.limits.{name}", most):
+                status, errors = self.run_import()
+                self.assertEqual(status, 2, errors)
+                self.assertIn(f"import: {said}", errors)
+        self.assertEqual(self.run_import(), (0, ""))
 
     def test_cells_and_pins_that_are_not_there(self):
         for old, new, said in (

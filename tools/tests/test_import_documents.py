@@ -223,6 +223,18 @@ class Libraries(Project):
 
 
 class Doubts(Project):
+    def test_loads_beyond_the_tables(self):
+        """They are read, since tables are extended; the report counts them with their place."""
+        self.write({"top.sdc": CLOCK + "set_load 12 q\n", "top.spef": common.SPEF.replace("2.5", "12.5")})
+        self.assertEqual(self.run_import(spef="top.spef")[0], 0)
+        found = [it for it in self.report()["left_out_without_effect"] if it["kind"] == "load-beyond"]
+        self.assertEqual([it["line"] for it in found], [3, 14])
+        self.assertIn("1 ports such as q have loads beyond the last entry of each table, 10 fF", found[0]["text"])
+        self.assertIn("1 nets such as n2 have loads beyond", found[1]["text"])
+        self.write({"top.sdc": CLOCK + "set_load 10 q\n"})
+        self.assertEqual(self.run_import()[0], 0)
+        self.assertNotIn("load-beyond", self.kinds("left_out_without_effect"))
+
     def test_what_is_hardly_meant(self):
         slow = common.LIBRARY.replace('"10, 30"', '"12, 36"').replace('values ("20")', 'values ("24")')
         self.write({"slow.lib": slow, "far.spef": common.SPEF.replace("*C_UNIT 1 FF", "*C_UNIT 1 PF")})
@@ -240,7 +252,7 @@ class Doubts(Project):
             (
                 CLOCK + "set_load 4000 q\n",
                 {},
-                "top.sdc: load: 1 ports such as q have a load of 4000 fF, and the tables end at 10",
+                "top.sdc:3: load: 1 ports such as q have a load of 4000 fF, and the tables end at 10",
             ),
             ("set_load 4 q\n", {}, "top.sdc: no-clock: the constraints create no clock"),
             (

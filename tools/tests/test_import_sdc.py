@@ -176,6 +176,17 @@ class Objects(Constraints):
             ("index_collection [get_ports d] 3\n", 3, "the collection has 3 objects"),
             ("get_ports -regexp {(}\n", 3, "is no regular expression"),
             ("source gone.tcl\n", 3, "source: there is no file gone.tcl"),
+            ("set_clock_uncertainty 3 -from clk\n", 3, "set_clock_uncertainty takes -from and -to together"),
+            ("set_clock_uncertainty 3\n", 3, "set_clock_uncertainty needs clocks"),
+            ("set_clock_latency 3\n", 3, "set_clock_latency needs clocks"),
+            ("set_propagated_clock\n", 3, "set_propagated_clock needs clocks"),
+            ("set_clock_groups -asynchronous\n", 3, "set_clock_groups needs a -group"),
+            ("set_driving_cell -library small e\n", 3, "set_driving_cell needs a -lib_cell"),
+            ("set_case_analysis 0\n", 3, "set_case_analysis needs ports or pins"),
+            ("set_disable_timing\n", 3, "set_disable_timing needs objects"),
+            ("set_false_path\n", 3, "set_false_path needs -from, -to or -through"),
+            ("set_multicycle_path 2 -hold\n", 3, "set_multicycle_path needs -from, -to or -through"),
+            (VIRTUAL + "set_input_delay 3 -clock [all_clocks] e\n", 4, "-clock takes one clock, and these are 2"),
         ):
             with self.subTest(text):
                 self.write({"top.sdc": CLOCK + text})
@@ -339,6 +350,12 @@ class Timing(Constraints):
             "top.sdc:3: latency: the clock clk has a latency of 5 ps (late rise), and another of 0 ps",
             self.refusal("set_clock_latency -source -late 5 clk\n"),
         )
+        self.assertIn(
+            "top.sdc:5: latency: the clock c2 has a latency of 0 ps (early rise), and another of 5 ps",
+            self.refusal(
+                "create_clock -name c2 -period 100 e\nset_propagated_clock c2\nset_clock_latency -source 5 clk\n"
+            ),
+        )
 
     def test_uncertainties_between_clocks(self):
         both = "set_clock_uncertainty -setup 9 -from clk -to io\nset_clock_uncertainty -setup 9 -from io -to io\n"
@@ -415,6 +432,12 @@ class Timing(Constraints):
             ("set_driving_cell -lib_cell BUF e; set_input_transition 3 e", "transition-beside-drive"),
             ("create_clock -name c2 -period 90 -waveform {0 10 20 30}", "waveform"),
             ("set_clock_latency -source 3 clk; create_clock -period 100 -name c2 e", "latency"),
+            ("set_input_delay 3 -clock [get_clocks x*] e", "not-found"),
+            ("set_multicycle_path 0 -to q", "range"),
+            ("set_multicycle_path -hold -1 -to q", "range"),
+            ("set_timing_derate -late 11", "range"),
+            ("set_load -3 q", "range"),
+            ("set_input_transition -3 e", "range"),
         ):
             with self.subTest(text):
                 self.assertIn(f"import: top.sdc:3: {kind}: ", self.refusal(text + "\n"))
@@ -457,6 +480,33 @@ class Timing(Constraints):
                 self.assertIn(line, self.made("constraints.sdc").splitlines())
             else:
                 self.assertIn("top.sdc:3: through: -through: other paths lead to r2/D from the same starts", errors)
+
+    def test_a_slew_in_another_unit_has_its_line(self):
+        self.write({"cells.lib": import_designs.standard_cells(import_designs.Kind("cells", 1.0))})
+        self.write({"top.v": NETLIST.replace(".Z(", ".Y(")})
+        self.assertIn(
+            "import: top.sdc:4: slew: 1 ports such as e have a slew of 7000 ps, and the tables end at 200",
+            self.refusal("set_input_transition 4 e\nset_input_transition 7000 e\n"),
+        )
+
+    def test_a_clock_in_the_place_of_another(self):
+        """The later one counts; where something was said of the earlier one, timers differ in what becomes of it."""
+        later = "create_clock -name io -period 70\n"
+        lines = self.sdc_lines(VIRTUAL + later)
+        self.assertEqual(lines, ["create_clock -name io -period 70 -waveform {0 35}"])
+        self.assertEqual(self.kinds("left_out_without_effect"), {"clock-replaced"})
+        for text in (
+            "set_clock_uncertainty 3 io",
+            "set_clock_latency 3 io",
+            "set_input_delay 3 -clock io e",
+            "set_output_delay 3 -clock io q",
+            "set_false_path -from io",
+            "set_multicycle_path 2 -to io",
+            "set_clock_groups -asynchronous -group io",
+            "set_clock_uncertainty 3 -from io -to clk",
+        ):
+            with self.subTest(text):
+                self.assertIn("import: top.sdc:5: clock-replaced: ", self.refusal(f"{VIRTUAL}{text}\n{later}"))
 
     @common.needs_program
     def test_the_program_reads_what_is_written(self):

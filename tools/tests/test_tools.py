@@ -287,6 +287,8 @@ FINDINGS = [("a clock that is missing", {"sdc": ""}, "design without a clock", "
              "4 arcs are slower in the early library, and 0 faster"),
             ("numbers in another unit", {"sdc": WHOLE.replace("-period 100", "-period 0.1") + "set_load 4000 q\n"},
              "a period of 0.1 ps, where a gate takes 30 ps", "a load of 4000 fF, where tables end at 10 fF"),
+            ("a load beyond the tables", {"sdc": WHOLE + "set_load 11 q\n"},
+             "a load of 11 fF, where tables end at 10 fF"),
             ("a mistyped attribute",
              {"late": LIBRARY.replace("capacitance : 1; }\n  pin (Z)", "\ncapacitence : 1; }\n  pin (Z)")},
              "late.lib that look mistyped, passed over\n  line 4: capacitence: is capacitance meant?"),

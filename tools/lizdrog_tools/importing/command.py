@@ -21,6 +21,7 @@ from lizdrog_tools.importing.liberty_merge import (
     kept_cells,
     write_libraries,
 )
+from lizdrog_tools.importing.limits import check_cells, check_design, check_sizes
 from lizdrog_tools.importing.netlist import Netlist
 from lizdrog_tools.importing.project import Project, read_as, read_project
 from lizdrog_tools.importing.report import SHOWN, Place, Remark, Report, write_report
@@ -116,6 +117,7 @@ class Import:
         part_ports(netlist, (self.early, self.late), self.report)
         check_instances(netlist, self.early, self.late)
         design = Design(netlist, self.late)
+        check_design(design)
         constraints = run_constraints(
             [str(self.project.path(it)) for it in self.project.sdc], design, self.report, self.project.folder
         )
@@ -126,16 +128,19 @@ class Import:
         self.express(constraints, design, wires)
         used = sorted({it.cell for it in netlist.instances.values()})
         names = list(dict.fromkeys([*used, *kept_cells(self.early, self.late, self.project.keep)]))
+        check_cells(names, self.project)
         for name in names:
             check_cell(name, self.early, self.late, Place(self.project.file))
         early, late = write_libraries(names, self.early, self.late)
-        return {
+        texts = {
             "early.lib": early,
             "late.lib": late,
             "netlist.v": write_flat(netlist),
             "constraints.sdc": SdcWriter(constraints, netlist.name).text(),
             **({SPEF: write_spef(wires)} if wires else {}),
         }
+        check_sizes(texts, self.project)
+        return texts
 
     def express(self, constraints: Constraints, design: Design, wires: Merger | None) -> None:
         """What needs the cells and the wires: constants, cut arcs, driving cells, ideal clocks; then what the

@@ -113,6 +113,21 @@ class Constraints:
     drives: dict[str, "Drive"] = dataclasses.field(default_factory=dict)
     disabled: list["Disabled"] = dataclasses.field(default_factory=list)
     wire_loads: list[tuple[Place, str]] = dataclasses.field(default_factory=list)
+    # Where the slew or the load of a port was set last.
+    places: dict[tuple[str, str], Place] = dataclasses.field(default_factory=dict)
+
+    def is_named(self, clock: Clock) -> bool:
+        """Whether something was said of a clock behind its creation."""
+        name = clock.name
+        ends = [it for made in self.exceptions for it in (made.start, made.end) if it is not None]
+        return (
+            clock.is_propagated
+            or bool(clock.ideal_places or clock.uncertainty)
+            or any(name in it.by_clock for table in (self.inputs, self.outputs) for it in table.values())
+            or any(name in it.clocks for it in ends)
+            or any(name in group for it in self.groups for group in it.groups)
+            or any(name in pair[:2] for pair in self.between)
+        )
 
 
 @dataclasses.dataclass(slots=True)

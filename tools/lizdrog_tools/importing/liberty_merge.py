@@ -15,7 +15,6 @@ from lizdrog_tools.importing.verilog_hierarchy import LibraryPins
 TIMES = {Decimal(1): "1ps", Decimal(10): "10ps", Decimal(100): "100ps", Decimal(1000): "1ns"}
 LOADS = {Decimal(10) ** it: (plain(Decimal(10) ** it), "ff") for it in range(-3, 4)}
 LOADS |= {Decimal(10) ** it: (plain(Decimal(10) ** (it - 3)), "pf") for it in range(4, 7)}
-MOST_CELLS = 10000
 THRESHOLDS = [
     f"{side}_threshold_pct_{edge}"
     for side in ("input", "output", "slew_lower", "slew_upper")

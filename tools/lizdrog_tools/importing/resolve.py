@@ -14,7 +14,7 @@ from lizdrog_tools.importing.constraints import (
     PortDelays,
 )
 from lizdrog_tools.importing.design import Design
-from lizdrog_tools.importing.report import Report
+from lizdrog_tools.importing.report import Place, Report
 
 OTHER_SPLIT = {"early": "late", "late": "early"}
 
@@ -58,12 +58,18 @@ def common_latency(constraints: Constraints, report: Report) -> Decimal:
             if value != common:
                 report.lose(
                     "latency",
-                    clock.ideal_places[-1] if clock.ideal_places else clock.place,
+                    latency_place(constraints, clock),
                     f"the clock {clock.name} has a latency of {value} ps ({' '.join(corner)}), and another of "
                     f"{common} ps: one latency of all clocks is read",
                 )
                 return common
     return common or Decimal(0)
+
+
+def latency_place(constraints: Constraints, clock: Clock) -> Place:
+    """Where the latency of a clock is said, or that of another, from which it differs."""
+    places = [it.ideal_places[-1] for it in (clock, *constraints.clocks.values()) if it.ideal_places]
+    return places[0] if places else clock.place
 
 
 def shift_by_latencies(constraints: Constraints, report: Report) -> None:
@@ -197,7 +203,10 @@ def check_ends(constraints: Constraints, design: Design, report: Report) -> None
                 continue
             for port in [it for it in end.ports if option == "-from" and it in clock_ports]:
                 report.lose(
-                    "from-clock-port", made.place, f"-from the port {port}, at which a clock begins: name the clock"
+                    "from-clock-port",
+                    made.place,
+                    f"-from the port {port}, at which a clock begins: timers differ; name the clock, or leave the "
+                    "port out ([all_inputs -no_clocks])",
                 )
             for pin in end.pins:
                 instance, word = design.pin_parts(pin)

@@ -89,10 +89,28 @@ def check_ports(constraints: Constraints, last: dict[str, Fraction], report: Rep
             port, value = next(iter(far.items()))
             report.lose(
                 word,
-                place,
+                constraints.places.get((word, port), place),
                 f"{len(far)} ports such as {port} have a {word} of {value.normalize():f} {unit}, and the tables end "
                 f"at {float(last[word]):.3g}: is the unit right?",
             )
+
+
+def note_loads(
+    constraints: Constraints, wires: Merger | None, last: dict[str, Fraction], report: Report, place: Place
+) -> None:
+    """Loads of ports and of wires beyond the last entry of each table: what the tables say there is extended."""
+    most = last["load"]
+    ports = {
+        it: constraints.places.get(("load", it), place)
+        for it, values in constraints.loads.items()
+        if max(values.values(), default=Decimal(0)) > most > 0
+    }
+    nets = {it: made.place for it, made in wires.nets.items() if made.load() > most > 0} if wires else {}
+    for what, found in (("ports", ports), ("nets", nets)):
+        if found:
+            first, where = next(iter(found.items()))
+            text = f"{len(found)} {what} such as {first} have loads beyond the last entry of each table"
+            report.drop("load-beyond", where, f"{text}, {float(most):.3g} fF: tables are extended in a straight line")
 
 
 def check_wires(wires: Merger | None, design: Design, last: dict[str, Fraction], report: Report) -> None:
@@ -165,6 +183,7 @@ def check_all(
     check_periods(names, constraints, late, report)
     last = last_entries(names, late)
     check_ports(constraints, last, report, place)
+    note_loads(constraints, wires, last, report, place)
     check_wires(wires, design, last, report)
     check_wire_loads(constraints, wires, design, report)
     if not constraints.clocks:

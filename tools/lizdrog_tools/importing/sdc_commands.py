@@ -23,6 +23,9 @@ from lizdrog_tools.importing.tcl import CommandFault
 UNIT = re.compile(r"([0-9.]*)\s*([munpf]?)([A-Za-z]+)")
 POWERS = {"": 12, "m": 9, "u": 6, "n": 3, "p": 0, "f": -3}
 MOST_CLOCKS = 8
+# What the proved reader takes: cycles of each kind, and derates.
+CYCLES = {"setup": (1, 1000), "hold": (0, 1000)}
+MOST_DERATE = 10
 EDGE_OPTIONS = {"-min": 0, "-max": 0, "-rise": 0, "-fall": 0}
 PATH_OPTIONS = {
     "-setup": 0,
@@ -108,6 +111,19 @@ class TimingCommands:
         if not said.plain:
             raise CommandFault(f"{self.session.command} needs a number")
         return self.number(said.plain[0]) * unit
+
+    def need(self, words: list[str], what: str) -> None:
+        """Tells a command without the objects that it is about."""
+        if not words:
+            raise CommandFault(f"{self.session.command} needs {what}")
+
+    def is_within(self, value: Decimal, least: int, most: int | None, text: str) -> bool:
+        """Whether a number is one that is read; another one is told."""
+        if least <= value and (most is None or value <= most):
+            return True
+        span = f"from {least} to {most}" if most is not None else f"of {least} or more"
+        self.session.lose("range", f"{self.session.command} {text}: a number {span} is read")
+        return False
 
     def corners(self, said: Words) -> list[tuple[str, str]]:
         splits = [split for split, option in zip(SPLITS, ("-min", "-max"), strict=True) if said.has(option)] or SPLITS
@@ -211,7 +227,11 @@ class TimingCommands:
             return
         for name in [clock.name, *(it.name for it in there)]:
             if name in clocks:
-                self.session.drop("clock-replaced", f"the clock {name} of {clocks[name].place} is replaced")
+                text = f"the clock {name} of {clocks[name].place} is replaced"
+                if self.constraints.is_named(clocks[name]):
+                    self.session.lose("clock-replaced", f"{text}; timers differ in what becomes of what was said of it")
+                else:
+                    self.session.drop("clock-replaced", text)
                 del clocks[name], self.design.clocks[name]
         clocks[clock.name] = clock
         self.design.clocks[clock.name] = clock.port
@@ -233,6 +253,7 @@ class TimingCommands:
 
     def clocks_or_ports(self, said: Words) -> list[Clock]:
         """The clocks of the plain words; a port stands for the clock that begins at it."""
+        self.need(said.plain, "clocks")
         found = []
         for made in (
             it for word in said.plain for it in self.session.objects(word, ("clock", "port", "pin", "block_pin"))
@@ -311,7 +332,9 @@ class TimingCommands:
             return
         value = self.first_number(said, self.time)
         kinds = [it for it in ("setup", "hold") if said.has(f"-{it}")] or ["setup", "hold"]
-        if said.has("-from") or said.has("-to"):
+        if said.has("-from") != said.has("-to"):
+            raise CommandFault("set_clock_uncertainty takes -from and -to together")
+        if said.has("-from"):
             pairs = [
                 (one.name, other.name)
                 for one in self.named_clocks(said.value("-from") or "")
@@ -340,7 +363,8 @@ class TimingCommands:
         if said.has("-allow_paths"):
             self.session.drop("allow-paths", "set_clock_groups -allow_paths cuts no path")
             return
-        groups = [[it.name for it in self.session.objects(text, ("clock",))] for text in said.values.get("-group", [])]
+        self.need(said.values.get("-group", []), "a -group")
+        groups = [[it.name for it in self.session.objects(text, ("clock",))] for text in said.values["-group"]]
         self.constraints.groups.append(ClockGroups(groups, self.session.place))
 
     # ------------------------------------------------------------------------------------------ ports
@@ -362,7 +386,10 @@ class TimingCommands:
             self.session.lose("no-clock", f"a {self.session.command} without -clock")
             return
         clocks, ports = self.session.objects(said.value("-clock"), ("clock",)), self.ports(said, way)
-        if len(clocks) != 1 or clocks[0].name not in self.constraints.clocks:
+        if len(clocks) > 1:
+            raise CommandFault(f"{self.session.command} -clock takes one clock, and these are {len(clocks)}")
+        if not clocks or clocks[0].name not in self.constraints.clocks:
+            self.session.lose("not-found", f"the clock of this {self.session.command} is not there")
             return
         clock, beside = clocks[0].name, said.has("-add_delay")
         included = said.has("-source_latency_included"), said.has("-network_latency_included")
@@ -396,8 +423,9 @@ class TimingCommands:
         if self.lose_options(said, ("-clock", "-clock_fall")):
             return
         value = self.first_number(said, self.time)
-        for port in self.ports(said, "input"):
+        for port in self.ports(said, "input") if self.is_within(value, 0, None, said.plain[0]) else ():
             self.constraints.slews.setdefault(port, {}).update(dict.fromkeys(self.corners(said), value))
+            self.constraints.places["slew", port] = self.session.place
             if self.constraints.drives.pop(port, None):
                 self.session.lose(
                     "transition-beside-drive",
@@ -413,11 +441,12 @@ class TimingCommands:
             return
         value = self.first_number(said, self.load)
         splits = [split for split, option in zip(SPLITS, ("-min", "-max"), strict=True) if said.has(option)] or SPLITS
-        for port in self.ports(said, None):
+        for port in self.ports(said, None) if self.is_within(value, 0, None, said.plain[0]) else ():
             if self.design.netlist.ports[port] == "input":
                 self.session.drop("input-load", f"the load of the input port {port} changes no time")
             else:
                 self.constraints.loads.setdefault(port, {}).update(dict.fromkeys(splits, value))
+                self.constraints.places["load", port] = self.session.place
 
     def set_driving_cell(self, words: list[str]) -> None:
         options = {
@@ -437,7 +466,9 @@ class TimingCommands:
         said = self.session.parse(words, options)
         if self.lose_options(said, ("-multiply_by", "-clock", "-clock_fall", "-min", "-max", "-rise", "-fall")):
             return
-        found = self.session.objects(said.value("-lib_cell") or "", ("lib_cell",))
+        if not said.has("-lib_cell"):
+            raise CommandFault("set_driving_cell needs a -lib_cell")
+        found = self.session.objects(said.value("-lib_cell"), ("lib_cell",))
         ports = self.ports(Words(set(), {}, ["", *said.plain]), "input")
         slews = {edge: self.number(said.value(f"-input_transition_{edge}") or "0") * self.time for edge in EDGES}
         for port in ports if found else []:
@@ -479,6 +510,7 @@ class TimingCommands:
     def exception(self, words: list[str], cycles: int | None, said: Words) -> None:
         if self.lose_options(said, (*EDGED, "-reset_path")):
             return
+        self.need([it for it in ("-from", "-to", "-through") if said.has(it)], "-from, -to or -through")
         kinds = tuple(it for it in ("setup", "hold") if said.has(f"-{it}"))
         ends = self.path_end(said, "-from"), self.path_end(said, "-to")
         for end, option in zip(ends, ("-from", "-to"), strict=True):
@@ -522,7 +554,9 @@ class TimingCommands:
         if said.has("-setup") and said.has("-hold"):
             self.session.lose("multicycle-both", "set_multicycle_path -setup -hold in one command: write two")
             return
-        self.exception(words, int(cycles), said)
+        kind = "hold" if said.has("-hold") else "setup"
+        if self.is_within(cycles, *CYCLES[kind], f"{said.plain[0]} of {kind}"):
+            self.exception(words, int(cycles), said)
 
     def reset_path(self, words: list[str]) -> None:
         raise CommandFault("reset_path is not read: leave out the exception")
@@ -554,6 +588,8 @@ class TimingCommands:
             )
             return
         value = self.first_number(said, Decimal(1))
+        if not self.is_within(value, 0, MOST_DERATE, said.plain[0]):
+            return
         splits = [it for it in SPLITS if said.has(f"-{it}")] or SPLITS
         sorts = [it for it in ("cell", "net") if said.has(f"-{it}_delay")] or ["cell", "net"]
         self.constraints.derates.update({(split, sort): value for split in splits for sort in sorts})
@@ -569,6 +605,7 @@ class TimingCommands:
         self.keep_case(value, said.plain[1:])
 
     def keep_case(self, value: str, texts: list[str]) -> None:
+        self.need(texts, "ports or pins")
         for made in (it for text in texts for it in self.session.objects(text, ("port", "pin", "block_pin"))):
             self.constraints.cases[made] = (value, self.session.place)
 
@@ -582,6 +619,7 @@ class TimingCommands:
         said = self.session.parse(words, {"-from": 1, "-to": 1, "-restore": 0})
         if self.lose_options(said, ("-restore",)):
             return
+        self.need(said.plain, "objects")
         for made in (
             it
             for text in said.plain

@@ -15,7 +15,7 @@ from lizdrog_tools.importing.report import Place, Report
 from lizdrog_tools.importing.verilog_flat import verilog_word
 
 ERROR = re.compile(r"^(?:(.*?):(\d+)(?:\.\d+)?: )?ERROR: (.*)$", re.M)
-RESIZED = re.compile(r"^Warning: (Resizing cell port .*)$", re.M)
+RESIZED = re.compile(r"Resizing cell port (\S+) from \d+ bits to \d+ bits", re.M)
 SOURCE = re.compile(r"(.*):(\d+)\.\d+(?:-\d+\.\d+)?")
 NET_ZERO, NET_ONE = 0, 1
 
@@ -77,9 +77,30 @@ def run_yosys(
             file = originals.get(found.group(1) or "", files[0]) if found else files[0]
             line = int(found.group(2)) if found and found.group(2) else None
             raise InputFault(file, line, f"yosys refuses it: {found.group(3) if found else said.strip()[-300:]}")
+        modules = json.loads((folder / "out.json").read_text())["modules"]
         for found in RESIZED.finditer(said):
-            report.lose("width", Place(files[0]), f"a connection has another width than its port: {found.group(1)}")
-        return json.loads((folder / "out.json").read_text())["modules"], originals
+            place = place_of_instance(modules, found.group(1), originals)
+            report.lose("width", place, f"a connection has another width than its port: {found.group()}")
+        return modules, originals
+
+
+def place_in(item: dict[str, Any], originals: dict[str, str]) -> Place:
+    """Where a module or an instance stands; the first file as a whole where yosys does not say it."""
+    found = SOURCE.match(item.get("attributes", {}).get("src", "").split("|")[0])
+    if not found:
+        return Place(next(iter(originals.values())))
+    return Place(originals.get(found.group(1), found.group(1)), int(found.group(2)))
+
+
+def place_of_instance(modules: dict[str, Any], name: str, originals: dict[str, str]) -> Place:
+    """The place of an instance by the words module.instance.port, in which each name may have dots."""
+    cells = (
+        cell
+        for module, it in modules.items()
+        for word, cell in it["cells"].items()
+        if name.startswith(f"{module}.{word}.")
+    )
+    return place_in(next(cells, {}), originals)
 
 
 class Groups:
@@ -126,10 +147,7 @@ class Flattener:
         self.netlist = Netlist(top, self.place(modules[top]))
 
     def place(self, item: dict[str, Any]) -> Place:
-        found = SOURCE.match(item.get("attributes", {}).get("src", "").split("|")[0])
-        if not found:
-            return Place(next(iter(self.originals.values())))
-        return Place(self.originals.get(found.group(1), found.group(1)), int(found.group(2)))
+        return place_in(item, self.originals)
 
     def number(self, bits: dict[Any, int], bit: Any) -> int:
         """The number of a bit of a module, in this instance of it."""
