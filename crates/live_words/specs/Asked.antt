@@ -1,7 +1,5 @@
 -- What the words of a live run ask for.
-use Rattle.std.specs.Prelude.{ℕ, ◌≡◌, List, Option, IfSome, map, option_map, length, ◌+◌, ◌≤◌}
-use Rattle.std.specs.Borrow.{Bor}
-use Rattle.std.specs.Global.{Vec}
+use Rattle.std.specs.Prelude.{ℕ, List, Option, map, option_map, length, ◌≤◌}
 use Rattle.live_words.specs.declared.asked.LiveWords.{LiveWords}
 use Rattle.live_words.specs.declared.asked.Pair.{Pair}
 
@@ -20,22 +18,6 @@ pub record LiveAsked : Type 0 where
 abbrev pub pair_words : Pair → List ℕ × List ℕ
 pair_words p = (p.input.now, p.output.now)
 
--- the texts of names
-abbrev pub texts : List (Bor (List ℕ)) → List (List ℕ)
-texts names = map (λ s. s.now) names
-
--- exactly these pairs were found; none where these are none
-abbrev pub ArePairs : Option (List (List ℕ × List ℕ)) → Option (Vec Pair) → Type 0
-ArePairs wanted found = option_map (λ pairs. map pair_words pairs.items) found ≡ wanted
-
--- how many names pairs have
-abbrev pub name_count : List Pair → ℕ
-name_count pairs = length pairs + length pairs
-
--- the pairs that were found have at most so many names
-abbrev pub HasAtMost : ℕ → Option (Vec Pair) → Type 0
-HasAtMost most found = IfSome found (λ pairs. name_count pairs.items ≤ most)
-
 abbrev pub asked_words : LiveWords → LiveAsked
 asked_words words =
     record {
@@ -48,10 +30,6 @@ asked_words words =
       workers = words.workers;
       pairs = map pair_words words.pairs.items;
     }
-
--- what was found asks for exactly this; nothing was found where this is nothing
-abbrev pub Asks : Option LiveAsked → Option LiveWords → Type 0
-Asks wanted found = option_map asked_words found ≡ wanted
 
 -- the ranges of its numbers
 pub record IsInRange (words : LiveWords) : Type 0 where

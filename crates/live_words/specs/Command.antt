@@ -1,17 +1,12 @@
 -- The words of a live run as a command of `clap`, and what its matches ask for.
-use Rattle.std.specs.Prelude.{ℕ, ◌≡◌, List, [], ◌∷◌, true, nat_le, length, if◌then◌else◌, Option, Some, None, option_map, option_and_then, codes}
+use Rattle.std.specs.Prelude.{ℕ, List, [], ◌∷◌, true, nat_le, length, if◌then◌else◌, Option, Some, None, option_map, option_and_then, codes}
 use Rattle.std.specs.Str.{bytes_eq}
 use Rattle.clap.specs.Lexer.{usize_max}
 use Rattle.clap.specs.Walk.{Rule, Row, Text, all_of, is_empty}
-use Rattle.clap.specs.Simple.{App, app_of, new_rule, new_app, on_top, with_rule, with_subcommand, subcommand_of}
+use Rattle.clap.specs.Simple.{App, new_rule, new_app, on_top, with_rule, with_subcommand, subcommand_of}
 use Rattle.clap.specs.Faults.{fault_of}
-use Rattle.clap.specs.declared.builder.command.Command.{Command}
 use Rattle.command_words.specs.Command.{positional, optional, with_documents, Names, names_in, workers_in, journal_in}
 use Rattle.live_words.specs.Asked.{LiveAsked}
-
--- a command has a rule more than another
-abbrev pub HasMore : Command → Rule → Command → Type 0
-HasMore old rule new = app_of new ≡ with_rule (app_of old) rule
 
 -- any number of positional words
 abbrev pub repeated : Text → Rule

@@ -2,9 +2,9 @@
 
 ghost use Rattle.std.specs.Prelude.{◌≡◌, IfOk, codes};
 ghost use Rattle.clap.specs.Walk.{rule_of};
-ghost use Rattle.clap.specs.Simple.{app_of};
+ghost use Rattle.clap.specs.Simple.{app_of, with_rule};
 ghost use Rattle.command_words.specs.Command.{positional, optional, with_documents};
-ghost use Rattle.live_words.specs.Command.{repeated, live_app, lizdrog_app, HasMore};
+ghost use Rattle.live_words.specs.Command.{repeated, live_app, lizdrog_app};
 
 use clap::{Arg, Command};
 use std::alloc::{AllocError, Global};
@@ -15,7 +15,7 @@ fn with_word<'a>(
     command: Command<'a>,
     id: &'a str,
 ) -> Result<Command<'a>, AllocError>
-    ensures { IfOk result (HasMore command.entry (positional id.entry.now)) }
+    ensures { IfOk result (λ made. app_of made ≡ with_rule (app_of command.entry) (positional id.entry.now)) }
 {
     command.arg(Arg::new(alloc, id).required(true))
 }
@@ -27,7 +27,7 @@ fn with_option<'a>(
     id: &'a str,
     name: &'a str,
 ) -> Result<Command<'a>, AllocError>
-    ensures { IfOk result (HasMore command.entry (optional id.entry.now name.entry.now)) }
+    ensures { IfOk result (λ made. app_of made ≡ with_rule (app_of command.entry) (optional id.entry.now name.entry.now)) }
 {
     command.arg(Arg::new(alloc, id).long(name))
 }
@@ -38,7 +38,7 @@ fn with_names<'a>(
     command: Command<'a>,
     id: &'a str,
 ) -> Result<Command<'a>, AllocError>
-    ensures { IfOk result (HasMore command.entry (repeated id.entry.now)) }
+    ensures { IfOk result (λ made. app_of made ≡ with_rule (app_of command.entry) (repeated id.entry.now)) }
 {
     command.arg(Arg::new(alloc, id).num_args(1usize..))
 }

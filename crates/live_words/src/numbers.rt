@@ -1,10 +1,9 @@
 //! Numbers of words.
 
-ghost use Rattle.std.specs.Prelude.{◌≡◌, ◌≤◌, IfSome};
+ghost use Rattle.std.specs.Prelude.{◌≡◌, ◌≤◌, ◌<◌, length, IfSome, MatchOption};
 ghost use Rattle.std.specs.Char.{is_ascii_digit};
 ghost use Rattle.std.specs.List.{list_all};
-ghost use Rattle.command_words.specs.Numbers.{is_number, within};
-ghost use Rattle.live_words.specs.Numbers.{IsWritten};
+ghost use Rattle.command_words.specs.Numbers.{number_behind, is_number, within};
 
 fn all_digits(text: &[u8]) -> bool
     ensures { result ≡ list_all is_ascii_digit text.now }
@@ -22,7 +21,7 @@ fn is_numeral(text: &[u8]) -> bool
 /// The number that digits write, where it is below 2^64.
 #[tactic(auto, using(crate::proofs::NumberLemmas::number_grows, std::proofs::lemmas::List::drop_more))]
 fn value_of(digits: &[u8]) -> Option<u64>
-    ensures { IsWritten digits.now result }
+    ensures { MatchOption result (18446744073709551615 < number_behind 0 digits.now) (λ n. n ≡ number_behind 0 digits.now) }
 {
     let mut number = 0u64;
     for digit in digits {

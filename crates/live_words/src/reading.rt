@@ -1,11 +1,11 @@
 //! The words of a live run's command line.
 
-ghost use Rattle.std.specs.Prelude.{IfOk, IfSome, option_and_then, map};
+ghost use Rattle.std.specs.Prelude.{◌≡◌, IfOk, IfSome, option_map, option_and_then, map};
 ghost use Rattle.std.specs.String.{string_bytes};
 ghost use Rattle.clap.specs.Matches.{found_of};
 ghost use Rattle.clap.specs.Walk.{rows_of};
 ghost use Rattle.clap.specs.Simple.{subcommand_rows_of};
-ghost use Rattle.live_words.specs.Asked.{Asks, IsInRange};
+ghost use Rattle.live_words.specs.Asked.{IsInRange, asked_words};
 ghost use Rattle.live_words.specs.Command.{asked_in, words_of};
 
 use crate::asked::LiveWords;
@@ -22,7 +22,7 @@ fn asked_by<'a>(
     name: &str,
     matches: &ArgMatches<'a>,
 ) -> Result<Option<LiveWords<'a>>, AllocError>
-    ensures asked { IfOk result (Asks (asked_in (name.now, rows_of (found_of matches.now)))) }
+    ensures asked { IfOk result (λ found. option_map asked_words found ≡ asked_in (name.now, rows_of (found_of matches.now))) }
     ensures ranges { IfOk result (λ found. IfSome found IsInRange) }
 {
     match name {
@@ -36,7 +36,7 @@ fn asked_of<'a>(
     alloc: Global,
     matches: &ArgMatches<'a>,
 ) -> Result<Option<LiveWords<'a>>, AllocError>
-    ensures asked { IfOk result (Asks (option_and_then asked_in (subcommand_rows_of matches.now))) }
+    ensures asked { IfOk result (λ found. option_map asked_words found ≡ option_and_then asked_in (subcommand_rows_of matches.now)) }
     ensures ranges { IfOk result (λ found. IfSome found IsInRange) }
 {
     match matches.subcommand() {
@@ -57,7 +57,7 @@ pub fn read_live_words<'a>(
     alloc: Global,
     words: &'a [String],
 ) -> Result<Option<LiveWords<'a>>, Memory>
-    ensures asked { IfOk result (Asks (words_of (map string_bytes words.entry.now))) }
+    ensures asked { IfOk result (λ found. option_map asked_words found ≡ words_of (map string_bytes words.entry.now)) }
     ensures ranges { IfOk result (λ found. IfSome found IsInRange) }
 {
     let command = lizdrog(alloc)?;
