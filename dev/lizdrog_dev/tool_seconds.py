@@ -41,8 +41,14 @@ def write_questions(folder: pathlib.Path) -> str:
 def write_project(folder: pathlib.Path, is_block: bool) -> str:
     """A project of the design, or of a chip with it as the block u; gives the name of the file."""
     netlist = read_netlist(folder / "bench.v")
-    ports = ", ".join(f"{way} {port}" for port, way in netlist.ports.items())
-    pins = ", ".join(f".{it}({it})" for it in netlist.ports)
+    spans: dict[tuple[str, str], list[int]] = {}
+    for port, way in netlist.ports.items():
+        base, _, index = port.partition("[")
+        spans.setdefault((way, base), []).extend([int(index[:-1])] if index else [])
+    ports = ", ".join(
+        f"{way} {f'[{max(bits)}:{min(bits)}] ' if bits else ''}{base}" for (way, base), bits in spans.items()
+    )
+    pins = ", ".join(f".{base}({base})" for _, base in spans)
     (folder / "chip.v").write_text(f"module chip ({ports});\n {netlist.name} u ({pins});\nendmodule\n")
     files, spef = '"bench.v"', '"bench.spef"'
     if is_block:
