@@ -6,9 +6,12 @@ but each row has the number of a design, and the journal says which ECOs made it
 own: the ECOs of the journal, and between them each question and each refused ECO at its number. It runs that script
 alone and compares the answers. It looks, too, whether the numbers of a session never fall, whether each accepted ECO is
 its session's entry of the journal, and whether the journal has no other. The status is 0 where all agrees, else 1. FILE
-is the program to run (default: lizdrog of this repository).
+is the program to run (default: lizdrog of this repository); a live program has that script as its one session.
 """
 import argparse
+import collections
+import pathlib
+import shutil
 import subprocess
 import sys
 import tempfile
@@ -19,6 +22,9 @@ from lizdrog_tools.files import InputFault, tool
 from lizdrog_tools.places import TOP
 
 MOST = 10000
+MOST_SHOWN = 200
+WRONG_WORDS = "fault words\n"
+WORDS = "run [--journal NAME] EARLY LATE NETLIST SDC SPEF WORKERS SCRIPT .."
 # A question or a refused ECO at a design: its number, and the lines that ask it.
 Asked = tuple[int, tuple[str, ...]]
 
@@ -176,6 +182,33 @@ class Sessions:
         return len(script)
 
 
+def ran(words: list[str]) -> tuple[int, str, str]:
+    """The status of a program, what it wrote, and the last line of what it said beside that, which is passed on."""
+    last: collections.deque[str] = collections.deque(maxlen=1)
+    with tempfile.TemporaryFile("w+", encoding="latin-1") as output:
+        try:
+            child = subprocess.Popen(words, stdout=output, stderr=subprocess.PIPE, text=True, errors="replace")
+        except OSError as why:
+            sys.exit(f"check_sessions: {words[0]} does not start: {why.strerror}")
+        with child:
+            for line in child.stderr:
+                sys.stderr.write(line)
+                last.append(line.strip())
+        output.seek(0)
+        return child.returncode, output.read(), "".join(last)
+
+
+def ran_live(program: str, journal: str | None, documents: list[str], script: str) -> tuple[int, str, str]:
+    """The same of a live program, which has a script as its one session; it adds to a copy of the saved journal."""
+    with tempfile.TemporaryDirectory() as folder:
+        option = ["--journal", shutil.copy(journal, f"{folder}/journal")] if journal else []
+        rows = pathlib.Path(folder, "rows")
+        status, output, said = ran([program, "live", *option, *documents, script, str(rows)])
+        if status in (0, 1):
+            output = f"journal 1 0\nsession 1\n{rows.read_text(encoding='latin-1')}{output}"
+    return status, output, said
+
+
 def runner(program: str, words: list[str], journal: str | None) -> Callable[[str], read_answers.Output]:
     """Runs a script on the documents of the words of a run, and on its saved journal."""
     option = ["--journal", journal] if journal else []
@@ -184,36 +217,45 @@ def runner(program: str, words: list[str], journal: str | None) -> Callable[[str
         with tempfile.NamedTemporaryFile("w", suffix=".eco") as script:
             script.write(text)
             script.flush()
-            ran = subprocess.run(
-                [program, "run", *option, *words[1:7], script.name], stdout=subprocess.PIPE, text=True, check=False
-            )
-        if ran.returncode not in (0, 1):
-            sys.exit(
-                f"check_sessions: the run of one session ended with status {ran.returncode}: {ran.stdout.strip()[:200]}"
-            )
-        return read_answers.Output(ran.stdout)
+            status, output, said = ran([program, "run", *option, *words[1:7], script.name])
+            if (output, said) == (WRONG_WORDS, ""):
+                status, output, said = ran_live(program, journal, words[1:7], script.name)
+        if status not in (0, 1):
+            told = "; ".join(it for it in (output.strip()[:MOST_SHOWN], said) if it) or "it said nothing"
+            sys.exit(f"check_sessions: the run of one session ended with status {status}: {told}")
+        return read_answers.Output(output)
     return run
+
+
+def arguments() -> argparse.Namespace:
+    """The options and OUTPUT, in any order, and behind them the words of the run."""
+    parser = argparse.ArgumentParser(
+        description=__doc__,
+        formatter_class=argparse.RawDescriptionHelpFormatter,
+        usage=f"check_sessions.py [--program FILE] OUTPUT {WORDS}",
+    )
+    parser.add_argument("--program", default=str(TOP / "lizdrog"), help=argparse.SUPPRESS)
+    parser.add_argument("output", help=argparse.SUPPRESS)
+    parser.add_argument("other", nargs="*", help=argparse.SUPPRESS)
+    said = sys.argv[1:]
+    at = said.index("run", 1) if "run" in said[1:] else len(said)
+    given = parser.parse_intermixed_args(said[:at])
+    given.words, given.journal = explain_fault.without_journal(said[at:])
+    if given.other or len(given.words) < 8:
+        parser.error(f"the words of the run are missing: {WORDS}")
+    return given
 
 
 @tool("check_sessions")
 def main() -> int:
-    parser = argparse.ArgumentParser(description=__doc__, formatter_class=argparse.RawDescriptionHelpFormatter)
-    parser.add_argument("--program", default=str(TOP / "lizdrog"))
-    parser.add_argument("output")
-    parser.add_argument("words", nargs=argparse.REMAINDER)
-    given = parser.parse_args()
-    words, journal = explain_fault.without_journal(given.words)
-    if len(words) < 8 or words[0] != "run":
-        parser.error(
-            "the words of the run are missing: run [--journal NAME] EARLY LATE NETLIST SDC SPEF WORKERS SCRIPT .."
-        )
+    given = arguments()
     output = read_answers.read_output(given.output)
     if output.final is None:
         raise InputFault(given.output, None, "it has no last line")
-    sessions = Sessions([read_answers.read_script_file(it) for it in words[7:]], output)
+    sessions = Sessions([read_answers.read_script_file(it) for it in given.words[7:]], output)
     sessions.look()
     if not sessions.faults:
-        sessions.compare(runner(given.program, words, journal))
+        sessions.compare(runner(given.program, given.words, given.journal))
     for fault in sessions.faults:
         print(f"check_sessions: {fault}")
     if sessions.faults:

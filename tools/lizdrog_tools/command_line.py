@@ -48,13 +48,16 @@ def asked_help(words: list[str]) -> str | None:
     return None
 
 
-def misfit(words: list[str]) -> str | None:
-    """Why the words are surely no command, so that they start no build; none where the program has to judge them."""
+def misfit(words: list[str], project: str | None = None) -> str | None:
+    """Why the words are surely no command, so that they start no build; none where the program has to judge them. The
+    documents may be those of a project file."""
     if not words or words[0] not in LEAST_WORDS:
         return f"there is no command {words[0]}" if words else "a command is missing"
     name, least = words[0], LEAST_WORDS[words[0]]
     words, journal = without_journal(words) if name in ON_DESIGN else (words, None)
     after = f" after --journal {journal}" if journal else ""
+    if len(words) <= least and project:
+        return f"{name} takes a SCRIPT or more behind {project}, and no SCRIPT is there"
     if len(words) <= least:
         more = " or more" if name in ON_DESIGN else ""
         return f"{name} takes {least} words{more}{after}, and here are {len(words) - 1}"

@@ -192,7 +192,15 @@ def choose(wants_proved: bool, may_build: bool, say) -> str:
 
 
 def choose_live(wants_proved: bool, may_build: bool, say) -> str:
-    """The live server to run."""
+    """The live server to run; where there is none it is said that one can be named."""
+    try:
+        return chosen_live(wants_proved, may_build, say)
+    except Stop as why:
+        raise why if wants_proved else Stop(f"{why}; `--program FILE` names a live program that you have") from why
+
+
+def chosen_live(wants_proved: bool, may_build: bool, say) -> str:
+    """The live server of this clone or this installed copy."""
     if is_program(INSTALLED):
         if not is_program(LIVE_INSTALLED):
             raise Stop("this installed copy has no live server: install it anew from a clone where that is built")

@@ -159,10 +159,12 @@ def other_command(words: list[str], is_proved: bool) -> int | None:
     return None
 
 
-def project_words(words: list[str]) -> list[str]:
-    """The words of a run, or of a live server, by a project file."""
+def project_words(words: list[str]) -> tuple[list[str], str | None]:
+    """The words of a run, or of a live server, with the documents of a project file, and the name of that file."""
     from lizdrog_tools import run_project
-    return run_project.expanded(words) if run_project.is_project(words) else words
+    if not run_project.is_project(words):
+        return words, None
+    return run_project.expanded(words), command_line.without_journal(words)[0][1]
 
 
 def answer(words: list[str]) -> int:
@@ -182,14 +184,15 @@ def answer(words: list[str]) -> int:
     status = other_command(words or [], given["proved"])
     if status is not None:
         return status
+    project = None
     if words and words[0] in command_line.ON_DESIGN and any(it.endswith(".toml") for it in words):
         from lizdrog_tools import files
         try:
-            words = project_words(words)
+            words, project = project_words(words)
         except (files.InputFault, OSError) as why:
             say(str(why))
             return 2 if write_all(b"fault words\n") else 5
-    why = "there is no such option" if words is None else command_line.misfit(words)
+    why = "there is no such option" if words is None else command_line.misfit(words, project)
     if why and not (words == [] and given["build"]):
         written = write_all(b"fault words\n")
         usage(why)

@@ -3,6 +3,7 @@
 import os
 import pathlib
 import random
+import re
 import shutil
 import signal
 import socket
@@ -437,6 +438,21 @@ class Checked(Live):
         )
         self.assertEqual(told[0], 0, told[1:])
         return told[1]
+
+    @live_serving.needs_live
+    def test_the_call_that_is_printed(self):
+        """It runs as it stands, by the live program that was named."""
+        (self.folder / "saved.journal").write_text("journal 1 1\nentry 1 session 1 edits 1\ninsert_net m1\n")
+        serving = self.serve("--journal", "saved.journal", "--transcript", "told of it", sessions=1)
+        ann = self.client(serving, "ann")
+        heard = [ann.ask(it).split()[2] for it in ("insert_net m2", "insert_net m2", "report_wns setup")]
+        self.assertEqual(heard, ["accepted", "refused", "wns"])
+        said = serving.end()[2]
+        call = re.search(r"(?m)^lizdrog serve: to check what each session heard: (.*)$", said)[1]
+        self.assertIn(f" --program {live_serving.REAL} ", call)
+        ran = subprocess.run(["bash", "-c", call], cwd=self.folder, capture_output=True, text=True, check=False)
+        wanted = "check_sessions: 3 rows of 1 sessions, 1 ECOs: each answer is that of one session alone\n"
+        self.assertEqual((ran.returncode, ran.stdout, ran.stderr), (0, wanted, ""))
 
     def test_sixteen_sessions(self):
         (self.folder / "saved.journal").write_text("")

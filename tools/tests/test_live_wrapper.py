@@ -257,6 +257,7 @@ class Chosen(Folder):
             status, out, err = self.lizdrog(*words, *self.words)
             self.assertEqual((status, out), (70, ""))
             self.assertIn(said, err)
+            self.assertEqual("`--program FILE` names a live program that you have" in err, not words)
 
     def test_the_one_without_proof(self):
         self.build_quick()
@@ -268,6 +269,11 @@ class Chosen(Folder):
         status, out, err = self.lizdrog(*self.words)
         self.assertEqual((status, out), (70, ""))
         self.assertIn("no `rt` on the PATH", err)
+        named = "; `--program FILE` names a live program that you have\n"
+        self.assertTrue(err.endswith(named), err)
+        status, out, err = self.lizdrog("serve", *self.documents, "--listen", "unix:socket")
+        self.assertEqual((status, out), (70, ""))
+        self.assertTrue(err.endswith(named), err)
         shutil.rmtree(self.top / "crates" / "timing_live")
         status, out, err = self.lizdrog(*self.words)
         self.assertEqual((status, out), (70, ""))

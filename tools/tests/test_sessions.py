@@ -143,6 +143,38 @@ class Checker(unittest.TestCase):
         faults, _ = faults_of(alone=ALONE.replace("3 1 accepted", "3 0 refused E1 b1"))
         self.assertIn("an entry of the journal is refused E1 b1: begin_eco", faults)
 
+    def told(self, *words, program="exit 70"):
+        """What the tool says where its program is a small script."""
+        with tempfile.TemporaryDirectory() as folder:
+            for name, text in (("out", OUTPUT), ("one", ONE), ("two", TWO), ("program", f"#!/bin/sh\n{program}\n")):
+                pathlib.Path(folder, name).write_text(text)
+            pathlib.Path(folder, "program").chmod(0o755)
+            return common.tool("check_sessions", *words, cwd=folder)
+
+    def test_the_words_of_a_run_that_fails(self):
+        words = ["--program", "./program", "out", "run", *"elncs1", "one", "two"]
+        for program, told in (
+            ("echo lizdrog: step 1 >&2; echo lizdrog: no program >&2; exit 70", "status 70: lizdrog: no program"),
+            ("echo fault shelf e failed; echo e: gone >&2; exit 4", "status 4: fault shelf e failed; e: gone"),
+            ("echo fault words; exit 2", "status 2: fault words"),
+            ("exit 70", "status 70: it said nothing"),
+        ):
+            status, out, err = self.told(*words, program=program)
+            self.assertEqual((status, out), (1, ""))
+            self.assertEqual(err.splitlines()[-1], f"check_sessions: the run of one session ended with {told}")
+        self.assertIn("lizdrog: step 1\n", self.told(*words, program="echo lizdrog: step 1 >&2; exit 70")[2])
+        err = self.told("--program", "./absent", *words[2:])[2]
+        self.assertEqual(err, "check_sessions: ./absent does not start: No such file or directory\n")
+
+    def test_the_program_behind_the_output(self):
+        words = ["run", *"elncs1", "one", "two"]
+        for front in (["out", "--program", "./program"], ["out", "--program=./program"]):
+            self.assertIn("ended with status 70: it said nothing", self.told(*front, *words)[2])
+        for wrong in (["out"], ["out", *words[:-2]], ["out", *words[1:]]):
+            status, _, err = self.told("--program", "./program", *wrong)
+            self.assertEqual(status, 2)
+            self.assertIn("the words of the run are missing: run [--journal NAME] EARLY", err)
+
     def test_other_scripts(self):
         self.assertEqual(faults_of(scripts=(ONE,))[0], ["1 scripts, and 2 sessions"])
         self.assertIn("session 1: 4 commands", faults_of(scripts=(ONE + "take\n", TWO))[0][0])

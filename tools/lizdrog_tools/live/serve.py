@@ -177,7 +177,8 @@ def report(bridge: Bridge, status: int, given: argparse.Namespace, documents: li
     ecos = sum(map(bool, bridge.entries))
     say(f"ended with {status_text(status)}: {bridge.served} clients, {rows} rows, {errors} wrong lines, {ecos} ECOs")
     if bridge.transcripts and bridge.is_ready:
-        check = bridge.transcripts.check(documents, f"{TOP}/tools/check_sessions.py")
+        named = given.program and os.path.abspath(given.program)
+        check = bridge.transcripts.check(documents, f"{TOP}/tools/check_sessions.py", named)
         say(f"to check what each session heard: {check}")
     if status > 1 and output.startswith("fault"):
         words = ["run", *(["--journal", given.journal] if given.journal else []), *documents]

@@ -5,6 +5,7 @@ rows and the last line, and `before.journal` what was saved before. So tools/che
 """
 import os
 import pathlib
+import shlex
 import shutil
 
 from lizdrog_tools.live.replies import Reply
@@ -52,8 +53,9 @@ class Transcripts:
                 out.write((self.folder / f"session{number}.rows").read_text(encoding="latin-1"))
             out.write(final)
 
-    def check(self, documents: list[str], program: str) -> str:
-        """The command that checks them."""
+    def check(self, documents: list[str], tool: str, program: str | None) -> str:
+        """The command that checks them, by the program that was named."""
+        named = ["--program", program] if program else []
         journal = ["--journal", str(self.folder / "before.journal")] if self.journal else []
         scripts = [os.fspath(self.folder / f"session{it}.eco") for it in range(1, len(self.rows) + 1)]
-        return " ".join([program, str(self.folder / "output"), "run", *journal, *documents, *scripts])
+        return shlex.join([tool, *named, str(self.folder / "output"), "run", *journal, *documents, *scripts])
