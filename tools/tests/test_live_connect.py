@@ -196,16 +196,82 @@ class Scripts(Connected):
         self.assertEqual((before, len(before)), (after, 2))
         self.assertEqual(before[0].split("\n")[:2], ["  -2.500 ps  o", "  -1.000 ps  r2:D"])
 
+    def test_keep_twice(self):
+        """A draft is kept once, and again where its ECO was taken back or the draft is a new one."""
+        serving = self.serve()
+        draft = "begin_what_if\nrepower_gate g3 BUF_X1\nend_what_if\n"
+        twice = "  the last draft was kept already, as design 1: only a new draft is kept again\n"
+        status, out, _ = self.connect(serving, f"{draft}keep yes\nkeep yes\nundo yes\nkeep yes\n{draft}keep yes\n")
+        self.assertEqual((status, out.count(twice)), (1, 1))
+        kept = re.findall(r"(?m)^repower_gate g3 (\S+) -> accepted \(design (\d)\)$", out)
+        self.assertEqual(kept, [("BUF_X1", "1"), ("SLW", "2"), ("BUF_X1", "3"), ("BUF_X1", "4")])
+
+    def test_journal(self):
+        serving = self.serve()
+        script = "repower_gate g3 BUF_X1\nundo yes\nundo 2 yes\nundo yes\n"
+        self.assertEqual(self.connect(serving, script)[0], 0)
+        lines = [
+            "  1 ann (session 1): repower_gate g3 BUF_X1\n",
+            "  2 ann (session 1): repower_gate g3 SLW (takes entry 1 back)\n",
+            "  3 ann (session 1): repower_gate g3 BUF_X1 (takes entry 2 back)\n",
+            "  4 ann (session 1): repower_gate g3 SLW (takes entry 3 back)\n",
+        ]
+        self.assertEqual(self.connect(serving, "journal\n")[:2], (0, "".join(lines)))
+        self.assertEqual(self.connect(serving, "journal 2\n")[:2], (0, "".join(["  .. 2 more\n", *lines[2:]])))
+        self.assertEqual(self.connect(serving, "journal 0\n")[:2], (0, "  .. 4 more\n"))
+        for wrong in ("x", "-1", "1 2", "9999999999999"):
+            self.assertEqual(self.connect(serving, f"journal {wrong}\n")[:2], (1, "  journal [COUNT]\n"))
+        for text, numbers in (("journal", [1, 2, 3, 4]), ("journal 2", [3, 4]), ("journal 0", [])):
+            entries = json.loads(self.connect(serving, f"{text}\n", "--json")[1])["journal"]
+            self.assertEqual([it["number"] for it in entries], numbers)
+            self.assertEqual([it.get("takes_back") for it in entries], [it - 1 or None for it in numbers])
+
+    def test_undo_of_what_is_taken_back(self):
+        serving = self.serve()
+        script = "repower_gate g3 BUF_X1\nundo yes\nundo 1 yes\nundo 2 yes\nundo 2 yes\n"
+        status, out, _ = self.connect(serving, f"{script}repower_gate g3 BUF_X4\nundo 2\n")
+        self.assertEqual(status, 1)
+        refused = re.findall(r"(?m)^  entry \d cannot be taken back: .*$", out)
+        self.assertEqual(refused, [
+            "  entry 1 cannot be taken back: entry 2 took it back already: `undo 2` does it again",
+            "  entry 2 cannot be taken back: entry 3 took it back already: `undo 3` does it again",
+            "  entry 2 cannot be taken back: entry 3 changed the instance g3 since: take that back first",
+        ])
+        self.assertRegex(out, r"(?m)^repower_gate g3 BUF_X1 -> accepted \(design 3\)$")
+
+    def test_objects_of_the_prompt(self):
+        serving = self.serve()
+        script = "source nofile\nrepower_gate g3 BUF_X1\nundo\nundo yes\nbegin_eco\n"
+        status, out, err = self.connect(serving, script, "--json")
+        self.assertEqual(status, 1)
+        found = [json.loads(it) for it in out.splitlines()]
+        self.assertEqual(found[0], {"question": ["source nofile"], "note": "nofile: No such file or directory"})
+        self.assertEqual(found[2], {"question": ["undo"], "undo": 1, "edits": ["repower_gate g3 SLW"]})
+        not_sent = "it was not sent: a `yes` behind the command sends it"
+        self.assertEqual(found[3], {"question": ["undo"], "note": not_sent})
+        self.assertEqual(found[4], {"question": ["undo yes"], "undo": 1, "edits": ["repower_gate g3 SLW"]})
+        self.assertEqual((found[5]["answer"], found[5]["design"]), ("accepted", 2))
+        self.assertEqual(found[6:], [{"question": ["begin_eco"], "note": "`begin_eco` has no end: it was not sent"}])
+        self.assertIn(f"  takes entry 1 back:\n    repower_gate g3 SLW\n  {not_sent}\n", err)
+        draft = "begin_what_if\nrepower_gate g3 BUF_X1\nend_what_if\nkeep yes\n"
+        found = [json.loads(it) for it in self.connect(serving, draft, "--json")[1].splitlines()]
+        self.assertEqual(found[1], {"question": ["keep yes"], "keep": 2, "edits": ["repower_gate g3 BUF_X1"]})
+
     def test_undo_of_what_another_changed(self):
         serving = self.serve()
         self.connect(serving, "repower_gate g3 BUF_X1\n")
-        self.connect(serving, "repower_gate g3 SLW\n", name="ben")
+        self.connect(serving, "repower_gate g3 BUF_X4\n", name="ben")
         status, out, _ = self.connect(serving, "undo yes\nundo 2 yes\n")
         self.assertEqual(status, 1)
         self.assertEqual(
             out,
             "  entry 1 cannot be taken back: entry 2 changed the instance g3 since: take that back first\n"
             "  takes entry 2 back:\n    repower_gate g3 BUF_X1\nrepower_gate g3 BUF_X1 -> accepted (design 3)\n",
+        )
+        self.connect(serving, "repower_gate g3 SLW\n", name="ben")
+        self.assertEqual(
+            self.connect(serving, "undo 1 yes\n")[:2],
+            (1, "  entry 1 cannot be taken back: entry 4 took it back already: `undo 4` does it again\n"),
         )
 
     def test_undo_behind_a_saved_journal(self):

@@ -11,7 +11,7 @@ import common
 from lizdrog_tools.liberty import Library, read_library
 from lizdrog_tools.live import completion, seats, wire
 from lizdrog_tools.live.connect import Lines, command_of, row_of, standing_edits
-from lizdrog_tools.live.design import CannotUndo, Design, is_same
+from lizdrog_tools.live.design import CannotUndo, Design, is_same, standing_undo
 from lizdrog_tools.live.replies import ReplyReader, words_of
 from lizdrog_tools.spef import Spef, read_spef
 from lizdrog_tools.verilog import Netlist, read_netlist
@@ -446,7 +446,7 @@ class TakenBack(unittest.TestCase):
             (["insert_gate x BUF"], ["connect_pin x:A lone"], "instance x"),
             (["set_parasitics n1 none"], ["disconnect_pin g2:A"], "net n1"),
             (["set_parasitics n1 none"], ["set_parasitics n1 c #1 3"], "net n1"),
-            (["insert_net m"], ["remove_net m"], "net m"),
+            (["insert_net m"], ["remove_net m"], "entry 2 took it back already: `undo 2` does it again"),
             (["repower_gate g1 BUF"], ["repower_gate g2 BUF", "set_parasitics n1 none"], ""),
         ):
             design = small_design()
@@ -457,9 +457,30 @@ class TakenBack(unittest.TestCase):
                 continue
             with self.assertRaises(CannotUndo) as told:
                 design.undo(1)
-            self.assertEqual(
-                str(told.exception), f"entry 2 changed the {what or 'instance g1'} since: take that back first"
-            )
+            changed = f"entry 2 changed the {what or 'instance g1'} since: take that back first"
+            self.assertEqual(str(told.exception), what if (what or "").startswith("entry") else changed)
+
+    def test_what_took_an_entry_back(self):
+        """It begins with what that left, and leaves what that began with; one that changes nothing takes none back."""
+        design = small_design()
+        for number, (edit, wanted) in enumerate(
+            (
+                ("repower_gate g1 BUF", None),
+                ("repower_gate g1 BUF", None),
+                ("repower_gate g1 INV", 1),
+                ("repower_gate g1 BUF", 3),
+                ("insert_net x", None),
+                ("remove_net x", 5),
+                ("repower_gate g1 INV", 4),
+            ),
+            1,
+        ):
+            design.take(number, [edit])
+            self.assertEqual(design.changes[number].took_back, wanted, number)
+        found = {it: standing_undo(design.taken_back, it) for it in range(1, 8)}
+        self.assertEqual(found, {1: 3, 2: None, 3: None, 4: 7, 5: 6, 6: None, 7: None})
+        with self.assertRaisesRegex(CannotUndo, "entry 6 took it back already: `undo 6` does it again"):
+            design.undo(5)
 
     def test_after_what_came_since_is_taken_back(self):
         design = small_design()
@@ -540,6 +561,8 @@ class Answers(unittest.TestCase):
             file.write_text(self.script(design))
             status, out, _ = common.run(common.PROGRAM, "run", *documents, "1", file)
         self.assertEqual(status, 0, out[:300])
+        undone = {it: design.changes[it].took_back for it in design.changes}
+        self.assertEqual(undone, {it: None if it % 2 else it - 1 for it in range(1, 2 * len(self.ECOS) + 1)})
         rows = re.split(r"(?m)^\d+ \d+ ", out[out.index("session 1 rows") : out.index("final ")])[1:]
         step = len(self.QUESTIONS) + 1
         told = [rows[at : at + step - 1] for at in range(0, len(rows), step)]

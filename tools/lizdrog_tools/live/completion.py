@@ -8,7 +8,7 @@ from lizdrog_tools.live.design import Design
 OF_PROMPT = {
     "who": "who sits where",
     "journal": "who made which ECO: journal [COUNT]",
-    "undo": "takes an ECO of yours back: undo [ENTRY] [yes]",
+    "undo": "takes your last ECO back, or an entry of anybody: undo [ENTRY] [yes]",
     "keep": "makes the edits that the last draft kept: keep [yes]",
     "source": "says the lines of a file: source FILE",
     "help": "help [COMMAND]",

@@ -5,14 +5,14 @@ once. The prompt sends a group of edits or a draft once it is complete. `help` l
 scripts the prompt knows
 
   who, journal [COUNT]    who sits where; who made which ECO
-  undo [N] [yes]          takes your last ECO back, or entry N; shown first
+  undo [N] [yes]          takes your last ECO back, or entry N of anybody; shown first
   keep [yes]              makes the edits that your last draft kept, as one ECO; shown first
   source FILE             says the lines of a script
   quit, leave             ends, and the seat stays yours; ends and gives the seat up
 
   --name WHO    the seat to take: who comes back by a name has the same session again (default: the user's name)
   --take-over   cuts off another client that sits there
-  --json        an object a row, for programs; other words go to standard error
+  --json        an object a row, and one for each note, which standard error has in plain, too
   --plain       no prompt: lines of standard input, as where it is no terminal
 
 Ctrl-C drops what you type, or leaves where you wait for an answer; the server goes on, and keeps the answer. The status
@@ -31,7 +31,7 @@ from lizdrog_tools.files import InputFault, TextFault, read_text
 from lizdrog_tools.live import completion, prompts, wire
 from lizdrog_tools.live.client import Connection, Refused
 from lizdrog_tools.live.completion import OF_PROMPT
-from lizdrog_tools.live.design import MOST_EDITS, CannotUndo
+from lizdrog_tools.live.design import MOST_EDITS, CannotUndo, standing_undo
 from lizdrog_tools.live.replies import Reply
 from lizdrog_tools.live.shown import Documents
 from lizdrog_tools.read_answers import ENDS, Command, Row, commands_of
@@ -104,7 +104,8 @@ class Talk:
         self.connection, self.is_json = connection, given.json
         self.seat = connection.sit(given.name, given.take_over)
         self.documents = Documents(self.seat.documents, self.seat.journal, self.seat.first)
-        self.known, self.last_own, self.draft, self.undone = self.seat.first, self.seat.own, None, {}
+        self.known, self.last_own, self.undone = self.seat.first, self.seat.own, {}
+        self.draft, self.kept, self.own_line = None, None, ""
         self.design, self.newest, self.status = self.seat.design, self.seat.newest, 0
         self.prompt = prompts.prompt_of(
             lambda line: completion.complete(line, self.documents.names_now), given.plain or given.json
@@ -153,7 +154,7 @@ class Talk:
         if row.sort == "accepted":
             self.last_own = row.design
         if row.sort == "what_if":
-            self.draft = (command, row)
+            self.draft, self.kept = (command, row), None
         edited = self.beside(row)
         if self.is_json:
             head = {"command": row.command, "design": row.design, "question": command.lines, "answer": row.sort}
@@ -219,18 +220,36 @@ class Talk:
 
     def journal(self, words: list[str]) -> None:
         """Shows who made which ECO."""
-        entries, _ = self.entries()
-        if self.is_json:
-            self.put({"saved": self.seat.first, "journal": entries})
+        numbers = numbers_of(words)
+        if len(words) != len(numbers):
+            self.note("journal [COUNT]")
             return
-        count = int(words[0]) if words and words[0].isdecimal() else SHOWN_ENTRIES
+        entries = self.with_undos(self.entries()[0])
+        count = numbers[0] if numbers else len(entries) if self.is_json else SHOWN_ENTRIES
+        shown = entries[max(0, len(entries) - count):]
+        if self.is_json:
+            self.put({"saved": self.seat.first, "journal": shown})
+            return
         if self.seat.first:
             print(f"  {self.seat.first} saved entries were there before")
         if len(entries) > count:
             print(f"  .. {len(entries) - count} more")
-        for it in entries[-count:] if count else []:
-            print(f"  {it['number']} {it['who']} (session {it['session']}): {edits_text(it['edits'])}")
+        for it in shown:
+            undo = f" (takes entry {it['takes_back']} back)" if "takes_back" in it else ""
+            print(f"  {it['number']} {it['who']} (session {it['session']}): {edits_text(it['edits'])}{undo}")
         sys.stdout.flush()
+
+    def with_undos(self, entries: list[dict]) -> list[dict]:
+        """Entries with what they take back, where the documents are there; a person is not kept waiting for these."""
+        documents = self.documents
+        if not entries or self.prompt.is_person and not documents.is_read or not documents.wait():
+            return entries
+        self.know(entries[-1]["number"])
+        known = documents.design.changes if documents.design else {}
+        backs = {it["number"]: known[it["number"]].took_back for it in entries if it["number"] in known}
+        return [
+            it if backs.get(it["number"]) is None else {**it, "takes_back": backs[it["number"]]} for it in entries
+        ]
 
     def who(self, _: list[str]) -> None:
         """Shows who sits where."""
@@ -249,11 +268,12 @@ class Talk:
     def last_standing(self) -> int | None:
         """The last ECO of one's own that was not taken back here, and takes none back."""
         own = [it["number"] for it in self.entries()[0] if it["who"] == self.seat.name]
-        return next((it for it in reversed(own) if it not in self.undone and it not in self.undone.values()), None)
+        stands = [it for it in own if it not in self.undone.values() and standing_undo(self.undone, it) is None]
+        return stands[-1] if stands else None
 
     def undo(self, words: list[str]) -> None:
         """Takes an ECO back, the last one of one's own where none is named."""
-        numbers = [int(it) for it in words[:1] if it.isascii() and it.isdecimal() and len(it) < MOST_DIGITS]
+        numbers = numbers_of(words)
         if words[len(numbers):] not in ([], ["yes"]):
             self.note("undo [ENTRY] [yes]")
             return
@@ -278,7 +298,7 @@ class Talk:
             self.note(it)
         if not edits:
             self.note(f"entry {number} changed nothing that could be taken back")
-        elif self.send_shown(edits, words, f"takes entry {number} back"):
+        elif self.send_shown(edits, words, f"takes entry {number} back", {"undo": number}):
             self.undone[number] = self.design
 
     def keep(self, words: list[str]) -> None:
@@ -286,17 +306,24 @@ class Talk:
         if self.draft is None:
             self.note("there was no draft here")
             return
+        if self.kept is not None and standing_undo(self.undone, self.kept) is None:
+            self.note(f"the last draft was kept already, as design {self.kept}: only a new draft is kept again")
+            return
         edits = standing_edits(*self.draft)
         if not edits or len(edits) > MOST_EDITS:
             many = f"{len(edits)} edits of the last draft stand, and an ECO has {MOST_EDITS} at most"
             self.note(many if edits else "no edit of the last draft stands")
             return
-        self.send_shown(edits, words, f"keeps what stands of the draft of design {self.draft[1].design}")
+        number = self.draft[1].design
+        if self.send_shown(edits, words, f"keeps what stands of the draft of design {number}", {"keep": number}):
+            self.kept = self.design
 
-    def send_shown(self, edits: list[str], words: list[str], what: str) -> bool:
+    def send_shown(self, edits: list[str], words: list[str], what: str, told: dict) -> bool:
         """Shows edits and sends them where that is wanted; whether they were accepted."""
         lines = as_group(edits)
         out = sys.stderr if self.is_json else sys.stdout
+        if self.is_json:
+            self.put({"question": [self.own_line], **told, "edits": edits})
         print(f"  {what}:", *(f"    {it}" for it in lines), sep="\n", file=out, flush=True)
         if "yes" not in words and not self.agrees():
             self.note("it was not sent" + ("" if self.prompt.is_person else ": a `yes` behind the command sends it"))
@@ -316,6 +343,8 @@ class Talk:
         """A word of the prompt's own; in a script it counts as no answer."""
         if not self.prompt.is_person:
             self.status = 1
+        if self.is_json:
+            self.put({"question": [self.own_line], "note": text})
         print(f"  {text}", file=sys.stderr if self.is_json else sys.stdout, flush=True)
 
     # ------------------------------------------------------------------------------------------------ lines
@@ -379,6 +408,7 @@ class Talk:
     def line(self, line: str) -> None:
         """One line of a person or a script."""
         words = line.split()
+        self.own_line = " ".join(words)
         work = (
             {
                 "who": self.who,
@@ -435,8 +465,14 @@ class Talk:
             except EOFError:
                 break
         if self.lines.open:
+            self.own_line = self.lines.open[0]
             self.note(f"`{self.lines.open[0]}` has no end: it was not sent")
         return self.status
+
+
+def numbers_of(words: list[str]) -> list[int]:
+    """The number that words begin with, if they do."""
+    return [int(it) for it in words[:1] if it.isascii() and it.isdecimal() and len(it) < MOST_DIGITS]
 
 
 def edits_text(edits: list[str]) -> str:

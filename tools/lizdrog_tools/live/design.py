@@ -1,4 +1,5 @@
 """A design as its netlist, parasitics and journal tell it: what is on which net, and how an ECO is taken back."""
+import collections
 import dataclasses
 
 from lizdrog_tools.files import TextFault
@@ -8,6 +9,7 @@ from lizdrog_tools.spef import Spef, SpefNet
 from lizdrog_tools.verilog import Netlist
 
 MOST_EDITS = 1000
+MOST_ALIKE = 100
 
 
 class CannotUndo(Exception):
@@ -34,14 +36,14 @@ class Wire:
 @dataclasses.dataclass
 class Change:
     """What an ECO changed: each instance and net that it touched before and after it, the edits that take it back, the
-    nets whose
-    parasitics these drop, and what they cannot bring back."""
+    nets whose parasitics these drop, what they cannot bring back, and which ECO it took back itself, if any."""
 
     before: dict
     after: dict
     inverse: list[list[str]]
     dropped: set[str]
     notes: list[str]
+    took_back: int | None = None
 
 
 def words_of_parasitics(name: str, parasitics: SpefNet | str | None) -> str:
@@ -58,11 +60,30 @@ def is_same(key: tuple[str, str], one: tuple | None, other: tuple | None) -> boo
     return one[0] == other[0] and words_of_parasitics(key[1], one[1]) == words_of_parasitics(key[1], other[1])
 
 
+def standing_undo(taken_back: dict[int, int], number: int) -> int | None:
+    """The ECO that took one back, where none took that one back in turn."""
+    chain = [number]
+    while chain[-1] in taken_back:
+        chain.append(taken_back[chain[-1]])
+    return chain[1] if len(chain) % 2 == 0 else None
+
+
+def is_reverse(one: Change, other: Change) -> bool:
+    """Whether an ECO begins with what another of the same instances and nets left, and leaves what that began with."""
+    return all(
+        is_same(it, one.before[it], other.after[it]) and is_same(it, one.after[it], other.before[it])
+        for it in one.before
+    )
+
+
 class Design:
     """Instances and nets, taken through the ECOs of a journal one after the other."""
 
     def __init__(self, netlist: Netlist, library: Library, spef: Spef | None):
         self.library, self.number, self.changes = library, 0, {}
+        # The last ECOs that touched just these instances and nets; and of an ECO the last one that took it back.
+        self.alike: dict[frozenset, collections.deque[int]] = {}
+        self.taken_back: dict[int, int] = {}
         self.ports = dict(netlist.ports)
         self.parts = {it.name: Part(it.cell, dict(it.nets), frozenset(it.tied)) for it in netlist.instances.values()}
         self.wires = {name: Wire(set(), None) for name in netlist.declared}
@@ -88,6 +109,16 @@ class Design:
                 ) from why
         change.after = {it: self.value(it) for it in change.before}
         self.changes[number], self.number = change, number
+        self.note_reverse(number, change)
+
+    def note_reverse(self, number: int, change: Change) -> None:
+        """Notes which ECO this one took back."""
+        alike = self.alike.setdefault(frozenset(change.before), collections.deque(maxlen=MOST_ALIKE))
+        if alike and not all(is_same(it, change.before[it], change.after[it]) for it in change.before):
+            change.took_back = next((it for it in reversed(alike) if is_reverse(change, self.changes[it])), None)
+        alike.append(number)
+        if change.took_back is not None:
+            self.taken_back[change.took_back] = number
 
     def value(self, key: tuple[str, str]) -> tuple | None:
         """What stands at an instance or a net; none where there is none."""
@@ -221,16 +252,23 @@ class Design:
         """The first ECO behind one that touched an instance or a net."""
         return next((it for it in sorted(self.changes) if it > number and key in self.changes[it].before), None)
 
+    def other_now(self, change: Change) -> tuple[str, str] | None:
+        """An instance or a net that is no more as an ECO left it, if there is one."""
+        return next((it for it, value in change.after.items() if not is_same(it, self.value(it), value)), None)
+
     def undo(self, number: int) -> tuple[list[str], list[str]]:
         """The edits that take an ECO back, and what they cannot bring back."""
         change = self.changes.get(number)
         if change is None:
             raise CannotUndo(f"there is no entry {number}")
-        for key, value in change.after.items():
-            if not is_same(key, self.value(key), value):
-                raise CannotUndo(
-                    f"entry {self.later_change(key, number)} changed the {' '.join(key)} since: take that back first"
-                )
+        key = self.other_now(change)
+        if key is not None:
+            undo = standing_undo(self.taken_back, number)
+            if undo is not None and self.other_now(self.changes[undo]) is None:
+                raise CannotUndo(f"entry {undo} took it back already: `undo {undo}` does it again")
+            raise CannotUndo(
+                f"entry {self.later_change(key, number)} changed the {' '.join(key)} since: take that back first"
+            )
         edits = [edit for part in reversed(change.inverse) for edit in part]
         for (sort, name), before in change.before.items():
             if sort == "net" and before is not None:
