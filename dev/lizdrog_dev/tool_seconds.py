@@ -52,7 +52,9 @@ def write_project(folder: pathlib.Path, is_block: bool) -> str:
     (folder / "chip.v").write_text(f"module chip ({ports});\n {netlist.name} u ({pins});\nendmodule\n")
     files, spef = '"bench.v"', '"bench.spef"'
     if is_block:
-        files, spef = '["chip.v", "bench.v"]\ntop = "chip"', '{ file = "bench.spef", instance = "u" }'
+        # The constraints name the block as the current design.
+        files = '["chip.v", "bench.v"]\ntop = "chip"\naccept = ["current-design"]'
+        spef = '{ file = "bench.spef", instance = "u" }'
     name = "chip.toml" if is_block else "flat.toml"
     text = f'library = "bench.lib"\nnetlist = {files}\nsdc = "bench.sdc"\nspef = [{spef}]\n'
     (folder / name).write_text(text)
