@@ -63,6 +63,7 @@ fn assert_long(rt: &impl Abort, alloc: Global, count: usize, kept: usize) {
     assert_heard(rt, alloc, &mut door, Some((kept, b'x')));
     assert_heard(rt, alloc, &mut door, Some((4, b'n')));
     assert_heard(rt, alloc, &mut door, None);
+    drop(door);
 }
 
 #[test]
@@ -117,11 +118,8 @@ impl Read for Pieces {
     }
 }
 
-/// How many lines are heard before the end or a fault, where the call of a number fails.
-fn lines_heard(rt: &impl Abort, alloc: Global, fails: u8) -> (u8, Option<Lost>) {
-    let input = BufReader::new(alloc, Pieces { turn: 0, fails }).expect(rt, "memory");
-    let mut written = Vec::new(alloc);
-    let mut door = OpenDoor::new(alloc, input, &mut written);
+/// How many lines are heard before the end or a fault, and the fault.
+fn heard_before_the_end<D: Door>(alloc: Global, door: &mut D) -> (u8, Option<Lost>) {
     for heard in 0..9 {
         match door.hear(alloc) {
             Ok(Some(_)) => {}
@@ -130,6 +128,16 @@ fn lines_heard(rt: &impl Abort, alloc: Global, fails: u8) -> (u8, Option<Lost>) 
         }
     }
     (9, None)
+}
+
+/// How many lines are heard before the end or a fault, where the call of a number fails.
+fn lines_heard(rt: &impl Abort, alloc: Global, fails: u8) -> (u8, Option<Lost>) {
+    let input = BufReader::new(alloc, Pieces { turn: 0, fails }).expect(rt, "memory");
+    let mut written = Vec::new(alloc);
+    let mut door = OpenDoor::new(alloc, input, &mut written);
+    let heard = heard_before_the_end(alloc, &mut door);
+    drop(door);
+    heard
 }
 
 #[test]
