@@ -72,7 +72,7 @@ def run(program, folder, question, times, workers):
         _, status, used = os.wait4(child.pid, 0)
     if status:
         sys.exit(f"paths.py: a run of {program} ended with the wait status {status}: {out.read_bytes()[:300]}")
-    return out.read_bytes(), int(since.read_text()) / 1e9, used.ru_minflt, used.ru_maxrss / 1000
+    return out.read_bytes(), int(since.read_text().split()[0]) / 1e9, used.ru_minflt, used.ru_maxrss / 1000
 
 
 def spread(pins, count):

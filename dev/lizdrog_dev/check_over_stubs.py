@@ -50,6 +50,10 @@ def write_stub(crate, own, to, but=()):
     homes = edits.homes_of(own)
     sources = {str(it.relative_to(own)): it.read_text() for it in sorted((own / "src").rglob("*.rt"))}
     kept, bare = parted(sources, homes, edits.in_cycles(own))
+    for path in but:
+        if path and path not in (*kept, *bare):
+            like = [it for it in (*kept, *bare) if it.rpartition("::")[2] == path.rpartition("::")[2]]
+            sys.exit(f"{crate} has no function {path}" + (f": {' or '.join(like)}" if like else ""))
     kept, bare = [*kept, *but], [it for it in bare if it not in but]
     for path in bare:
         edits.write_hole(to, crate, path)

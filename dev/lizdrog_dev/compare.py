@@ -1,5 +1,5 @@
-"""Compares a built program with the plain timer of reference_timer.py: bench/compare.py PROGRAM FIRST COUNT [SESSIONS |
-paths | drafts].
+"""Compares a built program with the plain timer of reference_timer.py: bench/compare.py [--closing] PROGRAM FIRST COUNT
+[SESSIONS | paths | drafts].
 
 Each seed from FIRST on gives a random design of 25 to 1,200 cells, with or without parasitics, and a script of ten
 random ECOs with reports between; both outputs have to be the same, byte for byte. Where they differ, the documents and
@@ -15,7 +15,10 @@ scripts ask mostly for paths through pins and for the worst paths of endpoints.
 With the word drafts, designs are those of small_design.py, and one in eight a random design of 25 to 120 cells; their
 scripts are those of draft_scripts.py: drafts, advice and ECOs, of which many are refused, and now and then a fault of
 the script. Of a refusal that may name
-one of several loops or overflows (E11, E16) the code alone has to be the same."""
+one of several loops or overflows (E11, E16) the code alone has to be the same.
+
+With --closing, before PROGRAM, the scripts of each form have the questions for closing timing between their lines, too
+(closing_scripts.py); without it no script has them."""
 import pathlib
 import random
 import re
@@ -24,6 +27,7 @@ import sys
 import tempfile
 
 from lizdrog_tools import check_sessions
+from lizdrog_dev import closing_scripts
 from lizdrog_dev import design
 from lizdrog_dev import draft_scripts
 from lizdrog_tools import read_answers
@@ -200,19 +204,50 @@ def runner(program, words, d):
     return run
 
 
-def beside(program, seed, count):
+def timer_words(closing):
+    """The words that run the plain timer."""
+    return [sys.executable, str(BENCH / "reference_timer.py"), *["--closing"] * bool(closing)]
+
+
+def names_of(r, n):
+    """What a netlist names, for a script of drafts or questions."""
+    driver = {pins[-1][1]: f"{name}:{pins[-1][0]}" for _, name, pins in n.instances}
+    ends = [f"{name}:D" for cell, name, _ in n.instances if cell == "DFF_X1"] + ["result[0]"]
+    joined = [(f"{name}:{pin}", net) for _, name, pins in n.instances for pin, net in pins]
+    clocks = [net for net in n.sinks if net.startswith("cl")]
+    return draft_scripts.Names(r, {name: cell for cell, name, _ in n.instances}, joined, n.sinks, driver, ends, clocks,
+                               SAME)
+
+
+def drawer_of(closing, n):
+    """What draws questions for closing timing about a netlist; few at once where it is large."""
+    names, cells = names_of(closing, n), len(n.instances)
+    most = 100 if cells < 100 else 30 if cells < 200 else 10
+    return closing_scripts.Drawer(closing, names, lambda end: walk_to(closing, end, n.sinks, names.driver), most)
+
+
+def drawer_of_small(d, closing, small):
+    """The same about a small design, which has spare instances then."""
+    names = draft_scripts.Names.of_small(closing, small)
+    closing_scripts.add_spares(d / "v", names)
+    return closing_scripts.Drawer(closing, names, small.walk, 100)
+
+
+def beside(program, seed, count, closing):
     """Whether several sessions are answered as one session alone is."""
     r = random.Random(seed)
     n, cells, blocks = design_of(r, seed)
     with tempfile.TemporaryDirectory() as d:
         d = pathlib.Path(d)
         words = write_documents(d, r, n, blocks, count)
+        for name in words[7:] if closing else ():
+            closing_scripts.add_questions(d / name, drawer_of(closing, n), 0)
         got = subprocess.run([program] + words, cwd=d, capture_output=True, text=True)
         faults = [f"status {got.returncode}"] if got.returncode not in (0, 1) else []
         if not faults:
             scripts = [read_answers.read_script((d / it).read_text()) for it in words[7:]]
             output = read_answers.Output(got.stdout)
-            for timer in ([program], [sys.executable, str(BENCH / "reference_timer.py")]):
+            for timer in ([program], timer_words(closing)):
                 sessions = check_sessions.Sessions(scripts, output, refusals=timer == [program])
                 sessions.look()
                 if not sessions.faults:
@@ -226,39 +261,42 @@ def beside(program, seed, count):
         return not faults
 
 
-def write_paths(d, r, seed):
+def write_paths(d, r, seed, closing):
     """Writes the documents and a script about paths; gives the words of the run and the number of cells."""
     if r.random() < 0.8:
-        return small_design.write(d, r)
-    n, cells, blocks = design_of(r, seed, [25, 60, 120, 300])
-    words = write_documents(d, r, n, blocks, 1)
-    driver = {pins[-1][1]: f"{name}:{pins[-1][0]}" for _, name, pins in n.instances}
-    ends = [f"{name}:D" for cell, name, _ in n.instances if cell == "DFF_X1"] + ["result[0]"]
-    others = [pin for pins in n.sinks.values() for pin in pins]
-    asked = small_design.path_questions(r, lambda end: walk_to(r, end, n.sinks, driver), ends, others, 40)
-    (d / "s").write_text("".join(line + "\n" for line in asked[:20]) + (d / "s").read_text()
-                         + "".join(line + "\n" for line in asked[20:]))
+        small = small_design.Small(r)
+        words, cells = small_design.write(d, r, small), len(small.cells)
+        drawer = closing and drawer_of_small(d, closing, small)
+    else:
+        n, cells, blocks = design_of(r, seed, [25, 60, 120, 300])
+        words = write_documents(d, r, n, blocks, 1)
+        driver = {pins[-1][1]: f"{name}:{pins[-1][0]}" for _, name, pins in n.instances}
+        ends = [f"{name}:D" for cell, name, _ in n.instances if cell == "DFF_X1"] + ["result[0]"]
+        others = [pin for pins in n.sinks.values() for pin in pins]
+        asked = small_design.path_questions(r, lambda end: walk_to(r, end, n.sinks, driver), ends, others, 40)
+        (d / "s").write_text("".join(line + "\n" for line in asked[:20]) + (d / "s").read_text()
+                             + "".join(line + "\n" for line in asked[20:]))
+        drawer = closing and drawer_of(closing, n)
+    if drawer:
+        closing_scripts.add_questions(d / "s", drawer)
     return words, cells
 
 
-def write_drafts(d, r, seed):
+def write_drafts(d, r, seed, closing):
     """Writes the documents and a script of drafts; gives the words of the run and the number of cells."""
     if r.random() < 0.875:
         small = small_design.Small(r)
         words = small_design.write_documents(d, r, small)
         lines = draft_scripts.script(r, draft_scripts.Names.of_small(r, small))
-        cells = len(small.cells)
+        cells, drawer = len(small.cells), closing and drawer_of_small(d, closing, small)
     else:
         n, cells, blocks = design_of(r, seed, [25, 60, 120])
         words = write_documents(d, r, n, blocks, 1)
-        driver = {pins[-1][1]: f"{name}:{pins[-1][0]}" for _, name, pins in n.instances}
-        ends = [f"{name}:D" for cell, name, _ in n.instances if cell == "DFF_X1"] + ["result[0]"]
-        joined = [(f"{name}:{pin}", net) for _, name, pins in n.instances for pin, net in pins]
-        clocks = [net for net in n.sinks if net.startswith("cl")]
-        names = draft_scripts.Names(r, {name: cell for cell, name, _ in n.instances}, joined, n.sinks, driver, ends,
-                                    clocks, SAME)
-        lines = draft_scripts.tried(r, (d / "s").read_text().split("\n")[:-1], names)
+        lines = draft_scripts.tried(r, (d / "s").read_text().split("\n")[:-1], names_of(r, n))
+        drawer = closing and drawer_of(closing, n)
     (d / "s").write_text("".join(line + "\n" for line in lines))
+    if drawer:
+        closing_scripts.add_questions(d / "s", drawer)
     return words, cells
 
 
@@ -269,9 +307,9 @@ def status_of(text):
     return int(any(row.sort in NO_ANSWERS for rows in read_answers.Output(text).sessions for row in rows))
 
 
-def compared(program, seed, cells, d, words):
+def compared(program, seed, cells, d, words, closing):
     """Whether the program writes what the plain timer does."""
-    want = subprocess.run([sys.executable, BENCH / "reference_timer.py"] + words, cwd=d, capture_output=True, text=True)
+    want = subprocess.run(timer_words(closing) + words, cwd=d, capture_output=True, text=True)
     if want.returncode not in (0, 3) or want.stderr:
         print(seed, cells, "reference:", want.stderr[-200:])
         return False
@@ -283,21 +321,24 @@ def compared(program, seed, cells, d, words):
     return ok
 
 
-def one(program, seed):
+def one(program, seed, closing):
     """Whether both give the same for a seed."""
     r = random.Random(seed)
     n, cells, blocks = design_of(r, seed)
     with tempfile.TemporaryDirectory() as d:
         d = pathlib.Path(d)
-        return compared(program, seed, cells, d, write_documents(d, r, n, blocks, 1))
+        words = write_documents(d, r, n, blocks, 1)
+        if closing:
+            closing_scripts.add_questions(d / "s", drawer_of(closing, n))
+        return compared(program, seed, cells, d, words, closing)
 
 
-def of_form(program, seed, write):
+def of_form(program, seed, write, closing):
     """Whether both give the same for the documents and the script that a form of comparison writes for a seed."""
     with tempfile.TemporaryDirectory() as d:
         d = pathlib.Path(d)
-        words, cells = write(d, random.Random(seed), seed)
-        return compared(program, seed, cells, d, words)
+        words, cells = write(d, random.Random(seed), seed, closing)
+        return compared(program, seed, cells, d, words, closing)
 
 
 FORMS = {"paths": write_paths, "drafts": write_drafts}
@@ -307,13 +348,16 @@ def main():
     if sys.argv[1:] in ([], ["-h"], ["--help"]):
         print(__doc__.strip())
         return 0
-    program, first, count = pathlib.Path(sys.argv[1]).resolve(), int(sys.argv[2]), int(sys.argv[3])
-    form = sys.argv[4] if len(sys.argv) > 4 else "1"
+    is_closing = sys.argv[1] == "--closing"
+    given, first, count, *forms = sys.argv[1 + is_closing:]
+    program, first, count = pathlib.Path(given).resolve(), int(first), int(count)
+    form = forms[0] if forms else "1"
 
     def same(seed):
+        closing = random.Random(f"closing {seed}") if is_closing else None
         if form in FORMS:
-            return of_form(program, seed, FORMS[form])
-        return beside(program, seed, int(form)) if int(form) > 1 else one(program, seed)
+            return of_form(program, seed, FORMS[form], closing)
+        return beside(program, seed, int(form), closing) if int(form) > 1 else one(program, seed, closing)
     differing = [seed for seed in range(first, first + count) if not same(seed)]
     print(f"{count - len(differing)} of {count} the same", *differing)
     sys.exit(1 if differing else 0)

@@ -163,10 +163,12 @@ FORMS = ("ECOs", "paths", "drafts", "three sessions")
 
 
 def write_random(folder: pathlib.Path, seed: int) -> list[str]:
-    """Writes the documents and the scripts of a seed; the words of their run."""
+    """Writes the documents and the scripts of a seed; the words of their run. Every other script of a form that has
+    one session asks the questions for closing timing, too."""
     draw, form = random.Random(seed), FORMS[seed % len(FORMS)]
     if form in compare.FORMS:
-        return compare.FORMS[form](folder, draw, seed)[0]
+        closing = random.Random(f"closing {seed}") if seed // len(FORMS) % 2 else None
+        return compare.FORMS[form](folder, draw, seed, closing)[0]
     netlist, _, blocks = compare.design_of(draw, seed)
     return compare.write_documents(folder, draw, netlist, blocks, 3 if form == "three sessions" else 1)
 

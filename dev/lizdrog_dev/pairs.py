@@ -46,11 +46,11 @@ def words_of(program: str | pathlib.Path, script: str, workers: int) -> list[str
             f"{script}.eco"]
 
 
-def run(words: list, folder: pathlib.Path) -> Spent:
+def run(words: list, folder: pathlib.Path, env: dict[str, str] | None = None) -> Spent:
     """Runs a program in a folder; a run of which a row is no answer ends this one."""
     with tempfile.TemporaryFile() as sink:
         began = time.monotonic()
-        child = subprocess.Popen([str(it) for it in words], cwd=folder, stdout=sink)
+        child = subprocess.Popen([str(it) for it in words], cwd=folder, stdout=sink, env=env)
         _, status, used = os.wait4(child.pid, 0)
         seconds = time.monotonic() - began
         child.returncode = os.waitstatus_to_exitcode(status)

@@ -24,6 +24,13 @@ def dec(text: str, ten: int) -> int:
     return rnd(n, d)
 
 
+def ps(value: int | None) -> str:
+    """A time in picoseconds with three places, or none; so are thousandths of other units."""
+    if value is None:
+        return 'none'
+    return '%s%d.%03d' % ('-' if value < 0 else '', *divmod(abs(value), 1000))
+
+
 # ---------------------------------------------------------------- Liberty: groups
 
 TOKEN = re.compile(r'"((?:[^"\\]|\\.|\\\n)*)"|/\*.*?\*/|\\\n|([{}();:,])|([^\s{}();:,"]+)|(\n)', re.S)

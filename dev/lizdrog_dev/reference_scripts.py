@@ -4,7 +4,7 @@ commands, or the fault of its lowest line. A command is a tuple that begins with
   ('take',), ('await', N, L), ('ask', WORDS), ('change', EDITS), ('what_if', TRIALS), ('advise', KIND, PAIRS)
 
 where a trial of a draft is ('try', EDITS), ('drop',) or ('ask', WORDS), an edit is its words, and a pair is an instance
-and a cell."""
+and a cell. With the questions for closing timing these are ('ask', WORDS), and 'advise' is a trial, too."""
 import re
 
 COMMANDS, EDITS_OF_GROUP, TRIALS, LONGEST = 10000, 1000, 100, 65536
@@ -16,6 +16,12 @@ PLAIN = [
 ]
 COUNTED = r'report_worst (?:setup|hold) (\d{1,20})'
 FURTHER = [r'report_through \S+ (setup|hold)( \S+){1,16}', r'advise (setup|hold)( \S+ \S+){1,100}']
+CLOSING = [
+    r'report_(net|instance|sizes) \S+', r'report_timing \S+ (setup|hold)',
+    r'report_timing_through \S+ (setup|hold)( \S+){1,16}', r'report_(failing|summary) (setup|hold)', r'report_skew',
+    r'advise_tns (setup|hold)( \S+ \S+){1,100}', r'advise_sizes (setup|hold) (wns|tns)( \S+)+',
+]
+OVERALL = r'report_worst_paths (?:setup|hold) (\d{1,20})(?: each (\d{1,20}))?'
 RANKED = r'report_paths \S+ (?:setup|hold) (\d{1,20})'
 AWAITED = r'await (\d{1,20}) (\d{1,20})'
 EDIT = (
@@ -57,7 +63,16 @@ def is_parasitics(words):
     return True
 
 
-def said(line):
+def is_closing(text):
+    """Whether a line is a question for closing timing."""
+    overall = re.fullmatch(OVERALL, text, re.A)
+    if overall:
+        count, each = int(overall.group(1)), int(overall.group(2) or 1)
+        return 1 <= each <= count <= 100
+    return any(re.fullmatch(it, text, re.A) for it in CLOSING)
+
+
+def said(line, with_closing=False):
     """What the words of a line say: its sort and the command, or none where the line is passed over."""
     words = re.split(r'[ \t]+', line.strip(' \t'))
     if any(it > '\x7f' for it in line):
@@ -77,10 +92,13 @@ def said(line):
         return ('other', ('await', number, looks)) if number < 2 ** 64 and 1 <= looks <= 1000 else ('unknown', None)
     if any(re.fullmatch(it, text, re.A) for it in PLAIN) or counts(COUNTED, text, 100):
         return 'plain', ('ask', words)
+    if with_closing and is_closing(text):
+        return 'plain', ('ask', words)
+    further = 'plain' if with_closing else 'other'
     if re.fullmatch(FURTHER[0], text, re.A) or counts(RANKED, text, 100):
-        return 'other', ('ask', words)
+        return further, ('ask', words)
     if re.fullmatch(FURTHER[1], text, re.A):
-        return 'other', ('advise', words[1], list(zip(words[2::2], words[3::2])))
+        return further, ('advise', words[1], list(zip(words[2::2], words[3::2])))
     if re.fullmatch(EDIT, text, re.A) or words[0] == 'set_parasitics' and is_parasitics(words[1:]):
         return 'edit', words
     return 'unknown', None
@@ -159,13 +177,13 @@ class Reader:
                 self.bad(open_one[0])
 
 
-def read(text):
-    """The commands of a script by its text, each byte a character."""
+def read(text, with_closing=False):
+    """The commands of a script by its text, each byte a character; with the questions for closing timing or without."""
     reader = Reader()
     for number, line in enumerate(text.split('\n'), 1):
         if len(line) > LONGEST:
             reader.faults.append((number, 'C2'))
-        what = said(line)
+        what = said(line, with_closing)
         if what and not reader.take(number, *what):
             break
     else:

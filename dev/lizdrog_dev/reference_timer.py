@@ -1,16 +1,17 @@
 """A plain, slow timer, written from the definitions and not from the program, to compare the program with:
-reference_timer.py run EARLY LATE NETLIST SDC SPEF WORKERS SCRIPT. It reads what bench/design.py, bench/small_design.py,
-bench/spef.py and the examples write. Documents but the script, and the design that they link to, are taken to be
-without a fault; faults of the script, refusals of ECOs and questions without an answer are told (where one of several
-loops or overflows may be named, E11 and E16, one of them). Each ECO, tried or not, is followed by a whole analysis.
-Paths through pins and the worst paths of an endpoint come from a list of all paths to it; where that has more than
-MOST_PARTS parts of paths, from the best ways from each node."""
+reference_timer.py [--closing] run EARLY LATE NETLIST SDC SPEF WORKERS SCRIPT. It reads what bench/design.py,
+bench/small_design.py, bench/spef.py and the examples write. Documents but the script, and the design that they link to,
+are taken to be without a fault; faults of the script, refusals of ECOs and questions without an answer are told (where
+one of several loops or overflows may be named, E11 and E16, one of them). Each ECO, tried or not, is followed by a
+whole analysis. Paths through pins and the worst paths of an endpoint come from a list of all paths to it; where that
+has more than MOST_PARTS parts of paths, from the best ways from each node. With --closing, scripts have the questions
+for closing timing, too (reference_closing.py), and drafts have these, report_paths, report_through and advise."""
 import functools
 import sys
 from math import gcd, isqrt
 
-from lizdrog_dev import reference_scripts
-from lizdrog_dev.reference_documents import look_up, read_library, read_module, read_sdc, read_spef, rnd
+from lizdrog_dev import reference_closing, reference_scripts
+from lizdrog_dev.reference_documents import look_up, ps, read_library, read_module, read_sdc, read_spef, rnd
 from lizdrog_dev.reference_edits import FALL, RISE, Refused, as_pin, edited, standing
 
 LIM = 10 ** 12
@@ -18,14 +19,6 @@ ORDER = {RISE: 0, FALL: 1}
 OTHER = {RISE: FALL, FALL: RISE}
 MOST_PARTS = 20000
 
-
-def ps(v):
-    """A time in picoseconds with three places, or none."""
-    if v is None:
-        return 'none'
-    s = '-' if v < 0 else ''
-    v = abs(v)
-    return '%s%d.%03d' % (s, v // 1000, v % 1000)
 
 # ---------------------------------------------------------------- analysis
 
@@ -762,6 +755,9 @@ def canonical(w):
 
 
 def ask(t, w):
+    closing = reference_closing.answer(t, w, tried)
+    if closing is not None:
+        return closing
     k = w[0]
     if k == 'report_wns':
         return 'wns ' + ps(t.wns(w[1]))
@@ -811,6 +807,8 @@ def drafted(t, trials):
         elif sort == 'drop':
             answers.append('dropped' if len(shown) > 1 else 'no_draft')
             shown = shown[:-1] or shown
+        elif sort == 'advise':
+            answers.append(advised(shown[-1], *more))
         else:
             answers.append(ask(shown[-1], *more))
     return '\n'.join(['what_if %d' % len(trials)] + answers)
@@ -884,11 +882,12 @@ def main():
     if sys.argv[1:] in ([], ['-h'], ['--help']):
         print(__doc__.strip())
         return 0
-    *documents, _, script = sys.argv[2:9]
+    is_closing = sys.argv[1] == '--closing'
+    *documents, _, script = sys.argv[2 + is_closing:9 + is_closing]
     session = Session(read_design(*documents))
     try:
         with open(script, encoding='latin-1', newline='') as file:
-            commands = reference_scripts.read(file.read())
+            commands = reference_scripts.read(file.read(), is_closing)
     except reference_scripts.Fault as why:
         print('fault script1 %s %d' % why.args)
         sys.exit(3)

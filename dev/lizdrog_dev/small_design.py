@@ -1,8 +1,8 @@
 """Small random designs in which paths meet again: gates of few different delays, so that slacks tie, two clocks with
 trees of buffers
 and inverters, a clock without a port, registers of both edges and of two clocks, data from clock nets, exceptions, and
-questions about paths. A design has no more than MOST paths to an endpoint, so that they can be listed. Documents and a
-script are drawn by `write`.
+questions about paths. A design has no more than MOST paths to an endpoint, so that they can be listed. `write` draws
+the documents of a design and a script.
 """
 
 MOST = 1500
@@ -256,9 +256,8 @@ def write_documents(folder, rand, small):
     return ["run", "early", "late", "v", "c", "none", rand.choice("124"), "s"]
 
 
-def write(folder, rand):
-    """Writes documents and a script about paths; gives the words of the run and the number of cells."""
-    small = Small(rand)
+def write(folder, rand, small):
+    """Writes the documents of a design and a script about paths; gives the words of the run."""
     words = write_documents(folder, rand, small)
     (folder / "s").write_text("".join(line + "\n" for line in script(rand, small)))
-    return words, len(small.cells)
+    return words

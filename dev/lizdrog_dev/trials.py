@@ -41,7 +41,36 @@ ANSWERS = [
 ]
 DONE = [rb"accepted", rb"taken", rb"reached", rb"not_yet [0-9]+"]
 TRIED = [rb"tried", rb"dropped", rb"no_draft"]
-NO_ANSWER = rb"no Q[123] %s" % NAME
+NO_ANSWER = rb"no Q[1-5] %s" % NAME
+
+
+def form(text):
+    """The pattern of a line: NAME, EDGE, TIME (or none), SUM (a time), VALUE (not negative), KIND and COUNT."""
+    words = {"NAME": NAME, "EDGE": rb"(?:rise|fall)", "TIME": TIME, "SUM": rb"-?[0-9]+\.[0-9]{3}",
+             "VALUE": rb"[0-9]+\.[0-9]{3}", "KIND": rb"(?:setup|hold)", "COUNT": rb"[0-9]+"}
+    return re.sub(rb"[A-Z]{4,5}|SUM", lambda it: words[it[0].decode()], text.encode())
+
+
+NODE = form("NAME EDGE SUM TIME VALUE(?: net NAME VALUE COUNT)?")
+TOTALS = "setup TIME SUM hold TIME SUM"
+# Answers to questions for closing timing: the first line with its counts, and the lines that each count speaks of.
+CLOSING = [(re.compile(form(head)), below) for head, below in (
+    ("net NAME driver NAME load VALUE VALUE parasitics (?:none|lumped|tree nodes COUNT resistance VALUE)"
+     " sinks (COUNT) edits (1)",
+     [("sink", form("NAME VALUE VALUE (?:VALUE VALUE|none none)")), ("edit", form("set_parasitics(?: NAME)+"))]),
+    ("instance NAME NAME pins (COUNT)", [("pin", form("NAME (?:input|output) (?:net NAME|tied|open)"))]),
+    ("sizes NAME NAME cells (COUNT)", [("cell", form("NAME (?:alike|other) inputs COUNT(?: NAME VALUE)*"))]),
+    ("timing KIND NAME slack SUM credit SUM from NAME EDGE to NAME EDGE nodes (COUNT) capture (COUNT) parts (8)",
+     [("node", NODE), ("node of the capture clock", NODE),
+      ("part of a slack", form("(?:capture_edge NAME EDGE|capture_arrival|(?:setup|hold)_time|output_delay|uncertainty"
+                               "|credit|required|arrival|slack) SUM"))]),
+    ("failing COUNT listed (COUNT)", [("endpoint of a list", form("NAME -VALUE"))]),
+    ("summary KIND clocks (COUNT) untested COUNT",
+     [("clock", form("NAME tested COUNT failing COUNT worst TIME total SUM"))]),
+    ("skew (COUNT)", [("launch edge", form("NAME EDGE SUM late NAME EDGE SUM early NAME EDGE SUM"))]),
+    (f"resizes ([0-5]) tried COUNT refused COUNT {TOTALS}", [("resize", form(f"NAME NAME {TOTALS}"))]),
+    ("timing none", []),
+)]
 
 
 def compiled(name, folder):
@@ -168,7 +197,13 @@ def is_told(lines, text):
     launches = re.fullmatch(rb"(?:at|rat) ([0-9]+)" + LAUNCHES, text)
     if launches and launches[2].count(b" ") != 3 * int(launches[1]):
         raise Deviates(f"line {lines.at} of the output has another number of launch edges than it says")
-    several = re.fullmatch(rb"(paths|what_if) ([0-9]+)", text)
+    for head, below in CLOSING:
+        found = head.fullmatch(text)
+        if found:
+            for count, (what, lines_form) in zip(found.groups(), below):
+                lines.many(count, what, lines_form)
+            return True
+    several = re.fullmatch(rb"(paths|worst_paths|what_if) ([0-9]+)", text)
     for _ in range(int(several[2]) if several else 0):
         part = lines.take("part of an answer", rb".*")[0]
         is_part = is_tried(lines, part) if several[1] == b"what_if" else PATH.fullmatch(part) and is_told(lines, part)
@@ -190,7 +225,7 @@ def is_refused(text):
 
 def is_tried(lines, text):
     """Whether a text is the answer to a trial of a draft; takes the lines that belong to it."""
-    if text.startswith((b"paths ", b"what_if ", b"advice ")):
+    if text.startswith(b"what_if "):
         return False
     return any(re.fullmatch(it, text) for it in [*TRIED, NO_ANSWER]) or is_refused(text) or is_told(lines, text)
 

@@ -18,11 +18,14 @@ JOINS = ("→", "×", "⊎", "≡")
 
 
 def places(line: str, least: int) -> list[tuple[int, bool, int]]:
-    """Where a line can be broken behind so many characters: how many brackets are open there, whether no joining word follows, and the place."""
-    depth, found = 0, []
+    """Where a line can be broken behind so many characters: how many brackets are open there, whether no joining word follows, and the place.
+
+    A text in quotes stays on its line, and so does a field with its `=`."""
+    depth, found, quoted = 0, [], False
     for at, sign in enumerate(line):
-        depth += (sign in OPEN) - (sign in SHUT)
-        if sign == " " and at > least and line[at + 1 : at + 2] not in ("}", ""):
+        quoted ^= sign == '"'
+        depth += 0 if quoted else (sign in OPEN) - (sign in SHUT)
+        if sign == " " and not quoted and at > least and line[at + 1 : at + 2] not in ("}", "=", ""):
             found.append((depth, line[at + 1] not in JOINS, at))
     return found
 

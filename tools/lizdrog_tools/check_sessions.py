@@ -17,7 +17,7 @@ import sys
 import tempfile
 from collections.abc import Callable
 
-from lizdrog_tools import explain_fault, read_answers
+from lizdrog_tools import closing_answers, explain_fault, read_answers
 from lizdrog_tools.files import InputFault, tool
 from lizdrog_tools.places import TOP
 
@@ -42,7 +42,7 @@ def in_order(edit: str) -> str:
     return " ".join([name, words[0], *items["c"], *items["r"], *words[at:]])
 
 
-SORTS = {"report_through": "path", "begin_what_if": "what_if", "advise": "advice"}
+SORTS = {"report_through": "path", "begin_what_if": "what_if", "advise": "advice", **closing_answers.OF_LINES}
 
 
 def edits_of(command: read_answers.Command) -> list[str]:

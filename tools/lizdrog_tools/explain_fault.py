@@ -10,6 +10,7 @@ import re
 import stat
 import sys
 
+from lizdrog_tools import refused_parasitics
 from lizdrog_tools.command_line import without_journal
 from lizdrog_tools.files import line_and_column, raw_text, tool
 from lizdrog_tools.kinds import misplaced
@@ -234,9 +235,18 @@ KIND_WORDS = {
     "report_path": 2,
     "report_worst": 2,
     "report_paths": 3,
+    "report_timing": 2,
+    "report_failing": 1,
+    "report_summary": 1,
 }
-BEHIND_PIN = ("report_endpoint", "report_path", "report_paths", "report_through")
+NAMED = {"report_net": 1, "report_instance": 1, "report_sizes": 1, "report_skew": 0}
+THROUGH = ("report_through", "report_timing_through")
+CLOSING = ("report_net", "report_instance", "report_sizes", "report_timing", "report_timing_through", "report_worst_paths",
+           "report_failing", "report_summary", "report_skew", "advise_tns", "advise_sizes")
+BEHIND_PIN = ("report_endpoint", "report_path", "report_paths", "report_timing", *THROUGH)
 COUNTED = ("report_worst", "report_paths")
+ADVICE = ("advise", "advise_tns")
+KINDS = ("setup", "hold")
 MOST_PINS, MOST_PAIRS, MOST_TRIALS = 16, 100, 100
 EDITS = {
     "repower_gate": 2,
@@ -248,10 +258,10 @@ EDITS = {
     "disconnect_pin": 1,
 }
 DRAFTS = ("begin_what_if", "end_what_if", "drop_last")
-NOT_IN_DRAFTS = ("take", "await", "report_through", "report_paths", "advise")
+NOT_IN_DRAFTS = ("take", "await")
 OTHERS = {"take": 0, "await": 2, "begin_eco": 0, "commit_eco": 0, **{it: 0 for it in DRAFTS}}
 # How many words each command takes that takes a fixed number.
-COUNTS = {**{it: 3 for it in PINS}, **KIND_WORDS, **EDITS, **OTHERS}
+COUNTS = {**{it: 3 for it in PINS}, **KIND_WORDS, **NAMED, **EDITS, **OTHERS}
 LONGEST_LINE = 65536
 
 
@@ -275,8 +285,7 @@ def draft_hints(name, is_draft, is_group):
     if is_draft and is_group and name in DRAFTS:
         return [f"{name} is in a group of edits: end the group before it, with commit_eco"]
     if is_draft and name in (*NOT_IN_DRAFTS, "begin_what_if"):
-        return [f"{name} may not be in a draft, which has edits, groups of edits, drop_last, and questions other than "
-                "report_through, report_paths and advise"]
+        return [f"{name} may not be in a draft, which has edits, groups of edits, drop_last, questions and advice"]
     if name == "begin_what_if":
         return [
             f"a draft has 1 to {MOST_TRIALS} trials and its end, and so has each group in it: begin_what_if, trials,"
@@ -296,22 +305,34 @@ def mark_hints(name, words, line):
     return ["a line has one command: ; ends none"] if any(it.endswith(";") for it in words) else []
 
 
+def is_worst_paths(words):
+    """Whether these are the words behind report_worst_paths."""
+    found = re.fullmatch(r"(?:setup|hold) ([0-9]+)(?: each ([0-9]+))?", " ".join(words))
+    return bool(found) and 1 <= int(found[2] or 1) <= int(found[1]) <= 100
+
+
 def word_hints(name, words):
     """Words of a command that are too many or too few, or that it does not take in their place."""
     if name in COUNTS and len(words) - 1 != COUNTS[name]:
         here = "is 1" if len(words) == 2 else f"are {len(words) - 1}"
         several = "" if COUNTS[name] == 1 else "s"
-        return [f"{name} takes {COUNTS[name]} word{several}, and here {here}: see docs/SCRIPTS.md"]
+        page = "QUESTIONS" if name in CLOSING else "SCRIPTS"
+        return [f"{name} takes {COUNTS[name]} word{several}, and here {here}: see docs/{page}.md"]
     if name in PINS and (words[2] not in ("early", "late") or words[3] not in ("rise", "fall")):
         return [f"{name} takes a pin, then early or late, then rise or fall"]
-    if name == "report_through" and not 1 <= len(words) - 3 <= MOST_PINS:
-        return [f"report_through takes a pin, then setup or hold, then 1 to {MOST_PINS} pins that the path passes"]
-    has_kind = name in KIND_WORDS or name == "report_through"
-    if has_kind and words[2 if name in BEHIND_PIN else 1] not in ("setup", "hold"):
+    if name in THROUGH and not 1 <= len(words) - 3 <= MOST_PINS:
+        return [f"{name} takes a pin, then setup or hold, then 1 to {MOST_PINS} pins that the path passes"]
+    if name == "report_worst_paths" and not is_worst_paths(words[1:]):
+        return ["report_worst_paths takes setup or hold, a number K from 1 to 100, and perhaps each and a number from 1 "
+                "to K"]
+    has_kind = name in KIND_WORDS or name in THROUGH
+    if has_kind and words[2 if name in BEHIND_PIN else 1] not in KINDS:
         return [f"{name} takes setup or hold, in small letters, in this place"]
     is_even, is_short = len(words) % 2 == 0, 4 <= len(words) <= 2 + 2 * MOST_PAIRS
-    if name == "advise" and not (is_even and is_short and words[1] in ("setup", "hold")):
-        return [f"advise takes setup or hold, then 1 to {MOST_PAIRS} pairs of an instance and a cell"]
+    if name in ADVICE and not (is_even and is_short and words[1] in KINDS):
+        return [f"{name} takes setup or hold, then 1 to {MOST_PAIRS} pairs of an instance and a cell"]
+    if name == "advise_sizes" and not (len(words) >= 4 and words[1] in KINDS and words[2] in ("wns", "tns")):
+        return ["advise_sizes takes setup or hold, then wns or tns, then instances, at least one"]
     if name in COUNTED and not (words[-1].isdigit() and 1 <= int(words[-1]) <= 100):
         return [f"{name} takes a number from 1 to 100"]
     if name == "await" and not (words[2].isdigit() and 1 <= int(words[2]) <= 1000):
@@ -330,9 +351,9 @@ def command_hints(name):
                 "whole numbers up to 10^12"]
     if name == "insert_buffer":
         return ["insert_buffer takes a net, a new instance, a new net, a cell, and the sinks that move, at least one"]
-    if name in COUNTS or name == "report_through":
-        return [f"the words of {name} do not fit, or it is in a group of edits that allows no report: see "
-                "docs/SCRIPTS.md"]
+    if name in COUNTS or name in (*THROUGH, *ADVICE, "report_worst_paths", "advise_sizes"):
+        return [f"the words of {name} do not fit, or it stands between begin_eco and commit_eco, where no question may: "
+                f"see docs/{'QUESTIONS' if name in CLOSING else 'SCRIPTS'}.md"]
     return [f"there is no command {name[:60]}: docs/SCRIPTS.md has all"] if name else []
 
 
@@ -535,35 +556,14 @@ def differences(early, late):
 def explain_net(code, net, words):
     """E14, E15: pins of the netlist against those of the parasitics."""
     netlist = Netlist(raw_text(words[3]))
-    joined = Joined(netlist, library_of(words, 2))
-    found = joined.nets.get(net)
-    told = (
-        [
-            f"the netlist's net {net} is driven by {', '.join(found.drivers) or 'nothing'} and leads to"
-            f" {', '.join(found.sinks[:6]) or 'nothing'}{' ..' if len(found.sinks) > 6 else ''}"
-        ]
-        if found
-        else []
-    )
+    found = Joined(netlist, library_of(words, 2)).nets.get(net)
+    if not found:
+        return []
+    parasitics = None
     if words[5] != "none" and can_be_read_again(words[5]):
-        text = raw_text(words[5])
-        parasitics = Spef(text).nets.get(net)
-        if found and parasitics:
-            pins, named = {*found.drivers, *found.sinks}, parasitics.named_pins()
-            ends = parasitics.ends()
-            if named - pins:
-                told.append(
-                    f"its parasitics name {', '.join(sorted(named - pins)[:6])}, which"
-                    f" {'is' if len(named - pins) == 1 else 'are'} not on the net"
-                )
-            if parasitics.ress and pins - ends:
-                told.append(
-                    f"no resistor ends at {', '.join(sorted(pins - ends)[:6])}, which"
-                    f" {'is' if len(pins - ends) == 1 else 'are'} on the net"
-                )
-            if code == "E14" and parasitics.misshape():
-                told.append(parasitics.misshape())
-    return told
+        parasitics = Spef(raw_text(words[5])).nets.get(net)
+    told = refused_parasitics.misfits(code, parasitics, found) if parasitics else []
+    return [refused_parasitics.net_text("the netlist's net", found), *told]
 
 
 def explain_range(words):

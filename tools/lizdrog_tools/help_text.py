@@ -42,6 +42,22 @@ QUESTIONS = [
     ("report_tns KIND", "report_tns hold", "the sum of the negative slacks"),
     ("report_worst KIND N", "report_worst setup 10", "the N endpoints of least slack"),
 ]
+# docs/QUESTIONS.md says all of these.
+CLOSING = [
+    ("report_net NET", "report_net n2", "a net: its driver, load, parasitics and sinks"),
+    ("report_instance INSTANCE", "report_instance g1", "an instance: what each pin is joined to"),
+    ("report_sizes INSTANCE", "report_sizes g1", "the cells to which an instance may be resized"),
+    ("report_timing PIN KIND", "report_timing r2:D setup", "the worst path stage by stage, and its required time"),
+    ("report_timing_through PIN KIND PIN ..", "report_timing_through r2:D setup g1:A",
+     "the same for the worst path through pins"),
+    ("report_worst_paths KIND K", "report_worst_paths setup 3", "the K worst paths of all endpoints, one of each"),
+    ("report_worst_paths KIND K each M", "report_worst_paths setup 3 each 2", "the same with M of each at most"),
+    ("report_failing KIND", "report_failing setup", "the endpoints of negative slack"),
+    ("report_summary KIND", "report_summary setup", "worst and total slack by capture clock"),
+    ("report_skew", "report_skew", "the skew of each launch edge"),
+    ("advise_tns KIND INSTANCE CELL ..", "advise_tns setup g1 BUF_X4 g2 AND2", "the best resizes by total negative slack"),
+    ("advise_sizes KIND AIM INSTANCE ..", "advise_sizes setup tns g1 g2", "the best of all sizes of instances, by wns or tns"),
+]
 EDITS = [
     ("repower_gate INSTANCE CELL", "repower_gate g1 BUF_X4", "another cell for an instance"),
     ("insert_gate INSTANCE CELL", "insert_gate g9 BUF_X2", "a new instance, all its pins open"),
@@ -122,9 +138,9 @@ def table(title: str, rows: list[tuple[str, str, str]]) -> str:
 
 def script_commands() -> str:
     """The commands of scripts."""
-    rows = [("Questions of a script", QUESTIONS), ("Edits", EDITS), ("Drafts, advice and sessions", OTHERS)]
+    rows = [("Questions of a script", QUESTIONS), ("Questions for closing timing", CLOSING), ("Edits", EDITS), ("Drafts, advice and sessions", OTHERS)]
     tables = [table(*it) for it in rows]
-    return "\n\n".join([*tables, f"{WORDS}\nAnswers, ranges and rules: docs/SCRIPTS.md."])
+    return "\n\n".join([*tables, f"{WORDS}\nAnswers, ranges and rules: docs/SCRIPTS.md and docs/QUESTIONS.md."])
 
 
 def of(command: str) -> str:

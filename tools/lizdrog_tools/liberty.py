@@ -160,6 +160,16 @@ class Cell:
         self.passed_over: dict[str, int] = {}
         self.left_out: str | None = None
         self.is_register = False
+        self.footprint: str | None = None
+        self.functions: dict[str, str] = {}
+
+    def is_alike(self, other: "Cell") -> bool:
+        """Whether it may stand in the place of another cell and do the same, as far as both tell: the same pins, arcs
+        and tests, and no other footprint or function."""
+        prints = {it.footprint for it in (self, other)} - {None}
+        shared = self.functions.keys() & other.functions.keys()
+        is_same = all(self.functions[it] == other.functions[it] for it in shared)
+        return is_same and len(prints) < 2 and self.parts() == other.parts()
 
     def clock_pins(self) -> set[str]:
         return {arc[0] for arc in self.arcs if arc[4] == "edge"} | {test[2] for test in self.tests}
@@ -202,8 +212,11 @@ class Library:
             if way in ("input", "output"):
                 load = numbers([pin.simple.get("capacitance", "0")], self.load_unit)
                 cell.pins[name] = (way, load[0] if load else 0)
+            if "function" in pin.simple:
+                cell.functions[name] = "".join(pin.simple["function"].split())
         if group.named("bus") or group.named("bundle"):
             cell.left_out = "it has a bus or a bundle"
+        cell.footprint = group.simple.get("cell_footprint")
         cell.is_register = bool(group.named("ff") or group.named("latch"))
         for name, pin in pins:
             for timing in pin.named("timing"):

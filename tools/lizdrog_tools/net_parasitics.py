@@ -1,5 +1,5 @@
 """Writes the parasitics of nets of a SPEF as lines of a script: net_parasitics.py SPEF NET .. [--as NET]
-[--rename PIN=PIN ..] [--inner PIN ..]
+[--rename PIN=PIN] .. [--inner PIN] ..
 
 It prints `set_parasitics NET c .. r ..` for each net; the options are for a single one. An edit that changes a net's
 connections drops the net's parasitics; put this line after it, into the same group, and the wires stay.
@@ -7,10 +7,11 @@ connections drops the net's parasitics; put this line after it, into the same gr
   --as NET          the line is for this net, such as the new net of a buffer
   --rename OLD=NEW  the wires that led to the pin OLD lead to the pin NEW
   --inner PIN       the pin becomes an inner node, where the wires stay and no pin is: for a pin that has left the net
+Write --rename and --inner once for each pin.
 
 For `insert_buffer n2 b1 n3 BUFX2 r2:D r3:D`, where the buffer takes the place of r2:D:
   net_parasitics.py SPEF n2 --rename r2:D=b1:A --inner r3:D               the net that is left
-  net_parasitics.py SPEF n2 --as n3 --rename g1:Z=b1:Y --inner OTHER ..   the new net, with the wires of the old one
+  net_parasitics.py SPEF n2 --as n3 --rename g1:Z=b1:Y --inner OTHER   the new net, with the wires of the old one
 The second counts the wires up to the old driver's place as the buffer's: that is too much rather than too little.
 """
 import argparse

@@ -4,9 +4,11 @@ It prints a line for each row with its question, as `report_endpoint r2:D setup 
 lists below it.
 
   --netlist NETLIST --library LIBRARY   beside each pin of a path its cell, the net that it drives and its number of
-                                        sinks, as they are in the design of the row (ECOs of the journal included)
+                                        sinks, as they are in the design of the row (ECOs of the journal included); and
+                                        the pins for which the parasitics of an ECO are refused (E14, E15)
   --journal SAVED                       for these: the saved journal that the run went on from
-  --json, --csv                         the rows for programs, in place of the lines
+  --json, --csv                         the rows for programs, in place of the lines; in CSV each sort of answer for
+                                        closing timing has a table of its own behind that of all rows
   --failing                             the endpoints of negative slack, counted and listed, worst first
   --histogram                           how many endpoints have which slack, as text
   --svg FILE                            the same as a picture
@@ -14,9 +16,9 @@ lists below it.
                                         endpoints)
   --session N                           the session whose script it is; an output of several sessions asks for it
 
-Endpoints are those of the script's report_endpoint and report_worst; tools/endpoint_questions.py writes a script that
-asks all. The paths of a report_paths are one below the other, worst first; below a draft is each of its trials with its
-answer.
+Endpoints are those of the script's report_endpoint, report_worst and report_failing; tools/endpoint_questions.py writes
+a script that asks all. The paths of a report_paths are one below the other, worst first; below a draft is each of its
+trials with its answer.
 """
 import argparse
 import csv
@@ -25,16 +27,18 @@ import os
 import sys
 from collections.abc import Iterable, Iterator
 
-from lizdrog_tools import convert_journal, explain_fault
+from lizdrog_tools import closing_answers, closing_tables, convert_journal, explain_fault, refused_parasitics
 from lizdrog_tools.files import InputFault, TextFault, parsed, tool
 from lizdrog_tools.liberty import Library, read_library
-from lizdrog_tools.reporting.histogram import bins_of, histograms, picoseconds
+from lizdrog_tools.reporting.histogram import bins_of, endpoints_text, histograms, picoseconds
 from lizdrog_tools.verilog import Instance, Joined, Netlist, read_netlist
 
 QUESTIONS = {
     "Q1": "there is no such pin",
     "Q2": "it is no endpoint",
     "Q3": "the register has no test of this kind that a clock reaches",
+    "Q4": "there is no such net, instance, or cell of both libraries",
+    "Q5": "there are too many of them",
 }
 
 
@@ -105,6 +109,7 @@ ANSWERS = {
     "advise": ("advice",),
     "begin_what_if": ("what_if",),
     "report_through": ("path", "no"),
+    **{name: (sort, "no") for name, sort in closing_answers.OF_LINES.items()},
 }
 
 
@@ -117,7 +122,7 @@ def may_answer(words: list[str], row: "Row") -> bool:
     )
     if row.sort == "path" and row.words[:1] != ["none"]:
         return row.sort in sorts and row.words[:2] == [words[2], words[1]]
-    return row.sort in sorts
+    return row.sort in sorts and closing_answers.is_asked(words, row.sort, row.words)
 
 
 class Row:
@@ -126,6 +131,12 @@ class Row:
     def __init__(self, words: list[str], below: list[list[str]]):
         self.command, self.design, self.sort = int(words[0]), int(words[1]), words[2]
         self.words, self.below = words[3:], below
+
+    def check(self) -> None:
+        """A ValueError where an answer for closing timing is not as the program writes it."""
+        closing_answers.check(self.sort, self.words, self.below)
+        for it in self.parts() if self.sort == "what_if" else ():
+            it.check()
 
     def parts(self) -> list["Row"]:
         """Each path of a row of several, or each answer of a draft, as a row of its own."""
@@ -139,15 +150,17 @@ class Row:
 
 
 def lines_below(answer: list[str], lines: list[list[str]], at: int) -> int:
-    """How many lines of paths, of a list of endpoints or of the answers of a draft belong to an answer; they begin at
-    this line."""
+    """How many lines of paths, of a list of endpoints, of a net and so on, or of the answers of a draft belong to an
+    answer; they begin at this line."""
     if answer[0] == "worst":
         return int(answer[1])
-    if answer[0] in ("paths", "what_if"):
+    if answer[0] in ("paths", "worst_paths", "what_if"):
         end = at
         for _ in range(int(answer[1])):
             end += 1 + lines_below(lines[end], lines, end + 1)
         return end - at
+    if answer[0] in closing_answers.SORTS:
+        return closing_answers.lines_below(answer)
     return int(answer[-1]) if answer[0] == "path" and answer[1] != "none" else 0
 
 
@@ -186,7 +199,9 @@ class Output:
             if len(totals) != 6:
                 raise ValueError("a last line has both kinds")
         elif self.sessions and words[0].isdecimal():
-            self.sessions[-1].append(Row(words, self.taken(lines_below(words[2:], self.lines, self.at))))
+            row = Row(words, self.taken(lines_below(words[2:], self.lines, self.at)))
+            row.check()
+            self.sessions[-1].append(row)
 
     def taken(self, count: int) -> list[list[str]]:
         """So many lines from here, which are passed."""
@@ -304,6 +319,10 @@ class Drafted:
     def __init__(self, edited: Edited, edits: list[str]):
         self.edited, self.edits = edited, edits
 
+    def drafted(self, edits: list[str]) -> "Drafted":
+        """The designs after further edits that are tried."""
+        return Drafted(self.edited, [*self.edits, *edits])
+
     def at(self, number: int) -> Joined:
         """The design of this number with these edits; it stands until the next one is asked for."""
         return self.edited.at(number, self.edits)
@@ -318,6 +337,21 @@ def beside(design: Joined, pin: str, direction: str) -> dict[str, str | int | No
     cell = design.cell_of(pin) or f"{direction} port"
     drives = net is not None and pin in net.drivers
     return {"cell": cell, "net": net.name if drives else None, "fanout": len(net.sinks) if drives else None}
+
+
+def cells_beside(row: Row, edited: Designs) -> closing_answers.Cells:
+    """What tells the cell of a pin in the design of a row; none where no design is known."""
+    if edited is None or row.sort != "timing":
+        return None
+    design = edited.at(row.design)
+    return lambda pin, way: design.cell_of(pin) or f"{way} port"
+
+
+def causes(command: Command, row: Row, edited: Designs) -> list[str]:
+    """What is seen of the cause of a refused ECO."""
+    edits = command.edits()
+    tried = (lambda: edited.drafted(edits).at(row.design)) if edited else None
+    return refused_parasitics.lines(row.words, edits, tried)
 
 
 def draft_rows(command: Command, row: Row, edited: Designs) -> Iterator[tuple[Command, Row, Designs]]:
@@ -380,8 +414,10 @@ def answer_text(row: Row) -> str:
         return ", ".join(edges) or ("no arrival" if row.sort == "at" else "no required time")
     if row.sort == "worst":
         return f"{words[0]} endpoints"
-    if row.sort == "paths":
+    if row.sort in ("paths", "worst_paths"):
         return f"{words[0]} path{'' if words[0] == '1' else 's'}"
+    if row.sort in closing_answers.SORTS:
+        return closing_answers.text(row.sort, words)
     if row.sort == "path":
         return (
             "no tested path"
@@ -425,10 +461,15 @@ def lines_of_row(command: Command, row: Row, edited: Designs) -> Iterator[str]:
             yield f"  {time:>{width}} ps  {pin}"
     elif row.sort == "path" and row.below:
         yield from path_text(row, edited)
-    elif row.sort == "paths":
+    elif row.sort in ("paths", "worst_paths"):
         for place, path in enumerate(row.parts(), 1):
-            yield f"  path {place}: {answer_text(path)}"
+            to = f" to {path.words[1]}" if row.sort == "worst_paths" else ""
+            yield f"  path {place}{to}: {answer_text(path)}"
             yield from path_text(path, edited)
+    elif row.sort in closing_answers.SORTS:
+        yield from closing_answers.lines_of(row.sort, row.words, row.below, cells_beside(row, edited))
+    elif row.sort == "refused":
+        yield from (f"  {it}" for it in causes(command, row, edited))
     elif row.sort == "what_if":
         for trial, answer, shown in draft_rows(command, row, edited):
             yield f"  {trial.text()} -> {answer_text(answer)}"
@@ -464,7 +505,8 @@ def row_value(command: Command, row: Row, edited: Designs) -> dict:
     if row.sort == "advice":
         return {"advice": None if words[0] == "none" else {"instance": words[0], "cell": words[1], "wns": words[2]}}
     if row.sort in ("refused", "no"):
-        return {"code": words[0], "names": words[1:]}
+        found = causes(command, row, edited) if edited else []
+        return {"code": words[0], "names": words[1:], **({"causes": found} if found else {})}
     if row.sort in ("at", "rat"):
         return {
             "edges": [
@@ -485,6 +527,10 @@ def row_value(command: Command, row: Row, edited: Designs) -> dict:
         }
     if row.sort == "paths":
         return {"paths": [row_value(command, path, edited) for path in row.parts()]}
+    if row.sort == "worst_paths":
+        return {"paths": [{"endpoint": it.words[1], **row_value(command, it, edited)} for it in row.parts()]}
+    if row.sort in closing_answers.SORTS:
+        return closing_answers.value(row.sort, words, row.below, cells_beside(row, edited))
     if row.sort == "not_yet":
         return {"looks": int(words[0])}
     return {"time": None if words[0] == "none" else words[0]} if words else {}
@@ -511,17 +557,27 @@ def as_data(commands: list[Command], output: Output, edited: Designs) -> dict:
     return {"first": output.first, "journal": output.ecos, "rows": rows, "final": final}
 
 
-def print_csv(commands: list[Command], output: Output) -> None:
-    """One line for each row and each trial of a draft, or for each edge or line below it: command, design, question,
-    answer, pin or clock, edge, time. Trials of a draft are marked by a > before them."""
-    out = csv.writer(sys.stdout, lineterminator="\n")
-    out.writerow(["command", "design", "question", "answer", "pin", "edge", "time"])
+def csv_rows(commands: list[Command], output: Output, edited: Designs) -> Iterator[tuple[list, Row, Designs]]:
+    """Each row, and each trial of a draft: how its lines begin, the answer, and the designs that it speaks of. Trials
+    of a draft have a > before them."""
     for row in output.rows:
         command = commands[row.command - 1]
         if row.sort != "what_if":
-            out.writerows(csv_lines([row.command, row.design, command.text(), row.sort], row))
-        for trial, answer, _ in draft_rows(command, row, None):
-            out.writerows(csv_lines([row.command, row.design, f"> {trial.text()}", answer.sort], answer))
+            yield [row.command, row.design, command.text()], row, edited
+        for trial, answer, shown in draft_rows(command, row, edited):
+            yield [row.command, row.design, f"> {trial.text()}"], answer, shown
+
+
+def print_csv(commands: list[Command], output: Output, edited: Designs) -> None:
+    """A line for each row and each trial of a draft, or for each edge or line below it: command, design, question,
+    answer, pin or clock, edge, time. Behind them each sort of the answers for closing timing has a table of its own."""
+    out, tables = csv.writer(sys.stdout, lineterminator="\n"), closing_tables.Tables()
+    out.writerow([*closing_tables.HEAD, "pin", "edge", "time"])
+    for head, row, shown in csv_rows(commands, output, edited):
+        out.writerows(csv_lines([*head, row.sort], row))
+        if row.sort in closing_answers.SORTS:
+            tables.take(head, row.sort, row.words, row.below, cells_beside(row, shown))
+    out.writerows(tables.lines())
 
 
 def csv_lines(head: list, row: Row) -> Iterator[list]:
@@ -533,6 +589,8 @@ def csv_lines(head: list, row: Row) -> Iterator[list]:
         for place, path in enumerate(row.parts(), 1):
             for line in path.below:
                 yield [*head[:3], f"path {place}", *line]
+    elif row.sort in closing_answers.SORTS:
+        yield [*head, *closing_tables.in_short(row.sort, row.words, row.below)]
     elif row.sort == "advice" and row.words[0] != "none":
         yield [*head, " ".join(row.words[:2]), "", row.words[2]]
     elif row.below:
@@ -546,31 +604,59 @@ def csv_lines(head: list, row: Row) -> Iterator[list]:
 
 # ------------------------------------------------------------------------------------------------ slacks of endpoints
 
+def asked_slacks(words: list[str], row: Row) -> tuple[str, list[list[str]]] | None:
+    """The kind and the pairs of an endpoint and its slack that a row tells; none where it tells of no endpoints."""
+    if row.sort == "endpoint":
+        return words[2], [[words[1], row.words[0]]]
+    return (words[1], row.below) if row.sort in ("worst", "failing") else None
+
+
 def slacks_of(commands: list[Command], output: Output, design: int | None) -> tuple[int, Slacks]:
     """The slacks of endpoints by kind, in fs, from the rows of one design, and the number of that design."""
     found = {}
     for row in output.rows:
-        words = commands[row.command - 1].words
-        if row.sort == "endpoint":
-            pairs, kind = [(words[1], row.words[0])], words[2]
-        elif row.sort == "worst":
-            pairs, kind = row.below, words[1]
-        else:
+        asked = asked_slacks(commands[row.command - 1].words, row)
+        if asked is None:
             continue
-        by_kind = found.setdefault(row.design, {"setup": {}, "hold": {}})[kind]
-        by_kind.update((pin, None if time == "none" else thousandths(time)) for pin, time in pairs)
+        by_kind = found.setdefault(row.design, {"setup": {}, "hold": {}})[asked[0]]
+        by_kind.update((pin, None if time == "none" else thousandths(time)) for pin, time in asked[1])
     number = design if design is not None else max(found, default=0)
     return number, found.get(number, {"setup": {}, "hold": {}})
 
 
-def print_failing(number: int, slacks: Slacks) -> None:
+def failing_counts(commands: list[Command], output: Output, design: int) -> dict[str, int]:
+    """How many endpoints fail by kind, where report_failing asked it of a design."""
+    rows = [it for it in output.rows if it.sort == "failing" and it.design == design]
+    return {commands[it.command - 1].words[1]: int(it.words[0]) for it in rows}
+
+
+def failing_head(ends: dict[str, int | None], failing: int, count: int | None) -> str:
+    """How many endpoints of a kind fail, in words: the program's own count is that of all, else it is of those that
+    were asked."""
+    if count is not None:
+        return f"{count} endpoints fail" + (f", of which {failing} are listed" if failing < count else "")
+    if not ends:
+        return "no report_endpoint was asked, and no report_worst or report_failing"
+    untested = sum(slack is None for slack in ends.values())
+    said = f", {untested} have no tested path" if untested else ""
+    return f"{failing} of {len(ends)} endpoints that were asked fail{said}"
+
+
+def print_failing(number: int, slacks: Slacks, counts: dict[str, int]) -> None:
     for kind, ends in slacks.items():
         failing = sorted((slack, pin) for pin, slack in ends.items() if slack is not None and slack < 0)
-        untested = sum(slack is None for slack in ends.values())
-        print(f"{kind}, design {number}: {len(failing)} of {len(ends)} endpoints that were asked fail"
-              + (f", {untested} have no tested path" if untested else ""))
+        print(f"{kind}, design {number}: {failing_head(ends, len(failing), counts.get(kind))}")
         for slack, pin in failing:
             print(f"  {picoseconds(slack):>12} ps  {pin}")
+
+
+def note_unlisted(slacks: Slacks, counts: dict[str, int]) -> None:
+    """Says where report_failing has counted more endpoints than it lists."""
+    for kind, count in counts.items():
+        listed = sum(it is not None and it < 0 for it in slacks[kind].values())
+        if listed < count:
+            said = f"{count} endpoints fail for {kind}, and {listed} of them are here"
+            print(f"read_answers: note: {said}", file=sys.stderr)
 
 
 def print_histogram(number: int, slacks: Slacks) -> None:
@@ -578,7 +664,7 @@ def print_histogram(number: int, slacks: Slacks) -> None:
         values = [it for it in ends.values() if it is not None]
         if not values:
             continue
-        print(f"{kind} slack of {len(values)} endpoints, design {number}, in ps")
+        print(f"{kind} slack of {endpoints_text(values)}, design {number}, in ps")
         bins = bins_of(values)
         most = max(count for _, _, count in bins)
         for low, high, count in bins:
@@ -650,11 +736,13 @@ def show(given: argparse.Namespace, commands: list[Command], output: Output, edi
         json.dump(as_data(commands, output, edited), sys.stdout, indent=1)
         print()
     elif given.csv:
-        print_csv(commands, output)
+        print_csv(commands, output, edited)
     elif not (given.failing or given.histogram or given.svg):
         print_lines(commands, output, edited)
     if given.failing:
-        print_failing(number, slacks)
+        print_failing(number, slacks, failing_counts(commands, output, number))
+    if given.histogram or given.svg:
+        note_unlisted(slacks, failing_counts(commands, output, number))
     if given.histogram:
         print_histogram(number, slacks)
     if given.svg:
@@ -672,3 +760,5 @@ def main() -> None:
         show(given, commands, output, edited)
     except TextFault as why:
         raise InputFault(given.output, why.line, why.message) from why
+    except (LookupError, ValueError) as why:
+        raise InputFault(given.output, None, "the words of some row are not those that the program writes") from why

@@ -7,7 +7,7 @@ import _signal as signal
 import os
 import sys
 
-from lizdrog_tools import command_line, programs
+from lizdrog_tools import command_line, ending, programs
 from lizdrog_tools.programs import Stop
 
 NO_PROGRAM = 70
@@ -46,23 +46,56 @@ def surroundings() -> dict[str, str]:
 
 
 def start(program: str, words: list[str]) -> tuple[int, int]:
-    """Starts the program; gives the number of its process, and what to read its output from."""
+    """Starts the program and passes signals on to it; gives the number of its process, and what to read its output
+    from."""
     reading, writing = os.pipe()
-    as_default = [signal.SIGPIPE, signal.SIGXFSZ]
+    as_default, passed_on = [signal.SIGPIPE, signal.SIGXFSZ], ending.heeded()
+    before = ending.hold(passed_on)
     try:
-        child = os.posix_spawn(program, [program, *words], surroundings(), setsigdef=as_default,
+        child = os.posix_spawn(program, [program, *words], surroundings(), setsigdef=as_default, setsigmask=before,
                                file_actions=[(os.POSIX_SPAWN_DUP2, writing, 1)])
+        for number in passed_on:
+            signal.signal(number, lambda got, _: os.kill(child, got))
     except OSError as why:
         raise Stop(f"{program} does not start: {why.strerror}") from why
+    finally:
+        ending.release(passed_on)
     os.close(writing)
     return child, reading
+
+
+def resident(child: int) -> int:
+    """How many MB of memory a process has; 0 where that is not told."""
+    try:
+        with open(f"/proc/{child}/statm", "rb") as file:
+            return int(file.read().split()[1]) * os.sysconf("SC_PAGE_SIZE") // 1_000_000
+    except (OSError, IndexError, ValueError):
+        return 0
+
+
+def tell_progress(child: int) -> None:
+    """Says after 5 s, and then now and then, how long a run has taken: to who looks at a terminal, or has set
+    LIZDROG_PROGRESS to yes."""
+    if os.environ.get("LIZDROG_PROGRESS", "yes" if os.isatty(2) else "no") != "yes":
+        return
+    pauses = iter((5, 5, 10, 20, 20))
+    passed = next(pauses)
+
+    def tell(*_: object) -> None:
+        nonlocal passed
+        say(f"{passed} s, {resident(child)} MB")
+        pause = next(pauses, 60)
+        passed += pause
+        signal.setitimer(signal.ITIMER_REAL, pause)
+
+    signal.signal(signal.SIGALRM, tell)
+    signal.setitimer(signal.ITIMER_REAL, passed)
 
 
 def run(program: str, words: list[str]) -> tuple[int, bytes]:
     """Runs the program with its output passed on; gives its status and the first bytes of what it wrote."""
     child, reading = start(program, words)
-    for number in (signal.SIGTERM, signal.SIGHUP):
-        signal.signal(number, lambda got, _: os.kill(child, got))
+    tell_progress(child)
     signal.signal(signal.SIGINT, lambda got, _: None)
     first, written = b"", True
     while written:
@@ -73,6 +106,8 @@ def run(program: str, words: list[str]) -> tuple[int, bytes]:
         written = write_all(data)
     os.close(reading)
     status = os.waitstatus_to_exitcode(os.waitpid(child, 0)[1])
+    signal.setitimer(signal.ITIMER_REAL, 0)
+    ending.heed("lizdrog")
     if status < 0:
         return 128 - status, first
     return (status if written else 5), first
@@ -90,6 +125,8 @@ def explain(status: int, first: bytes, words: list[str]) -> None:
     if status == 1:
         say("status 1: some row is refused, no or not_yet; tools/read_answers.py SCRIPT OUTPUT shows the command of each, "
             "and what its code means")
+        if any(it in first for it in (b" refused E14 ", b"\nrefused E14 ", b" refused E15 ", b"\nrefused E15 ")):
+            say("its options --netlist and --library tell which pin of a net its parasitics do not fit (E14, E15)")
         return
     from lizdrog_tools import explain_fault
     if status == 2:
@@ -170,6 +207,8 @@ def project_words(words: list[str]) -> tuple[list[str], str | None]:
 def answer(words: list[str]) -> int:
     """The status of a call with these words."""
     if words and words[0] in BESIDE:
+        if words[0] == "serve":
+            ending.hold(ending.heeded())
         os.execv(sys.executable, [sys.executable, f"{programs.TOP}/tools/{BESIDE[words[0]]}", *words[1:]])
     asked = command_line.asked_help(words)
     if asked is not None:
@@ -201,6 +240,7 @@ def answer(words: list[str]) -> int:
 
 
 def main() -> int:
+    ending.heed("lizdrog")
     try:
         os.fstat(1)
     except OSError:

@@ -75,12 +75,13 @@ def parts_of_tests(program: str) -> list[Part]:
 
 
 def parts_of_scripts(program: str, forms: dict[str, tuple[int, int]]) -> list[Part]:
-    """The random scripts, some in a part."""
+    """The random scripts, some in a part; in every other part they ask the questions for closing timing, too."""
     parts = []
     for form, (count, each) in forms.items():
         for first in range(FIRST_SEED, FIRST_SEED + count, each):
-            words = [sys.executable, str(BENCH / "compare.py"), program, str(first), str(each),
-                     *([form] if form else [])]
+            is_closing = len(parts) % 2 == 1
+            words = [sys.executable, str(BENCH / "compare.py"), *["--closing"] * is_closing, program, str(first),
+                     str(each), *([form] if form else [])]
             name = f"random scripts {form + ' ' if form else ''}{first} to {first + each - 1}"
             parts.append(Part(name, tuple(words), counts_of_scripts, each))
     return parts

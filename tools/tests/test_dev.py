@@ -14,7 +14,7 @@ import unittest
 
 import common
 from lizdrog_dev import build_libs, count_copies, crate_list, exits, gate_seconds, must_fail
-from lizdrog_dev import small_repository, time_crates
+from lizdrog_dev import real, small_repository, time_crates, unchecked_build, wrap_clauses
 
 ROWS = """sta_units\tproof\t100.0\t120\t900\t10:00:00\t10:02:00
 timing_defs\tproof\t60.0\t70\t800\t10:02:00\t10:03:10
@@ -311,6 +311,15 @@ class Libraries(unittest.TestCase):
         self.assertEqual(len(lines), 4)
 
 
+class Clauses(unittest.TestCase):
+    def test_a_wide_clause_is_broken_but_no_text_and_no_field(self):
+        wide = "    ensures { Some words that are long and fill the line, " + "x" * 30 + ' (codes " from a text" ++ rest) and { field = value; } }'
+        lines = wrap_clauses.wrapped(wide)
+        self.assertTrue(all(len(line) <= wrap_clauses.WIDEST for line in lines), lines)
+        self.assertEqual(" ".join(line.strip() for line in lines), wide.strip())
+        self.assertTrue(all(line.count('"') % 2 == 0 and not line.strip().startswith("=") for line in lines), lines)
+
+
 class Copies(unittest.TestCase):
     def test_crates_of_tests_and_rows_are_left_out(self):
         crates = count_copies.compared()
@@ -325,6 +334,49 @@ class Copies(unittest.TestCase):
         status, out, _ = common.tool("count_copies", "--help")
         self.assertEqual(status, 0)
         self.assertNotIn("copies too many", out)
+
+
+class BesideOpenSta(unittest.TestCase):
+    def test_commands_of_lists(self):
+        asked = "report_wns setup"
+        for work, line, commands in (("resize", "u1 INVX2", ["repower_gate u1 INVX2", asked]),
+                                     ("silent", "u1 INVX2", ["repower_gate u1 INVX2"]),
+                                     ("buffer", "n[1] u1 A b1 n2", ["insert_buffer n[1] b1 n2 BUFX2 u1:A", asked]),
+                                     ("path", "a/r1/D", ["report_path a/r1:D setup"]),
+                                     ("paths", "r1/D", ["report_paths r1:D setup 20"])):
+            with self.subTest(work):
+                self.assertEqual(real.commands(work, [line]), commands)
+        lines = [f"u{number} INVX2" for number in range(6)]
+        self.assertEqual([len(it) for it in real.parts("sessions", lines)], [2, 2, 1, 1])
+        self.assertEqual(real.parts("resize", lines), [lines])
+
+    def test_counts_of_instructions(self):
+        for text, count in (("12345,,instructions:u,100,100.00,,\n", 12345),
+                            ("<not supported>,,instructions:u,0,100.00,,\n", None),
+                            ("==12== \n==12== I   refs:      705,965,106\n", 705965106), ("", None)):
+            self.assertEqual(real.count_of(text), count)
+
+    def test_slacks_and_differences(self):
+        self.assertEqual(real.last_slack("session 1 1\n1 0 wns 3.000\n2 1 accepted\n3 1 wns -2.500\n"), -2.5)
+        list_of, load = real.Took(2.5, 5.0, 30.0, -1.0), real.Took(0.5, 1.0, 20.0, 0.0)
+        self.assertEqual(list_of.less(load, 4), real.Took(0.5, 1.0, 30.0, -1.0))
+        self.assertIn("| 0.50 (0.50 to 0.50) |", real.row_of("resize", 1, [(load, real.Took(1.0, 2.0, 1.0, 0.0))]))
+
+    def test_a_folder_without_designs(self):
+        with tempfile.TemporaryDirectory() as folder:
+            status, _, err = common.run(sys.executable, common.BENCH / "real.py", folder)
+        self.assertEqual(status, 1)
+        self.assertRegex(err, "^real.py: .*apt-get install")
+
+
+class Unchecked(unittest.TestCase):
+    def test_checks_are_left_out(self):
+        text = "  br i1 %1, label %2, label %3\n3:\n  call void @llvm.trap()\n  unreachable\n"
+        with tempfile.TemporaryDirectory() as folder:
+            checked, left = pathlib.Path(folder, "checked.ll"), pathlib.Path(folder, "left.ll")
+            checked.write_text(text)
+            self.assertEqual(unchecked_build.without_checks(checked, left), 1)
+            self.assertEqual(left.read_text(), text.replace("  call void @llvm.trap()\n", ""))
 
 
 if __name__ == "__main__":

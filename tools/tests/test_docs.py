@@ -156,7 +156,11 @@ class Documents(unittest.TestCase):
                 code.add(folder / pathlib.Path(name).name)
             for file in code:
                 self.assertTrue(file.is_file(), f"{row[0]}: {file}")
-            crate, edit, gate = re.fullmatch(r"`(?:(\w+)/)?(\w+)`( \(gate\))?", row[4]).groups()
+            named = re.fullmatch(r"`(?:(\w+)/)?(\w+)`( \(gate\))?", row[4])
+            if named is None:
+                gone.append(f"{row[0]}: it names no edit")
+                continue
+            crate, edit, gate = named.groups()
             crate = crate or re.match(r"`(\w+)/", row[2])[1]
             file = (CRATES / crate / "must-fail" if gate else EDITS / crate) / f"{edit}.edit"
             changed = re.findall(r"^file: (.*)$", file.read_text(), re.M) if file.is_file() else []
@@ -213,11 +217,11 @@ class Documents(unittest.TestCase):
         named += [it for used in uses.values() for it in used.split() if it not in uses]
         self.assertEqual(sorted(set(named) - said), [])
 
-    def test_decisions_have_a_day_and_a_place(self):
-        rows = re.findall(r"(?m)^\| (\d+) \| (\d\d-\d\d) \| .* \| ([^|]*) \|$", (DOCS / "DECISIONS.md").read_text())
+    def test_decisions_have_a_place(self):
+        rows = re.findall(r"(?m)^\| (\d+) \| .* \| ([^|]*) \|$", (DOCS / "DECISIONS.md").read_text())
         self.assertEqual([int(it[0]) for it in rows], list(range(1, len(rows) + 1)))
         self.assertEqual(len(rows), len(re.findall(r"(?m)^\| \d+ \|", (DOCS / "DECISIONS.md").read_text())))
-        for number, _, place in rows:
+        for number, place in rows:
             names = re.findall(r"`([A-Z]\w+|\w+/[\w/.]+)`", place)
             self.assertTrue(names, number)
             for name in names:

@@ -52,7 +52,7 @@ DAMAGES = [
         "report in a group",
         {"script": "begin_eco\nreport_wns setup\ncommit_eco\n"},
         "fault script1 C1 2",
-        "allows no report",
+        "stands between begin_eco and commit_eco",
     ),
     (
         "draft without its end",
@@ -73,10 +73,34 @@ DAMAGES = [
         "take may not be in a draft",
     ),
     (
-        "paths in a draft",
-        {"script": "begin_what_if\nreport_paths q setup 2\nend_what_if\n"},
-        "fault script1 C1 2",
-        "report_paths may not be in a draft",
+        "await in a draft",
+        {"script": "begin_what_if\nreport_wns setup\nawait 0 1\nend_what_if\n"},
+        "fault script1 C1 3",
+        "await may not be in a draft",
+    ),
+    (
+        "more paths of an endpoint than in all",
+        {"script": "report_worst_paths setup 2 each 3\n"},
+        "fault script1 C1 1",
+        "report_worst_paths takes setup or hold, a number K from 1 to 100, and perhaps each",
+    ),
+    (
+        "a net too many",
+        {"script": "report_net n1 n2\n"},
+        "fault script1 C1 1",
+        "report_net takes 1 word, and here are 2",
+    ),
+    (
+        "pair without a cell",
+        {"script": "advise_tns setup g1\n"},
+        "fault script1 C1 1",
+        "advise_tns takes setup or hold, then 1 to 100 pairs",
+    ),
+    (
+        "path through no pins",
+        {"script": "report_timing_through q setup\n"},
+        "fault script1 C1 1",
+        "then 1 to 16 pins that the path passes",
     ),
     (
         "end of a draft in a group",

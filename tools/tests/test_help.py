@@ -9,7 +9,7 @@ import unittest
 import common
 from lizdrog_tools import command_line, help_text
 
-ROWS = [*help_text.QUESTIONS, *help_text.EDITS, *help_text.OTHERS]
+ROWS = [*help_text.QUESTIONS, *help_text.CLOSING, *help_text.EDITS, *help_text.OTHERS]
 
 
 class Help(unittest.TestCase):
@@ -17,6 +17,7 @@ class Help(unittest.TestCase):
         page = (common.TOP / "docs" / "SCRIPTS.md").read_text()
         told = set(re.findall(r"^\| `([a-z]+(?:_[a-z]+)*)[ `]", page, re.M)) - {"accepted", "refused"}
         told |= set(re.findall(r"`(begin_\w+|commit_eco|end_what_if)`", page))
+        told |= set(re.findall(r"`((?:report|advise)_[a-z_]+)", (common.TOP / "docs" / "QUESTIONS.md").read_text()))
         helped = {word for words, _, _ in ROWS for word in re.findall(r"(?:^|\.\. )([a-z]+(?:_[a-z]+)*)", words)}
         self.assertEqual(helped - {"r"}, told)
 

@@ -305,7 +305,9 @@ class Completion(unittest.TestCase):
         return completion.complete(line, lambda: self.names)[1]
 
     def test_commands(self):
-        self.assertEqual(self.found("report_s"), ["report_slack", "report_slew"])
+        self.assertEqual(self.found("report_s"),
+                         ["report_sizes", "report_skew", "report_slack", "report_slew", "report_summary"])
+        self.assertEqual(self.found("advise"), ["advise", "advise_sizes", "advise_tns"])
         self.assertEqual(self.found("un"), ["undo"])
         self.assertEqual(self.found("begin"), ["begin_eco", "begin_what_if"])
 
@@ -323,12 +325,20 @@ class Completion(unittest.TestCase):
             ("report_through r1:D setup g1:", ["g1:A", "g1:Z"]),
             ("report_through r1:D setup g1:A g2:Z", ["g2:Z"]),
             ("repower_gate g", ["g1", "g2", "g3"]),
-            ("repower_gate g1 ", ["BUF", "DFF", "INV"]),
+            ("repower_gate g1 ", ["BUF"]),
             ("insert_buffer n", ["n1", "n2"]),
             ("insert_buffer n1 b1 m1 B", ["BUF"]),
             ("insert_buffer n1 b1 m1 BUF g2:A g", ["g1:", "g2:", "g3:"]),
             ("advise setup g1 INV g", ["g1", "g2", "g3"]),
-            ("advise setup g1 ", ["BUF", "DFF", "INV"]),
+            ("advise setup g1 ", ["BUF"]),
+            ("insert_gate g9 ", ["BUF", "DFF", "INV"]),
+            ("report_timing r", ["r1:D"]),
+            ("report_timing_through r1:D setup g2:Z g1:", ["g1:A", "g1:Z"]),
+            ("report_net n", ["n1", "n2"]),
+            ("report_worst_paths setup 5 ", ["each"]),
+            ("advise_tns setup g1 INV g2 B", ["BUF"]),
+            ("advise_sizes setup ", ["wns", "tns"]),
+            ("advise_sizes setup tns g1 g", ["g1", "g2", "g3"]),
             ("set_parasitics l", ["lone"]),
             ("set_parasitics n1 no", ["none"]),
             ("set_parasitics n1 c g2:", ["g2:A", "g2:Z"]),
@@ -337,6 +347,43 @@ class Completion(unittest.TestCase):
             ("nonsense ", []),
         ):
             self.assertEqual(self.found(line), wanted, line)
+
+    def sized(self, early=lambda text: text):
+        """Names where BUF has two sizes, and a cell of the same pins and arcs that does another thing."""
+        buf = re.search(r" cell \(BUF\).*?\} \} \} \}\n", common.LIBRARY, re.S)[0].replace(
+            "direction : output;", 'direction : output; function : "A";'
+        )
+        made = [
+            buf.replace("(BUF)", "(BUF_X2)"),
+            buf.replace("(BUF)", "(BUF_X4)"),
+            buf.replace("(BUF)", "(BUF_T)").replace('"A";', '"A | A";', 1),
+            buf.replace("(BUF)", "(BUF_F) { cell_footprint : other;", 1).replace("; {", ";", 1),
+        ]
+        text = common.LIBRARY.replace(" cell (DFF)", f"{''.join(made)} cell (DFF)").replace(
+            " cell (BUF) {", " cell (BUF) { cell_footprint : buf;"
+        )
+        design = small_design()
+        design.parts["g1"].cell = "BUF"
+        return completion.Names(design, [Library(it).cells for it in (text, early(text))])
+
+    def test_cells_of_a_resize_are_those_alike(self):
+        self.names = self.sized()
+        for line in ("repower_gate g1 ", "advise setup g1 ", "advise_tns hold g2 X g1 B", "repower_gate g1 BUF_"):
+            self.assertEqual(self.found(line), ["BUF_T", "BUF_X2", "BUF_X4"], line)
+        self.assertEqual(self.found("repower_gate g1 D"), ["DFF"])
+        for line in ("insert_gate g9 ", "insert_buffer n1 b1 m1 ", "repower_gate absent "):
+            self.assertEqual(len(self.found(line)), 6, line)
+
+    def test_alike_in_both_libraries(self):
+        self.names = self.sized(lambda text: text.replace("cell (BUF_X4)", "cell (BUF_X9)"))
+        self.assertEqual(self.found("repower_gate g1 "), ["BUF_T", "BUF_X2"])
+
+    def test_cells_of_other_functions_are_not_alike(self):
+        cells = self.sized().libraries[0]
+        self.assertTrue(cells["BUF_X2"].is_alike(cells["BUF_X4"]))
+        self.assertFalse(cells["BUF_X2"].is_alike(cells["BUF_T"]))
+        self.assertFalse(cells["BUF"].is_alike(cells["BUF_F"]))
+        self.assertFalse(cells["BUF"].is_alike(cells["DFF"]))
 
     def test_templates_are_those_of_the_help(self):
         told = set(

@@ -196,6 +196,65 @@ class Paths(unittest.TestCase):
                 self.assertEqual(xml.dom.minidom.parseString(text).documentElement.tagName, "svg")
 
 
+# The path to r2:D once more, as report_timing and report_worst_paths tell it.
+TIMING = """1 0 timing setup r2:D slack 45.000 credit 0.500 from clk rise to clk rise nodes 5 capture 2 parts 8
+clk rise 0.000 none 0.000 net clk 2.000 2
+r1:CK rise 1.000 1.000 0.000
+r1:Q rise 21.000 20.000 10.000 net n1 1.000 1
+g1:A rise 21.500 0.500 10.000
+r2:D rise 40.500 19.000 14.000
+clk rise 0.000 none 0.000 net clk 2.000 2
+r2:CK rise 2.000 2.000 0.000
+capture_edge clk rise 100.000
+capture_arrival 2.000
+setup_time -15.000
+uncertainty -2.000
+credit 0.500
+required 85.500
+arrival 40.500
+slack 45.000
+"""
+WORST = """2 0 worst_paths 3
+path setup r2:D slack 45.000 credit 0.500 from clk rise to clk rise nodes 5
+clk rise 0.000
+r1:CK rise 1.000
+r1:Q rise 21.000
+g1:A rise 21.500
+r2:D rise 40.500
+path setup r2:D slack 46.000 credit 0.500 from clk rise to clk rise nodes 5
+clk rise 0.000
+r1:CK rise 1.000
+r1:Q fall 20.000
+g1:A fall 20.500
+r2:D fall 39.500
+path setup q slack 74.000 credit 0.000 from clk rise to clk rise nodes 3
+clk rise 0.000
+r2:CK rise 1.000
+q rise 21.000
+"""
+
+
+class Timing(unittest.TestCase):
+    def test_stages_and_parts(self):
+        path = paths.shown_timing("c", row(TIMING), None)
+        told = [(it.pin, it.delay(), it.is_cell, it.net, it.fanout, it.load, it.slew) for it in path.stages]
+        self.assertEqual(told[1], ("r1:Q", 20000, True, "n1", 1, "1.000", "10.000"))
+        self.assertEqual(len(told), 4)
+        self.assertEqual([(it.name, it.end - it.start) for it in path.parts],
+                         [("capture edge", 100000), ("capture clock", 2000), ("setup time", -15000),
+                          ("uncertainty", -2000), ("credit", 500)])
+        self.assertEqual((path.parts[-1].end, path.required(), path.arrival()), (85500, 85500, 40500))
+
+    def test_cells_and_sinks_of_the_netlist(self):
+        path = paths.shown_timing("c", row(TIMING), small_design())
+        self.assertEqual([(it.cell, it.sinks_text(), it.is_network) for it in path.stages],
+                         [("DFF", "", True), ("DFF", "g1:A", False), ("BUF", "", False), ("DFF", "", False)])
+
+    def test_picture_is_xml(self):
+        text = path_picture.path_picture(paths.shown_timing("c", row(TIMING), None)).inline()
+        self.assertEqual(xml.dom.minidom.parseString(text).documentElement.tagName, "svg")
+
+
 class Histograms(unittest.TestCase):
     def test_bins_have_both_edges_and_a_zero_line(self):
         text = histogram.histogram("setup slack", [-1500, 500, 700, 2400]).file()
@@ -271,6 +330,24 @@ class Pages(unittest.TestCase):
         self.assertIn("repower_gate g1: BUF becomes BUF", page)
         self.assertIn("from clk rise to clk rise, before a later ECO</summary>", page)
         self.assertRegex(page, r"out: setup wns 44\.250")
+
+    def test_paths_of_questions_for_closing_timing(self):
+        """Each path once, that of both questions with slews and loads; failing endpoints are in the table."""
+        script = "report_timing r2:D setup\nreport_worst_paths setup 3 each 2\nreport_failing hold\n"
+        rows = f"{TIMING}{WORST}3 0 failing 1 listed 1\nr2:D -1.500\n"
+        final = "final 0 setup 45.000 0.000 hold -1.500 -1.500\n"
+        (self.folder / "s.eco").write_text(script)
+        (self.folder / "out").write_text(f"journal 1 0\nsession 1 rows 3\n{rows}{final}")
+        for words in ((), self.DOCUMENTS):
+            page = self.page(*words)
+            self.assertEqual(re.findall(r"(\d+)\. setup <b>(\S+)</b>, slack <b>(\S+) ps", page),
+                             [("1", "r2:D", "45.000"), ("2", "r2:D", "46.000"), ("3", "q", "74.000")])
+            self.assertEqual(page.count("<th class=\"amount\">slew</th>"), 1)
+            self.assertIn("n1, 1, 1.000 fF</td>", page)
+            self.assertIn("<td>setup time</td><td class=\"amount\">-15.000</td>", page)
+            self.assertIn('<tr data-kind="hold" data-corner="out"><td>r2:D</td>', page)
+            self.assertNotIn('id="no-paths"', page)
+        self.assertIn('title="g1:A">n1, 1, 1.000 fF</td>', page)
 
     def test_what_is_refused(self):
         (self.folder / "other.eco").write_text("report_tns setup\n")

@@ -173,7 +173,7 @@ class Answers(unittest.TestCase):
         self.assertEqual(written[1], ["2", "0", "> repower_gate g1 BUF", "tried", "", "", ""])
         self.assertEqual(written[-3], ["3", "0", "advise setup g1 BUF g2 BUF", "advice", "g1 BUF", "", "-1.000"])
         self.assertEqual({it[0] for it in written}, set("12345"))
-        self.assertIn("0 of 0 endpoints that were asked fail", self.read("--failing"))
+        self.assertIn("no report_endpoint was asked", self.read("--failing"))
 
     def test_failing_and_histogram(self):
         out = self.read("--failing", "--histogram", "--svg", "bars.svg")

@@ -45,7 +45,13 @@ impl Model for Analysis {
 
     ghost Value = { Analysed };
 
-    ghost view = { λ a. record { stored = a.graph.stored; rows = a.arrivals.rows; backs = a.required.rows; ends = a.ends } };
+    ghost view = { λ a. record {
+      stored = a.graph.stored;
+      rows = a.arrivals.rows;
+      backs = a.required.rows;
+      ends =
+          a.ends;
+    } };
 
     ghost invariant = { λ a. IsAnalysis (record { stored = a.graph.stored; rows = a.arrivals.rows; backs = a.required.rows; ends = a.ends })
         × IsKept a.graph a.arrivals a.required.rows a.tree };
@@ -112,11 +118,17 @@ impl Analysis {
         requires most { workers ≤ 32 }
         requires sound { IsSound store.now.design }
         requires graph { graph.stored ≡ store.now }
-        requires made { IsEditOf self.now.stored (record { insts = touched.now.insts; nets = touched.now.nets }) store.now }
+        requires made { IsEditOf self.now.stored
+            (record { insts = touched.now.insts; nets = touched.now.nets }) store.now }
         ensures analysis { IfOk result (λ analysis. analysis.stored ≡ store.now) }
-        ensures least { OnOk result (steps.old + forward_count self.now.stored.design store.now.design (record { insts = touched.now.insts; nets = touched.now.nets }) ≤ steps.new) }
+        ensures least { OnOk result
+            (steps.old + forward_count self.now.stored.design store.now.design
+            (record { insts = touched.now.insts; nets = touched.now.nets }) ≤ steps.new) }
         ensures rises { steps.old ≤ steps.new }
-        ensures most { steps.new ≤ steps.old + forward_count self.now.stored.design store.now.design (record { insts = touched.now.insts; nets = touched.now.nets }) + backward_count self.now.stored.design store.now.design (record { insts = touched.now.insts; nets = touched.now.nets }) }
+        ensures most { steps.new ≤ steps.old + forward_count self.now.stored.design store.now.design
+            (record { insts = touched.now.insts; nets = touched.now.nets }) + backward_count
+            self.now.stored.design store.now.design
+            (record { insts = touched.now.insts; nets = touched.now.nets }) }
         ensures refused { IfErr result (IsRangeFault store.now.design) }
     {
         store.laws();
@@ -207,7 +219,9 @@ pub fn ask(
     requires store { store.now ≡ analysis.now.stored }
     requires plain { is_plain q.now ≡ true }
     ensures told { IfOk result (Told analysis.now.stored.design q.now) }
-    ensures refused { IfErr result (λ fault. (fault ≡ QueryFault.Memory) ⊎ (query_fault analysis.now.stored.design q.now ≡ Some fault)) }
+    ensures refused { IfErr result
+        (λ fault. (fault ≡ QueryFault.Memory)
+        ⊎ (query_fault analysis.now.stored.design q.now ≡ Some fault)) }
 {
     let known = Known {
         store,

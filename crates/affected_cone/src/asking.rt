@@ -60,7 +60,8 @@ fn slew(
 ) -> Result<Report, QueryFault>
     requires { IsKnown known.now }
     ensures told { IfOk result (Told known.now.store.now.design (Query.Slew pin.now split tran)) }
-    ensures refused { IfErr result (IsRefusal (query_fault known.now.store.now.design (Query.Slew pin.now split tran))) }
+    ensures refused { IfErr result
+        (IsRefusal (query_fault known.now.store.now.design (Query.Slew pin.now split tran))) }
 {
     let node = node_named(alloc, known.store, known.graph, pin, tran)?;
     Ok(value_report(slew_in(known.arrivals.row(node), split)))
@@ -76,7 +77,8 @@ fn arrivals(
 ) -> Result<Report, QueryFault>
     requires { IsKnown known.now }
     ensures told { IfOk result (Told known.now.store.now.design (Query.At pin.now split tran)) }
-    ensures refused { IfErr result (IsRefusal (query_fault known.now.store.now.design (Query.At pin.now split tran))) }
+    ensures refused { IfErr result
+        (IsRefusal (query_fault known.now.store.now.design (Query.At pin.now split tran))) }
 {
     let node = node_named(alloc, known.store, known.graph, pin, tran)?;
     let report = times_report(alloc, times_in(known.arrivals.row(node), split))?;
@@ -93,7 +95,8 @@ fn required_times(
 ) -> Result<Report, QueryFault>
     requires { IsKnown known.now }
     ensures told { IfOk result (Told known.now.store.now.design (Query.Rat pin.now split tran)) }
-    ensures refused { IfErr result (IsRefusal (query_fault known.now.store.now.design (Query.Rat pin.now split tran))) }
+    ensures refused { IfErr result
+        (IsRefusal (query_fault known.now.store.now.design (Query.Rat pin.now split tran))) }
 {
     let node = node_named(alloc, known.store, known.graph, pin, tran)?;
     let report = times_report(alloc, known.required.row(node).times(split).as_slice())?;
@@ -124,7 +127,8 @@ fn slack(
 ) -> Result<Report, QueryFault>
     requires { IsKnown known.now }
     ensures told { IfOk result (Told known.now.store.now.design (Query.Slack pin.now split tran)) }
-    ensures refused { IfErr result (IsRefusal (query_fault known.now.store.now.design (Query.Slack pin.now split tran))) }
+    ensures refused { IfErr result
+        (IsRefusal (query_fault known.now.store.now.design (Query.Slack pin.now split tran))) }
 {
     let node = node_named(alloc, known.store, known.graph, pin, tran)?;
     Ok(slack_at(known, node, split))
@@ -134,7 +138,8 @@ fn slack(
 fn end_slack(alloc: Global, known: &Known<'_>, pin: &Name, kind: Kind) -> Result<Report, QueryFault>
     requires { IsKnown known.now }
     ensures told { IfOk result (Told known.now.store.now.design (Query.Endpoint pin.now kind)) }
-    ensures refused { IfErr result (IsRefusal (query_fault known.now.store.now.design (Query.Endpoint pin.now kind))) }
+    ensures refused { IfErr result
+        (IsRefusal (query_fault known.now.store.now.design (Query.Endpoint pin.now kind))) }
 {
     let number = end_named(alloc, known.store, known.graph, pin, kind)?;
     known.store.laws();
@@ -148,7 +153,8 @@ fn end_slack(alloc: Global, known: &Known<'_>, pin: &Name, kind: Kind) -> Result
 fn path_to(alloc: Global, known: &Known<'_>, pin: &Name, kind: Kind) -> Result<Report, QueryFault>
     requires { IsKnown known.now }
     ensures told { IfOk result (Told known.now.store.now.design (Query.WorstPath pin.now kind)) }
-    ensures refused { IfErr result (IsRefusal (query_fault known.now.store.now.design (Query.WorstPath pin.now kind))) }
+    ensures refused { IfErr result
+        (IsRefusal (query_fault known.now.store.now.design (Query.WorstPath pin.now kind))) }
 {
     let Known {
         store,
@@ -167,7 +173,8 @@ fn path_to(alloc: Global, known: &Known<'_>, pin: &Name, kind: Kind) -> Result<R
 fn worst(alloc: Global, known: &Known<'_>, kind: Kind, count: u32) -> Result<Report, QueryFault>
     requires { IsKnown known.now }
     ensures told { IfOk result (Told known.now.store.now.design (Query.Worst kind count)) }
-    ensures refused { IfErr result (IsRefusal (query_fault known.now.store.now.design (Query.Worst kind count))) }
+    ensures refused { IfErr result
+        (IsRefusal (query_fault known.now.store.now.design (Query.Worst kind count))) }
 {
     known.store.laws();
     let rows = worst_ends(alloc, known.store, known.ends, kind, count)?;
@@ -199,6 +206,28 @@ fn total_slack(known: &Known<'_>, kind: Kind) -> Report
     value_report(total_of(known.ends, kind))
 }
 
+/// Whether a question is a plain one: of one node, one endpoint, or the totals and the worst endpoints of a design.
+pub fn is_plain(q: &Query) -> bool
+    ensures { result ≡ is_plain q.now }
+{
+    match q {
+        Query::Through { .. }
+        | Query::Paths { .. }
+        | Query::WhatIf { .. }
+        | Query::Advise { .. }
+        | Query::Closing { .. } => false,
+        Query::Slew { .. }
+        | Query::At { .. }
+        | Query::Rat { .. }
+        | Query::Slack { .. }
+        | Query::Endpoint { .. }
+        | Query::WorstPath { .. }
+        | Query::Wns { .. }
+        | Query::Tns { .. }
+        | Query::Worst { .. } => true,
+    }
+}
+
 /// The answer to a plain question.
 pub(crate) fn answer(alloc: Global, known: &Known<'_>, q: &Query) -> Result<Report, QueryFault>
     requires known { IsKnown known.now }
@@ -216,7 +245,10 @@ pub(crate) fn answer(alloc: Global, known: &Known<'_>, q: &Query) -> Result<Repo
         Query::Wns { kind } => Ok(least_slack(known, *kind)),
         Query::Tns { kind } => Ok(total_slack(known, *kind)),
         Query::Worst { kind, count } => worst(alloc, known, *kind, *count),
-        Query::Through { .. } | Query::Paths { .. } | Query::WhatIf { .. } | Query::Advise { .. } =>
-            { unreachable!() }
+        Query::Through { .. }
+        | Query::Paths { .. }
+        | Query::WhatIf { .. }
+        | Query::Advise { .. }
+        | Query::Closing { .. } => unreachable!(),
     }
 }

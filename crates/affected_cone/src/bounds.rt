@@ -51,9 +51,13 @@ fn carried_behind(
     requires base { IsBase base.now }
     requires search { IsSearch search.now }
     requires made { IsEditOf base.now.graph.now.stored (touch_of touched.now) search.now.store.now }
-    requires seeds { HasSeeds base.now.graph.now.stored search.now.store.now (touch_of touched.now) seeds.now }
+    requires seeds { HasSeeds base.now.graph.now.stored search.now.store.now (touch_of touched.now)
+        seeds.now }
     requires behind { AreBehind search.now.graph.now seeds.now nodes.now }
-    ensures { IfOk result (λ found. IfSome found (AreCarriedTimes base.now.graph.now.stored search.now.graph.now.stored seeds.now nodes.now)) }
+    ensures { IfOk result
+        (λ found. IfSome found
+        (AreCarriedTimes base.now.graph.now.stored search.now.graph.now.stored seeds.now
+        nodes.now)) }
 {
     if nodes.len() > MOST_BEHIND {
         return Ok(None);
@@ -82,7 +86,8 @@ pub(crate) fn weigh<'a>(
     requires base { IsBase base.now }
     requires search { IsSearch search.now }
     requires made { IsEditOf base.now.graph.now.stored (touch_of touched.now) search.now.store.now }
-    requires seeds { HasSeeds base.now.graph.now.stored search.now.store.now (touch_of touched.now) seeds.now }
+    requires seeds { HasSeeds base.now.graph.now.stored search.now.store.now (touch_of touched.now)
+        seeds.now }
     requires behind { AreBehind search.now.graph.now seeds.now nodes.now }
     ensures weighed { IfOk result IsWeighed }
     ensures base { IfOk result (λ w. w.base.now ≡ base.now) }
@@ -133,10 +138,13 @@ fn has_room(
 ) -> Result<bool, Memory>
     requires base { IsBase base.now }
     requires search { IsSearch search.now }
-    requires same { base.now.graph.now.stored.design.constraints ≡ search.now.store.now.design.constraints }
+    requires same { base.now.graph.now.stored.design.constraints
+        ≡ search.now.store.now.design.constraints }
     requires below { node < node_bound search.now.store.now }
     requires there { is_number search.now.store.now.pins (pin_under node) ≡ true }
-    ensures { IfOk result (λ is. is ≡ true → HasRoom base.now.graph.now.stored search.now.store.now kind node time slack.0) }
+    ensures { IfOk result
+        (λ is. is ≡ true
+        → HasRoom base.now.graph.now.stored search.now.store.now kind node time slack.0) }
 {
     let Some(_) = time else {
         return Ok(true);
@@ -176,10 +184,13 @@ fn has_rooms(
 ) -> Result<bool, Memory>
     requires base { IsBase base.now }
     requires search { IsSearch search.now }
-    requires same { base.now.graph.now.stored.design.constraints ≡ search.now.store.now.design.constraints }
+    requires same { base.now.graph.now.stored.design.constraints
+        ≡ search.now.store.now.design.constraints }
     requires there { is_number search.now.store.now.pins pin ≡ true }
     requires low { pin < 2 ^ 31 }
-    ensures { IfOk result (λ is. is ≡ true → HasRooms base.now.graph.now.stored search.now.store.now carried.now kind pin slack.0) }
+    ensures { IfOk result
+        (λ is. is ≡ true
+        → HasRooms base.now.graph.now.stored search.now.store.now carried.now kind pin slack.0) }
 {
     let split = kind.data_split();
     let rise = carried.at(2 * pin).of(split);
@@ -228,7 +239,8 @@ fn is_alone(
     pin: u32,
 ) -> Result<bool, Memory>
     requires { is_number search.now.store.now.pins pin ≡ true }
-    ensures { IfOk result (λ is. is ≡ true → IsAlone search.now.store.now carried.now.nodes.keys pin) }
+    ensures { IfOk result
+        (λ is. is ≡ true → IsAlone search.now.store.now carried.now.nodes.keys pin) }
 {
     search.store.laws();
     // All pins' numbers are below that.
@@ -236,7 +248,9 @@ fn is_alone(
     match search.store.inst_of(pin) {
         Some(inst) => {
             let pins = inst_pins(alloc, search.store, inst)?;
-            Ok(!any_reached(carried, pin, pins.as_slice()))
+            let reached = any_reached(carried, pin, pins.as_slice());
+            drop(pins);
+            Ok(!reached)
         }
         None => Ok(true),
     }
@@ -264,7 +278,9 @@ fn is_left(
     requires base { IsBase base.now }
     requires search { IsSearch search.now }
     requires below { node < node_bound search.now.store.now }
-    ensures { result ≡ true → IsLeftNode base.now.graph.now.stored search.now.graph.now carried.now.seeds.keys split node }
+    ensures { result ≡ true
+        → IsLeftNode base.now.graph.now.stored search.now.graph.now carried.now.seeds.keys split
+        node }
 {
     base.graph.laws();
     search.graph.laws();
@@ -286,7 +302,9 @@ fn are_left(
     requires search { IsSearch search.now }
     requires there { is_number search.now.store.now.pins pin ≡ true }
     requires low { pin < 2 ^ 31 }
-    ensures { result ≡ true → AreLeftNodes base.now.graph.now.stored search.now.graph.now carried.now.seeds.keys split pin }
+    ensures { result ≡ true
+        → AreLeftNodes base.now.graph.now.stored search.now.graph.now carried.now.seeds.keys split
+        pin }
 {
     is_left(base, search, carried, split, 2 * pin)
         && is_left(base, search, carried, split, 2 * pin + 1)
@@ -306,7 +324,9 @@ fn keeps_tests(
     requires there { is_number search.now.store.now.pins pin ≡ true }
     requires low { pin < 2 ^ 31 }
     requires alone { alone ≡ true → IsAlone search.now.store.now carried.now.nodes.keys pin }
-    ensures { result ≡ true → IsKeptPin base.now.graph.now.stored search.now.graph.now carried.now.seeds.keys carried.now.nodes.keys split pin }
+    ensures { result ≡ true
+        → IsKeptPin base.now.graph.now.stored search.now.graph.now carried.now.seeds.keys
+        carried.now.nodes.keys split pin }
 {
     alone && are_left(base, search, carried, split, pin)
 }
@@ -323,7 +343,10 @@ fn keeps(
     requires weighed { IsWeighed weighed.now }
     requires there { is_number weighed.now.search.now.store.now.pins pin ≡ true }
     requires alone { alone ≡ true → StandsAlone weighed.now pin }
-    ensures { IfOk result (λ is. is ≡ true → IsKeptSlack weighed.now.base.now.graph.now.stored weighed.now.search.now.store.now kind pin slack.0) }
+    ensures { IfOk result
+        (λ is. is ≡ true
+        → IsKeptSlack weighed.now.base.now.graph.now.stored weighed.now.search.now.store.now kind
+        pin slack.0) }
 {
     let Some(carried) = &weighed.carried else {
         return Ok(false);
@@ -373,7 +396,9 @@ fn kept_slack(
     requires weighed { IsWeighed weighed.now }
     requires there { is_number weighed.now.search.now.store.now.pins pin ≡ true }
     requires alone { alone ≡ true → StandsAlone weighed.now pin }
-    ensures { IfOk result (λ kept. IfSome kept (λ slack. IsSlackAt weighed.now.search.now.store.now kind pin (Some slack.0))) }
+    ensures { IfOk result
+        (λ kept. IfSome kept
+        (λ slack. IsSlackAt weighed.now.search.now.store.now kind pin (Some slack.0))) }
 {
     let Some(slack) = old_slack(weighed.base, kind, pin) else {
         return Ok(None);
@@ -396,7 +421,9 @@ fn slack_after(
     requires weighed { IsWeighed weighed.now }
     requires pin { is_end weighed.now.search.now.store.now pin ≡ true }
     requires alone { alone ≡ true → StandsAlone weighed.now pin }
-    ensures { IfOk result (λ slack. IsSlackAt weighed.now.search.now.store.now kind pin (option_map (λ s. s.0) slack)) }
+    ensures { IfOk result
+        (λ slack. IsSlackAt weighed.now.search.now.store.now kind pin
+        (option_map (λ s. s.0) slack)) }
 {
     if let Some(slack) = kept_slack(alloc, weighed, alone, kind, pin)? {
         return Ok(Some(slack));
@@ -427,7 +454,8 @@ pub(crate) fn end_after(alloc: Global, weighed: &Weighed<'_>, pin: u32) -> Resul
 /// The slacks of an endpoint of the edited store; none of another number.
 pub(crate) fn pin_after(alloc: Global, weighed: &Weighed<'_>, pin: u32) -> Result<EndSlacks, Memory>
     requires { IsWeighed weighed.now }
-    ensures { is_end weighed.now.search.now.store.now pin ≡ true → IfOk result (IsEnd weighed.now.search.now.store.now pin) }
+    ensures { is_end weighed.now.search.now.store.now pin ≡ true
+        → IfOk result (IsEnd weighed.now.search.now.store.now pin) }
 {
     if is_end(weighed.search.store, pin) {
         return end_after(alloc, weighed, pin);

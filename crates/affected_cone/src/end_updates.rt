@@ -21,6 +21,7 @@ use crate::ends::{EndSlacks, Search, is_end};
 use crate::sharing::map_shared;
 use crate::updating::Base;
 use edit_reach::dirty_pins;
+use indexmap::IndexSet;
 use netlist_store::{Store, Touched};
 use pin_graph::{Graph, gone_pins};
 use sta_units::Memory;
@@ -85,6 +86,24 @@ fn add_numbers(numbers: &mut Items<u32>, more: &[u32]) -> Result<(), Memory>
         numbers.push(*number)?;
     }
     Ok(())
+}
+
+/// Numbers with those of a set behind them.
+fn with_numbers(numbers: Items<u32>, more: IndexSet<u32>) -> Result<Items<u32>, Memory>
+    ensures { IfOk result (λ all. all ≡ numbers ++ more.keys) }
+{
+    let mut numbers = numbers;
+    match add_numbers(&mut numbers, more.as_slice()) {
+        Ok(()) => {
+            drop(more);
+            Ok(numbers)
+        }
+        Err(wanting) => {
+            drop(more);
+            drop(numbers);
+            Err(wanting)
+        }
+    }
 }
 
 /// Adds an endpoint, where it is there.
@@ -163,7 +182,8 @@ fn shared_slacks<H: Threads + Sync>(
 {
     let found = |pin: &u32| -> Result<EndSlacks, Memory>
         requires { IsWeighed weighed.now }
-        ensures { is_end weighed.entry.now.search.now.store.now pin.now ≡ true → IfOk result (IsEnd weighed.entry.now.search.now.store.now pin.now) }
+        ensures { is_end weighed.entry.now.search.now.store.now pin.now ≡ true
+            → IfOk result (IsEnd weighed.entry.now.search.now.store.now pin.now) }
     { pin_after(alloc, weighed, *pin) };
     map_shared(rt, alloc, ends, &found)
 }
@@ -249,8 +269,13 @@ fn joined(
     ensures { IfOk result (IsInOrder (filter_map (kept_end dirty.now) ends.now ++ found.now)) }
 {
     let mut all = kept_ends(alloc, dirty, ends)?;
-    add_ends(&mut all, found)?;
-    in_order(all)
+    match add_ends(&mut all, found) {
+        Ok(()) => in_order(all),
+        Err(wanting) => {
+            drop(all);
+            Err(wanting)
+        }
+    }
 }
 
 /// The slacks of all endpoints of an edited store, by those of the base, and the pins to which the edit leads, with the
@@ -263,13 +288,18 @@ fn renewed_with<H: Threads + Sync>(
     again: &[u32],
 ) -> Result<Items<EndSlacks>, Memory>
     requires weighed { IsWeighed weighed.now }
-    requires kept { AreKeptEnds weighed.now.base.now.graph.now.stored weighed.now.search.now.store.now pins.now }
+    requires kept { AreKeptEnds weighed.now.base.now.graph.now.stored
+        weighed.now.search.now.store.now pins.now }
     requires rising { IsStrictlyIncreasing pins.now }
     requires again { again.now ≡ filter_map (end_number weighed.now.search.now.store.now) pins.now }
-    ensures { IfOk result (IsMap (IsEnd weighed.now.search.now.store.now) (ends_of weighed.now.search.now.store.now)) }
+    ensures { IfOk result
+        (IsMap (IsEnd weighed.now.search.now.store.now)
+        (ends_of weighed.now.search.now.store.now)) }
 {
     let found = searched(rt, alloc, weighed, again)?;
-    joined(alloc, pins, weighed.base.ends, found.as_slice())
+    let ends = joined(alloc, pins, weighed.base.ends, found.as_slice());
+    drop(found);
+    ends
 }
 
 /// The same, by rising pins to which the edit leads.
@@ -280,12 +310,17 @@ fn renewed_at<H: Threads + Sync>(
     pins: &[u32],
 ) -> Result<Items<EndSlacks>, Memory>
     requires weighed { IsWeighed weighed.now }
-    requires kept { AreKeptEnds weighed.now.base.now.graph.now.stored weighed.now.search.now.store.now pins.now }
+    requires kept { AreKeptEnds weighed.now.base.now.graph.now.stored
+        weighed.now.search.now.store.now pins.now }
     requires rising { IsStrictlyIncreasing pins.now }
-    ensures { IfOk result (IsMap (IsEnd weighed.now.search.now.store.now) (ends_of weighed.now.search.now.store.now)) }
+    ensures { IfOk result
+        (IsMap (IsEnd weighed.now.search.now.store.now)
+        (ends_of weighed.now.search.now.store.now)) }
 {
     let again = ends_among(alloc, weighed.search.store, pins)?;
-    renewed_with(rt, alloc, weighed, pins, again.as_slice())
+    let ends = renewed_with(rt, alloc, weighed, pins, again.as_slice());
+    drop(again);
+    ends
 }
 
 /// The slacks of all endpoints of an edited store, by those of the base, the pins to which the edit leads,
@@ -297,11 +332,16 @@ fn renewed<H: Threads + Sync>(
     dirty: &[u32],
 ) -> Result<Items<EndSlacks>, Memory>
     requires weighed { IsWeighed weighed.now }
-    requires kept { AreKeptEnds weighed.now.base.now.graph.now.stored weighed.now.search.now.store.now dirty.now }
-    ensures { IfOk result (IsMap (IsEnd weighed.now.search.now.store.now) (ends_of weighed.now.search.now.store.now)) }
+    requires kept { AreKeptEnds weighed.now.base.now.graph.now.stored
+        weighed.now.search.now.store.now dirty.now }
+    ensures { IfOk result
+        (IsMap (IsEnd weighed.now.search.now.store.now)
+        (ends_of weighed.now.search.now.store.now)) }
 {
     let numbers = rising(alloc, dirty)?;
-    renewed_at(rt, alloc, weighed, numbers.as_slice())
+    let ends = renewed_at(rt, alloc, weighed, numbers.as_slice());
+    drop(numbers);
+    ends
 }
 
 /// The pins to which the edit leads, and those of the base that are gone: every other one is an endpoint in both
@@ -316,8 +356,10 @@ fn other_pins(
 ) -> Result<Items<u32>, Memory>
     requires numbered { IsNumbered base.now.stored }
     requires search { IsSearch search.now }
-    requires made { IsEditOf base.now.stored (record { insts = touched.now.insts; nets = touched.now.nets }) search.now.store.now }
-    requires seeds { HasSeeds base.now.stored search.now.store.now (record { insts = touched.now.insts; nets = touched.now.nets }) seeds.now }
+    requires made { IsEditOf base.now.stored
+        (record { insts = touched.now.insts; nets = touched.now.nets }) search.now.store.now }
+    requires seeds { HasSeeds base.now.stored search.now.store.now
+        (record { insts = touched.now.insts; nets = touched.now.nets }) seeds.now }
     requires behind { AreBehind search.now.graph.now seeds.now nodes.now }
     ensures { IfOk result (AreKeptEnds base.now.stored search.now.store.now) }
 {
@@ -325,9 +367,13 @@ fn other_pins(
     search.graph.laws();
     search.store.laws();
     let dirty = dirty_pins(alloc, search.store, seeds, nodes)?;
-    let mut pins = gone_pins(alloc, base, search.graph, touched)?;
-    add_numbers(&mut pins, dirty.as_slice())?;
-    Ok(pins)
+    match gone_pins(alloc, base, search.graph, touched) {
+        Ok(gone) => with_numbers(gone, dirty),
+        Err(wanting) => {
+            drop(dirty);
+            Err(wanting)
+        }
+    }
 }
 
 /// The slacks of all endpoints of the store that an ECO made of a base, by those of the base's. `seeds` are
@@ -347,12 +393,24 @@ pub(crate) fn ends_after<H: Threads + Sync>(
     requires base { IsBase base.now }
     requires numbered { IsNumbered base.now.graph.now.stored }
     requires search { IsSearch search.now }
-    requires made { IsEditOf base.now.graph.now.stored (record { insts = touched.now.insts; nets = touched.now.nets }) search.now.store.now }
-    requires seeds { HasSeeds base.now.graph.now.stored search.now.store.now (record { insts = touched.now.insts; nets = touched.now.nets }) seeds.now }
+    requires made { IsEditOf base.now.graph.now.stored
+        (record { insts = touched.now.insts; nets = touched.now.nets }) search.now.store.now }
+    requires seeds { HasSeeds base.now.graph.now.stored search.now.store.now
+        (record { insts = touched.now.insts; nets = touched.now.nets }) seeds.now }
     requires behind { AreBehind search.now.graph.now seeds.now nodes.now }
     ensures { IfOk result (IsMap (IsEnd search.now.store.now) (ends_of search.now.store.now)) }
 {
     let dirty = other_pins(alloc, base.graph, search, touched, seeds, nodes)?;
-    let weighed = weigh(alloc, base, search, touched, seeds, nodes)?;
-    renewed(rt, alloc, &weighed, dirty.as_slice())
+    match weigh(alloc, base, search, touched, seeds, nodes) {
+        Ok(weighed) => {
+            let ends = renewed(rt, alloc, &weighed, dirty.as_slice());
+            drop(weighed);
+            drop(dirty);
+            ends
+        }
+        Err(wanting) => {
+            drop(dirty);
+            Err(wanting)
+        }
+    }
 }

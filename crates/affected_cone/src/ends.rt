@@ -132,7 +132,8 @@ fn end_slacks(alloc: Global, search: &Search<'_>, pin: u32) -> Result<EndSlacks,
 /// The slacks of an endpoint; none of another number.
 fn pin_slacks(alloc: Global, search: &Search<'_>, pin: u32) -> Result<EndSlacks, Memory>
     requires { IsSearch search.now }
-    ensures { is_end search.now.store.now pin ≡ true → IfOk result (IsEnd search.now.store.now pin) }
+    ensures { is_end search.now.store.now pin ≡ true
+        → IfOk result (IsEnd search.now.store.now pin) }
 {
     if is_end(search.store, pin) {
         return end_slacks(alloc, search, pin);
@@ -158,7 +159,8 @@ pub(crate) fn slacks_of<H: Threads + Sync>(
 {
     let found = |pin: &u32| -> Result<EndSlacks, Memory>
         requires { IsSearch search.now }
-        ensures { is_end search.entry.now.store.now pin.now ≡ true → IfOk result (IsEnd search.entry.now.store.now pin.now) }
+        ensures { is_end search.entry.now.store.now pin.now ≡ true
+            → IfOk result (IsEnd search.entry.now.store.now pin.now) }
     { pin_slacks(alloc, search, *pin) };
     map_shared(rt, alloc, ends, &found)
 }

@@ -43,7 +43,9 @@ fn all_slacks<H: Threads + Sync>(
     ensures { IfOk result (IsMap (IsEnd search.now.store.now) (ends_of search.now.store.now)) }
 {
     let ends = all_ends(alloc, search.store)?;
-    slacks_of(rt, alloc, search, ends.as_slice())
+    let slacks = slacks_of(rt, alloc, search, ends.as_slice());
+    drop(ends);
+    slacks
 }
 
 /// The slacks of all endpoints, by arrivals and clock tree.
@@ -89,13 +91,20 @@ fn with_tree<H: Threads + Sync>(
     requires tree { IsClockTree graph.now tree }
     ensures { IfOk result (IsFound store.now graph.now) }
 {
-    let ends = slacks_over(rt, alloc, store, graph, &arrivals, tree.get())?;
-    Ok(Found {
-        arrivals,
-        required,
-        tree,
-        ends,
-    })
+    match slacks_over(rt, alloc, store, graph, &arrivals, tree.get()) {
+        Ok(ends) => Ok(Found {
+            arrivals,
+            required,
+            tree,
+            ends,
+        }),
+        Err(wanting) => {
+            drop(arrivals);
+            drop(required);
+            tree.discard();
+            Err(wanting)
+        }
+    }
 }
 
 /// What is found, from arrivals and required times on.
@@ -115,8 +124,14 @@ fn with_required<H: Threads + Sync>(
     requires required { AreRequired store.now required.rows }
     ensures { IfOk result (IsFound store.now graph.now) }
 {
-    let tree = shared_tree(alloc, store, graph, &arrivals)?;
-    with_tree(rt, alloc, store, graph, arrivals, required, tree)
+    match shared_tree(alloc, store, graph, &arrivals) {
+        Ok(tree) => with_tree(rt, alloc, store, graph, arrivals, required, tree),
+        Err(wanting) => {
+            drop(arrivals);
+            drop(required);
+            Err(wanting)
+        }
+    }
 }
 
 /// What is found, from arrivals on.
@@ -138,9 +153,16 @@ fn with_arrivals<H: Threads + Sync, G: Gate>(
     ensures found { IfOk result (IsFound store.now graph.now) }
     ensures refused { IfErr result (IsRangeFault store.now.design) }
 {
-    let required = Required::full(rt, alloc, store, graph, &arrivals, workers, gate)?;
-    let found = with_required(rt, alloc, store, graph, arrivals, required)?;
-    Ok(found)
+    match Required::full(rt, alloc, store, graph, &arrivals, workers, gate) {
+        Ok(required) => {
+            let found = with_required(rt, alloc, store, graph, arrivals, required)?;
+            Ok(found)
+        }
+        Err(fault) => {
+            drop(arrivals);
+            Err(fault)
+        }
+    }
 }
 
 /// What is found of a store by that many threads.

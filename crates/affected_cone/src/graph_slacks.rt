@@ -51,7 +51,9 @@ fn with_clock(
 ) -> Option<i64>
     requires row { is_row_within row.now ≡ true }
     requires back { is_back_within back.now ≡ true }
-    ensures { result ≡ outermost Split.Early (slack_between split row.now back.now) best ((clock, Tran.Rise) ∷ (clock, Tran.Fall) ∷ []) }
+    ensures { result
+        ≡ outermost Split.Early (slack_between split row.now back.now) best
+        ((clock, Tran.Rise) ∷ (clock, Tran.Fall) ∷ []) }
 {
     let rise = slack_between(row, back, split, clock, Tran::Rise);
     let fall = slack_between(row, back, split, clock, Tran::Fall);
@@ -68,7 +70,9 @@ pub(crate) fn graph_slack(
     requires clocks { length clocks.now ≤ 8 }
     requires row { is_row_within row.now ≡ true }
     requires back { is_back_within back.now ≡ true }
-    ensures { result ≡ outermost Split.Early (slack_between split row.now back.now) None (clock_edges 0 clocks.now) }
+    ensures { result
+        ≡ outermost Split.Early (slack_between split row.now back.now) None
+        (clock_edges 0 clocks.now) }
 {
     let mut best = None;
     for (at, _) in clocks.iter().enumerate() {

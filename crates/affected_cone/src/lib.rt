@@ -22,5 +22,6 @@ mod updating;
 
 pub use analyses::{Analysis, ask};
 pub use asked::{end_named, pin_there};
+pub use asking::is_plain;
 pub use ends::{EndSlacks, Search};
 pub use sharing::map_shared;

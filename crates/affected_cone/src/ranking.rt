@@ -120,5 +120,7 @@ pub(crate) fn worst_ends(
     ensures { IfOk result (IsKLeast goes_before count (rows_of store.now kind ends.now)) }
 {
     let found = ranked_ends(alloc, store, ends, kind)?;
-    worst_rows(alloc, found.as_slice(), count)
+    let rows = worst_rows(alloc, found.as_slice(), count);
+    drop(found);
+    rows
 }

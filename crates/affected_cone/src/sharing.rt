@@ -18,7 +18,9 @@ fn collected<H: Threads + Sync, I: Sync, R: Send + Drop, F: Fn(&I) -> Result<R, 
     f: &F,
 ) -> Result<Result<Vec<R>, Memory>, AllocError>
     requires { F.IsAlwaysCallable f.now }
-    ensures { IfOk result (λ found. IfOk found (λ results. IsMap (λ x r. FnReturnsAt F.Fn f.now x (Ok r)) items.now results.items)) }
+    ensures { IfOk result
+        (λ found. IfOk found
+        (λ results. IsMap (λ x r. FnReturnsAt F.Fn f.now x (Ok r)) items.now results.items)) }
 {
     let call = |item: &I| -> Result<R, Memory>
         requires { F.IsAlwaysCallable f.now }

@@ -58,9 +58,12 @@ pub(crate) fn negative_total(ends: &[EndSlacks], kind: Kind) -> i64
 /// The totals of both kinds, with a number.
 pub(crate) fn totals_of(number: u64, ends: &[EndSlacks]) -> Totals
     ensures number { result.number ≡ number }
-    ensures setup_worst { result.setup_wns ≡ as_fs (least_slack None (map (slack_in Kind.Setup) ends.now)) }
-    ensures setup_total { result.setup_tns.0 ≡ floored (pos 0) (map (slack_in Kind.Setup) ends.now) }
-    ensures hold_worst { result.hold_wns ≡ as_fs (least_slack None (map (slack_in Kind.Hold) ends.now)) }
+    ensures setup_worst { result.setup_wns
+        ≡ as_fs (least_slack None (map (slack_in Kind.Setup) ends.now)) }
+    ensures setup_total { result.setup_tns.0
+        ≡ floored (pos 0) (map (slack_in Kind.Setup) ends.now) }
+    ensures hold_worst { result.hold_wns
+        ≡ as_fs (least_slack None (map (slack_in Kind.Hold) ends.now)) }
     ensures hold_total { result.hold_tns.0 ≡ floored (pos 0) (map (slack_in Kind.Hold) ends.now) }
 {
     Totals {

@@ -44,7 +44,8 @@ fn same_numbers(a: &[u32], b: &[u32]) -> bool
 /// Whether two graphs list the same nodes of the clock network in the same places: then each node with a place has
 /// it in the base.
 fn same_places(base: &Graph, graph: &Graph) -> bool
-    ensures { IsTrue result → (node place : ℕ) → place_at graph.now node ≡ Some place → place_at base.now node ≡ Some place }
+    ensures { IsTrue result → (node place : ℕ) → place_at graph.now node ≡ Some place
+        → place_at base.now node ≡ Some place }
 {
     same_numbers(base.clock_nodes(), graph.clock_nodes())
 }

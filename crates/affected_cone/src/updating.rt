@@ -64,8 +64,13 @@ fn reach_from(
     // The base and what was touched are asked for by the contract alone.
     let _ = base;
     let _ = touched;
-    let nodes = nodes_behind(alloc, graph, seeds.as_slice())?;
-    Ok(Reach { seeds, nodes })
+    match nodes_behind(alloc, graph, seeds.as_slice()) {
+        Ok(nodes) => Ok(Reach { seeds, nodes }),
+        Err(wanting) => {
+            drop(seeds);
+            Err(wanting)
+        }
+    }
 }
 
 /// Where an ECO begins to change the analysis, and all that lies behind.
@@ -90,7 +95,9 @@ fn changed(
     requires made { IsEditOf base.now.graph.now.stored (touch_of touched.now) graph.now.stored }
     requires arrivals { AreArrivals graph.now.stored arrivals.now }
     requires reach { IsReach base.now.graph.now.stored graph.now (touch_of touched.now) reach.now }
-    ensures { IfOk result (AreThose graph.now.stored (row_differs base.now.graph.now.stored.design graph.now.stored.design)) }
+    ensures { IfOk result
+        (AreThose graph.now.stored
+        (row_differs base.now.graph.now.stored.design graph.now.stored.design)) }
 {
     base.graph.laws();
     graph.laws();
@@ -132,11 +139,12 @@ fn required_after<H: Threads + Sync, G: Gate, L>(
     ensures required { IfOk result (λ required. AreRequired store.now required.rows) }
     ensures fine { OnOk result (NoOrigin store.now.design) }
     ensures least { steps.old ≤ steps.new }
-    ensures steps { steps.new ≤ steps.old + backward_count base.now.graph.now.stored.design store.now.design (touch_of touched.now) }
+    ensures steps { steps.new ≤ steps.old + backward_count base.now.graph.now.stored.design
+        store.now.design (touch_of touched.now) }
     ensures refused { IfErr result (IsRangeFault store.now.design) }
 {
     let changed = changed(alloc, base, graph, touched, arrivals, reach)?;
-    base.required.update(
+    let required = base.required.update(
         rt,
         alloc,
         base.graph,
@@ -149,7 +157,9 @@ fn required_after<H: Threads + Sync, G: Gate, L>(
         workers,
         gate,
         steps,
-    )
+    );
+    drop(changed);
+    required
 }
 
 /// The slacks of endpoints after an ECO.
@@ -164,7 +174,8 @@ fn ends_renewed<H: Threads + Sync>(
     requires base { IsBase base.now }
     requires search { IsSearch search.now }
     requires made { IsEditOf base.now.graph.now.stored (touch_of touched.now) search.now.store.now }
-    requires reach { IsReach base.now.graph.now.stored search.now.graph.now (touch_of touched.now) reach.now }
+    requires reach { IsReach base.now.graph.now.stored search.now.graph.now (touch_of touched.now)
+        reach.now }
     ensures { IfOk result (IsMap (IsEnd search.now.store.now) (ends_of search.now.store.now)) }
 {
     base.graph.store().laws();
@@ -240,13 +251,20 @@ fn with_tree<H: Threads + Sync>(
         arrivals: &arrivals,
         tree: tree.get(),
     };
-    let ends = ends_renewed(rt, alloc, base, &search, touched, reach)?;
-    Ok(Found {
-        arrivals,
-        required,
-        tree,
-        ends,
-    })
+    match ends_renewed(rt, alloc, base, &search, touched, reach) {
+        Ok(ends) => Ok(Found {
+            arrivals,
+            required,
+            tree,
+            ends,
+        }),
+        Err(wanting) => {
+            drop(arrivals);
+            drop(required);
+            tree.discard();
+            Err(wanting)
+        }
+    }
 }
 
 /// What is found after an ECO, from arrivals and required times on.
@@ -272,10 +290,16 @@ fn with_required<H: Threads + Sync>(
     requires required { AreRequired store.now required.rows }
     ensures { IfOk result (IsFound store.now graph.now) }
 {
-    let tree = tree_after(alloc, base, store, graph, touched, reach, &arrivals)?;
-    with_tree(
-        rt, alloc, base, store, graph, touched, reach, arrivals, required, tree,
-    )
+    match tree_after(alloc, base, store, graph, touched, reach, &arrivals) {
+        Ok(tree) => with_tree(
+            rt, alloc, base, store, graph, touched, reach, arrivals, required, tree,
+        ),
+        Err(wanting) => {
+            drop(arrivals);
+            drop(required);
+            Err(wanting)
+        }
+    }
 }
 
 /// What is found after an ECO, from arrivals on.
@@ -303,16 +327,63 @@ fn with_arrivals<H: Threads + Sync, G: Gate, L>(
     requires fine { AreRowsFine store.now.design }
     ensures found { IfOk result (IsFound store.now graph.now) }
     ensures least { steps.old ≤ steps.new }
-    ensures steps { steps.new ≤ steps.old + backward_count base.now.graph.now.stored.design store.now.design (touch_of touched.now) }
+    ensures steps { steps.new ≤ steps.old + backward_count base.now.graph.now.stored.design
+        store.now.design (touch_of touched.now) }
     ensures refused { IfErr result (IsRangeFault store.now.design) }
 {
-    let required = required_after(
+    match required_after(
         rt, alloc, base, store, graph, touched, &arrivals, reach, workers, gate, steps,
+    ) {
+        Ok(required) => {
+            let found = with_required(
+                rt, alloc, base, store, graph, touched, reach, arrivals, required,
+            )?;
+            Ok(found)
+        }
+        Err(fault) => {
+            drop(arrivals);
+            Err(fault)
+        }
+    }
+}
+
+/// What is found after an ECO, by where it begins and all that lies behind.
+fn find_behind<H: Threads + Sync, G: Gate, L>(
+    rt: &H,
+    alloc: Global,
+    base: &Base<'_>,
+    store: &Store,
+    graph: &Graph,
+    touched: &Touched,
+    reach: &Reach,
+    workers: u32,
+    gate: &G,
+    steps: &mut Steps<L>,
+) -> Result<Found, Fault>
+    requires some { 1 ≤ workers }
+    requires most { workers ≤ 32 }
+    requires sound { IsSound store.now.design }
+    requires graph { graph.now.stored ≡ store.now }
+    requires base { IsBase base.now }
+    requires made { IsEditOf base.now.graph.now.stored (touch_of touched.now) store.now }
+    requires reach { IsReach base.now.graph.now.stored graph.now (touch_of touched.now) reach.now }
+    ensures found { IfOk result (IsFound store.now graph.now) }
+    ensures least { OnOk result
+        (steps.old + forward_count base.now.graph.now.stored.design store.now.design
+        (touch_of touched.now) ≤ steps.new) }
+    ensures rises { steps.old ≤ steps.new }
+    ensures steps { steps.new ≤ steps.old + forward_count base.now.graph.now.stored.design
+        store.now.design (touch_of touched.now) + backward_count base.now.graph.now.stored.design
+        store.now.design (touch_of touched.now) }
+    ensures refused { IfErr result (IsRangeFault store.now.design) }
+{
+    let seeds = reach.seeds.as_slice();
+    let arrivals = base.arrivals.update(
+        rt, alloc, base.graph, store, graph, touched, seeds, workers, gate, steps,
     )?;
-    let found = with_required(
-        rt, alloc, base, store, graph, touched, reach, arrivals, required,
-    )?;
-    Ok(found)
+    with_arrivals(
+        rt, alloc, base, store, graph, touched, reach, arrivals, workers, gate, steps,
+    )
 }
 
 /// What is found of the store that an ECO made of a base, by that many threads.
@@ -334,17 +405,19 @@ pub(crate) fn find_after<H: Threads + Sync, G: Gate, L>(
     requires base { IsBase base.now }
     requires made { IsEditOf base.now.graph.now.stored (touch_of touched.now) store.now }
     ensures found { IfOk result (IsFound store.now graph.now) }
-    ensures least { OnOk result (steps.old + forward_count base.now.graph.now.stored.design store.now.design (touch_of touched.now) ≤ steps.new) }
+    ensures least { OnOk result
+        (steps.old + forward_count base.now.graph.now.stored.design store.now.design
+        (touch_of touched.now) ≤ steps.new) }
     ensures rises { steps.old ≤ steps.new }
-    ensures steps { steps.new ≤ steps.old + forward_count base.now.graph.now.stored.design store.now.design (touch_of touched.now) + backward_count base.now.graph.now.stored.design store.now.design (touch_of touched.now) }
+    ensures steps { steps.new ≤ steps.old + forward_count base.now.graph.now.stored.design
+        store.now.design (touch_of touched.now) + backward_count base.now.graph.now.stored.design
+        store.now.design (touch_of touched.now) }
     ensures refused { IfErr result (IsRangeFault store.now.design) }
 {
     let reach = reach_of(alloc, base.graph, graph, touched)?;
-    let seeds = reach.seeds.as_slice();
-    let arrivals = base.arrivals.update(
-        rt, alloc, base.graph, store, graph, touched, seeds, workers, gate, steps,
-    )?;
-    with_arrivals(
-        rt, alloc, base, store, graph, touched, &reach, arrivals, workers, gate, steps,
-    )
+    let found = find_behind(
+        rt, alloc, base, store, graph, touched, &reach, workers, gate, steps,
+    );
+    drop(reach);
+    found
 }

@@ -69,7 +69,9 @@ fn first_from(delays: &[ArcDelay], from: u32) -> Option<&ArcDelay>
 
 /// The delay that a list has of the arc from a node.
 fn delay_from(delays: &[ArcDelay], split: Split, from: u32) -> Option<i64>
-    ensures { result ≡ option_and_then (delay_in split) (find (λ (d : ArcDelay). nat_eq d.from from) delays.now) }
+    ensures { result
+        ≡ option_and_then (delay_in split)
+        (find (λ (d : ArcDelay). nat_eq d.from from) delays.now) }
 {
     match first_from(delays, from) {
         Some(delay) => delay_in(delay, split),

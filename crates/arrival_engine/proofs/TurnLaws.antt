@@ -1,12 +1,19 @@
 -- The loops of a turn of an update: what is told of nodes, what they mark, and what is put.
 
-use Rattle.std.proofs.Common.{◌≡◌, ℕ, suc, ◌+◌, ◌<◌, Bool, true, false, ◌||◌, List, [], ◌∷◌, ◌++◌, map, take, drop, length, get_or, Result, Ok, Err, refl, sym, ap, subst, ◌∙◌, arith}
-use Rattle.std.specs.Prelude.{All, OnOk, slice_set}
+use Rattle.std.proofs.Common.{◌≡◌, ℕ, suc, ◌+◌, ◌<◌, Bool, true, false, ◌||◌, List, [], ◌∷◌, ◌++◌, map, take, drop, length, get_or, ℤ, Option, None, Some, Result, Ok, Err, refl, sym, ap, subst, ◌∙◌, arith}
+use Rattle.std.specs.Prelude.{All, OnOk, nat_eq, ◌&&◌, slice_get, slice_set}
 use Rattle.std.specs.List.{list_any}
-use Rattle.std.proofs.lemmas.List.{drop_more, get_or_default, get_or-map, length-map}
+use Rattle.std.specs.Ordering.{int_eq}
+use Rattle.std.specs.Cmp.Lexicographic.{pointwise}
+use Rattle.std.proofs.lemmas.Bool.{false≢true, and_parts}
+use Rattle.std.proofs.lemmas.Bool.Decides.{Decides-int_eq, Decides-eqb}
+use Rattle.std.proofs.lemmas.List.{drop_more, get_or_default, get_or-map, length-map, set-get_or}
 use Rattle.std.proofs.lemmas.List.Folds.{list_any_more}
+use Rattle.std.proofs.lemmas.Option.{get_or_from_slice_get}
 use Rattle.timing_defs.specs.declared.faults.Fault.{Fault}
 use Rattle.timing_defs.specs.declared.rows.NodeRow.{NodeRow}
+use Rattle.timing_rules.specs.Cones.{same_option}
+use Rattle.arc_delays.specs.declared.tables.ArcDelay.{ArcDelay}
 use Rattle.level_workers.specs.Mapped.{IsMap}
 use Rattle.level_workers.proofs.Joins.{map-more}
 use Rattle.level_cone.specs.Cone.{put_all}
@@ -16,7 +23,7 @@ use Rattle.pin_graph.specs.Graphs.{Graphed, level_at}
 use Rattle.pin_graph.specs.RowTables.{row_numbered, IsRangeFault}
 use Rattle.arrival_engine.specs.declared.nodes.NodeAnswer.{NodeAnswer}
 use Rattle.arrival_engine.specs.Analysed.{IsNodeAnswer, IsAnswer, IsLevelAnswer}
-use Rattle.arrival_engine.specs.Updated.{rows_told}
+use Rattle.arrival_engine.specs.Updated.{same_delay, rows_told}
 
 -- the first answer that is left is told
 module _ (g : Graphed) (level : ℕ) (nodes : List ℕ) (all : All (λ n. (n < node_bound g.stored) × (level_at g n ≡ level)) nodes)
@@ -122,3 +129,34 @@ pub put_done : {X : Type 0} (f : NodeAnswer → X) (table : List X) (nodes : Lis
 put_done f table [] items goal none was = was
 put_done f table (n ∷ nodes) [] goal none was = was
 put_done f table (n ∷ nodes) (a ∷ items) goal none was = absurd (omega (arith, none))
+
+-- what stands at a place already need not be written there
+pub set_same : {X : Type 0} (xs : List X) (i : ℕ) (d told : X) → get_or xs i d ≡ told → xs ≡ slice_set xs i told
+set_same xs i d told same = sym (set-get_or xs i d) ∙ ap (slice_set xs i) same
+
+pub set_found : {X : Type 0} (xs : List X) (i : ℕ) (was told : X) → slice_get xs i ≡ Some was → was ≡ told → xs ≡ slice_set xs i told
+set_found xs i was told here same = set_same xs i was told (get_or_from_slice_get xs i was was here ∙ same)
+
+-- delays of arcs that compare as the same are equal
+value_is : (a b : Option ℤ) → same_option int_eq a b ≡ true → a ≡ b
+value_is None None e = refl
+value_is None (Some y) e = absurd (false≢true e)
+value_is (Some x) None e = absurd (false≢true e)
+value_is (Some x) (Some y) e = ap Some ((Decides-int_eq x y).0 e)
+
+delay_is : (a b : ArcDelay) → same_delay a b ≡ true → a ≡ b
+delay_is a b e =
+    let two = and_parts (nat_eq a.from b.from && same_option int_eq a.early b.early) (same_option int_eq a.late b.late) e in
+    let one = and_parts (nat_eq a.from b.from) (same_option int_eq a.early b.early) two.0 in
+    let from = (Decides-eqb a.from b.from).0 one.0 in
+    let early = value_is a.early b.early one.1 in
+    let late = value_is a.late b.late two.1 in
+    λ k. record { from = from k; early = early k; late = late k }
+
+pub delays_are : (xs ys : List ArcDelay) → pointwise same_delay xs ys ≡ true → xs ≡ ys
+delays_are [] [] e = refl
+delays_are [] (y ∷ ys) e = absurd (false≢true e)
+delays_are (x ∷ xs) [] e = absurd (false≢true e)
+delays_are (x ∷ xs) (y ∷ ys) e =
+    let both = and_parts (same_delay x y) (pointwise same_delay xs ys) e in
+    ap (λ (d : ArcDelay). d ∷ xs) (delay_is x y both.0) ∙ ap (λ (ds : List ArcDelay). y ∷ ds) (delays_are xs ys both.1)

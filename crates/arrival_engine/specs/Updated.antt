@@ -1,12 +1,13 @@
 -- The update of rows after an ECO: which nodes are evaluated, by the numbers of the edited store.
 
-use Rattle.std.specs.Prelude.{ℕ, ◌≡◌, ◌<◌, ◌||◌, ◌&&◌, nat_le, filter, Bool, not, if◌then◌else◌, List, [], map, length, get_or, Some, is_some}
+use Rattle.std.specs.Prelude.{ℕ, ◌≡◌, ◌<◌, ◌||◌, ◌&&◌, nat_eq, nat_le, filter, Bool, not, if◌then◌else◌, List, [], map, length, get_or, Some, is_some}
 use Rattle.std.specs.Arc.{arc_value}
+use Rattle.std.specs.Ordering.{int_eq}
 use Rattle.timing_defs.specs.declared.rows.NodeRow.{NodeRow}
 use Rattle.timing_defs.specs.Netlist.{Node}
 use Rattle.timing_rules.specs.Rows.{empty_row}
 use Rattle.timing_defs.specs.Touches.{Touch}
-use Rattle.timing_rules.specs.Cones.{same_row, is_seed, row_differs}
+use Rattle.timing_rules.specs.Cones.{same_option, same_row, is_seed, row_differs}
 use Rattle.netlist_store.specs.Numbering.{Stored, is_number}
 use Rattle.level_workers.specs.Mapped.{IsMap}
 use Rattle.level_cone.specs.Cone.{Cone, put_all}
@@ -53,6 +54,10 @@ forward_cone s touch g = record {
 -- whether a row differs from that which the base has at its number, or the base has none there
 abbrev pub is_moved : Stored → List NodeRow → ℕ → NodeRow → Bool
 is_moved s rows n row = not (is_number s.pins (pin_under n)) || not (same_row (get_or rows n empty_row) row)
+
+-- whether two delays of arcs are the same
+abbrev pub same_delay : ArcDelay → ArcDelay → Bool
+same_delay a b = nat_eq a.from b.from && same_option int_eq a.early b.early && same_option int_eq a.late b.late
 
 -- what is answered for some nodes, in their order
 abbrev pub rows_told : List NodeAnswer → List NodeRow

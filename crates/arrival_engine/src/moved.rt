@@ -28,7 +28,8 @@ struct Both<'a> {
 /// Whether a number is that of a node of the edited store whose row is another than the base's.
 fn is_other(both: &Both<'_>, node: u32) -> bool
     requires rows { AreRows both.now.graph.now.stored both.now.after.now }
-    ensures { result ≡ is_other both.now.base.now.stored both.now.graph.now.stored both.now.before.now node }
+    ensures { result
+        ≡ is_other both.now.base.now.stored both.now.graph.now.stored both.now.before.now node }
 {
     has_node(both.graph, node)
         && ((node as usize) >= both.before.len()
@@ -38,7 +39,11 @@ fn is_other(both: &Both<'_>, node: u32) -> bool
 /// Adds a node, where its row is another.
 fn add_other(found: &mut Items<u32>, both: &Both<'_>, node: u32) -> Result<(), Memory>
     requires rows { AreRows both.now.graph.now.stored both.now.after.now }
-    ensures { OnOk result (found.new ≡ found.old ++ (if is_other both.now.base.now.stored both.now.graph.now.stored both.now.before.now node then node ∷ [] else [])) }
+    ensures { OnOk result
+        (found.new
+        ≡ found.old ++
+        (if is_other both.now.base.now.stored both.now.graph.now.stored both.now.before.now node
+        then node ∷ [] else [])) }
 {
     if is_other(both, node) {
         found.push(node)?;
@@ -49,7 +54,10 @@ fn add_other(found: &mut Items<u32>, both: &Both<'_>, node: u32) -> Result<(), M
 /// Those of some nodes whose row is another.
 fn others(alloc: Global, both: &Both<'_>, nodes: &[u32]) -> Result<Items<u32>, Memory>
     requires rows { AreRows both.now.graph.now.stored both.now.after.now }
-    ensures { IfOk result (λ found. found ≡ filter (is_other both.now.base.now.stored both.now.graph.now.stored both.now.before.now) nodes.now) }
+    ensures { IfOk result
+        (λ found. found
+        ≡ filter (is_other both.now.base.now.stored both.now.graph.now.stored both.now.before.now)
+        nodes.now) }
 {
     let mut found = Items::new(alloc);
     for node in nodes {
@@ -71,7 +79,8 @@ impl Arrivals {
         touched: &Touched,
         nodes: &[u32],
     ) -> Result<Items<u32>, Memory>
-        requires made { IsEditOf before.now.stored (record { insts = touched.now.insts; nets = touched.now.nets }) graph.now.stored }
+        requires made { IsEditOf before.now.stored
+            (record { insts = touched.now.insts; nets = touched.now.nets }) graph.now.stored }
         requires was { AreArrivals before.now.stored base.now }
         requires rows { AreRows graph.now.stored self.now.rows }
         ensures { IfOk result (AreOther before.now.stored graph.now.stored nodes.now) }

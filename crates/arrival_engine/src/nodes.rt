@@ -87,7 +87,8 @@ fn befores<'a>(
 ) -> Result<Vec<Before<'a>>, Memory>
     requires node { node < node_bound graph.now.stored }
     requires arcs { All (IsThere graph.now rows.now) (fan_at graph.now.ins node) }
-    ensures { IfOk result (λ found. IsMap (IsBefore graph.now rows.now) (fan_at graph.now.ins node) found.items) }
+    ensures { IfOk result
+        (λ found. IsMap (IsBefore graph.now rows.now) (fan_at graph.now.ins node) found.items) }
 {
     let arcs = graph.arcs_in(node);
     let mut found = Vec::with_capacity(alloc, arcs.len())?;

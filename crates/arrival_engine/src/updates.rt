@@ -20,13 +20,13 @@ ghost use Rattle.pin_graph.specs.RowTables.{row_numbered, AreRows, AreRowsFine, 
 ghost use Rattle.arc_delays.specs.Delays.{AreDelays};
 ghost use Rattle.arrival_engine.specs.Analysed.{AreTables, AreDoneBelow, IsPlan, IsNodeAnswer, IsLevelAnswer};
 ghost use Rattle.arrival_engine.specs.Planned.{ArePlanned};
-ghost use Rattle.arrival_engine.specs.Updated.{AreArrivals, AreBegun, AreRenewed, IsLevelPut, heads_of, is_moved, rows_told, delays_told};
+ghost use Rattle.arrival_engine.specs.Updated.{AreArrivals, AreBegun, AreRenewed, IsLevelPut, heads_of, is_moved, same_delay, rows_told, delays_told};
 
 use crate::nodes::{NodeAnswer, empty_row};
 use crate::passes::level_answers;
 use crate::tables::{Arrivals, shared, sized};
-use arc_delays::ArcDelays;
-use cow_table::CowTable;
+use arc_delays::{ArcDelay, ArcDelays};
+use cow_table::{CowTable, Held};
 use level_cone::{LevelQueue, LevelTurn};
 use netlist_store::{Store, Touched};
 use node_rows::{Setting, Wires};
@@ -80,7 +80,9 @@ pub(crate) fn is_moved(base: &Graph, rows: &CowTable<NodeRow>, node: u32, row: &
 /// Lets nodes wait for their levels.
 fn wait_all(graph: &Graph, waiting: &mut LevelQueue, nodes: &[u32]) -> Result<(), Memory>
     requires { All (λ n. n < node_bound graph.now.stored) nodes.now }
-    ensures { OnOk result ((k n : ℕ) → waits waiting.new k n ≡ (waits waiting.old k n || stands_in (level_at graph.now) nodes.now k n)) }
+    ensures { OnOk result
+        ((k n : ℕ) → waits waiting.new k n
+        ≡ (waits waiting.old k n || stands_in (level_at graph.now) nodes.now k n)) }
 {
     for node in nodes {
         waiting.add(graph.level(*node), *node)?;
@@ -91,7 +93,11 @@ fn wait_all(graph: &Graph, waiting: &mut LevelQueue, nodes: &[u32]) -> Result<()
 /// Lets the nodes to which arcs lead wait for their levels.
 fn wait_heads(graph: &Graph, waiting: &mut LevelQueue, arcs: &[GraphArc]) -> Result<(), Memory>
     requires { All (λ a. a.to < node_bound graph.now.stored) arcs.now }
-    ensures { OnOk result ((k n : ℕ) → waits waiting.new k n ≡ (waits waiting.old k n || list_any (λ a. (level_at graph.now a.to == k) && (a.to == n)) arcs.now)) }
+    ensures { OnOk result
+        ((k n : ℕ) → waits waiting.new k n
+        ≡
+        (waits waiting.old k n || list_any (λ a. (level_at graph.now a.to == k) && (a.to == n))
+        arcs.now)) }
 {
     for arc in arcs {
         waiting.add(graph.level(arc.to), arc.to)?;
@@ -111,7 +117,12 @@ fn wait_after(
     requires low { node < node_bound graph.now.stored }
     requires long { node < length rows.now }
     requires heads { All (λ n. n < node_bound graph.now.stored) (heads_of graph.now node) }
-    ensures { OnOk result ((k n : ℕ) → waits waiting.new k n ≡ (waits waiting.old k n || (is_moved base.now.stored rows.now node row.now && stands_in (level_at graph.now) (heads_of graph.now node) k n))) }
+    ensures { OnOk result
+        ((k n : ℕ) → waits waiting.new k n
+        ≡
+        (waits waiting.old k n ||
+        (is_moved base.now.stored rows.now node row.now && stands_in (level_at graph.now)
+        (heads_of graph.now node) k n))) }
 {
     if is_moved(base, rows, node, row) {
         return wait_heads(graph, waiting, graph.arcs_out(node));
@@ -128,10 +139,17 @@ fn wait_after_all(
     nodes: &[u32],
     answers: &[NodeAnswer],
 ) -> Result<(), Memory>
-    requires nodes { All (λ n. (n < node_bound graph.now.stored) × (n < length rows.now)) nodes.now }
-    requires heads { All (λ m. All (λ n. n < node_bound graph.now.stored) (heads_of graph.now m)) nodes.now }
+    requires nodes { All (λ n. (n < node_bound graph.now.stored) × (n < length rows.now))
+        nodes.now }
+    requires heads { All (λ m. All (λ n. n < node_bound graph.now.stored) (heads_of graph.now m))
+        nodes.now }
     requires rows { rows_told answers.now ≡ map (row_numbered graph.now.stored) nodes.now }
-    ensures { OnOk result ((k n : ℕ) → waits waiting.new k n ≡ (waits waiting.old k n || list_any (λ m. is_moved base.now.stored rows.now m (row_numbered graph.now.stored m) && stands_in (level_at graph.now) (heads_of graph.now m) k n) nodes.now)) }
+    ensures { OnOk result
+        ((k n : ℕ) → waits waiting.new k n
+        ≡
+        (waits waiting.old k n || list_any
+        (λ m. is_moved base.now.stored rows.now m (row_numbered graph.now.stored m) && stands_in
+        (level_at graph.now) (heads_of graph.now m) k n) nodes.now)) }
 {
     for (at, node) in nodes.iter().enumerate() {
         wait_after(base, graph, rows, waiting, *node, &answers[at].row)?;
@@ -147,7 +165,8 @@ fn told(
     nodes: &[u32],
     answers: Items<Result<NodeAnswer, Fault>>,
 ) -> Result<Items<NodeAnswer>, Fault>
-    requires nodes { All (λ n. (n < node_bound graph.now.stored) × (level_at graph.now n ≡ level)) nodes.now }
+    requires nodes { All (λ n. (n < node_bound graph.now.stored) × (level_at graph.now n ≡ level))
+        nodes.now }
     requires answers { IsMap (IsLevelAnswer graph.now level) nodes.now answers }
     ensures told { IfOk result (IsMap (IsNodeAnswer graph.now) nodes.now) }
     ensures err { IfErr result (IsRangeFault graph.now.stored.design) }
@@ -166,15 +185,62 @@ fn told(
     Ok(found)
 }
 
+/// Writes the row of a node, where it is another than the one that is there.
+fn put_row(rows: &mut CowTable<NodeRow>, node: u32, row: NodeRow) -> Result<(), Memory>
+    requires { node < length rows.old }
+    ensures { OnOk result (rows.new ≡ slice_set rows.old node row) }
+{
+    if is_same(rows.get(node as usize), &row) {
+        return Ok(());
+    }
+    rows.set(node as usize, row)
+}
+
+/// Whether two delays of an arc are the same.
+fn same_delay(a: &ArcDelay, b: &ArcDelay) -> bool
+    ensures { result ≡ same_delay a.now b.now }
+{
+    a.from == b.from && a.early == b.early && a.late == b.late
+}
+
+/// Whether two lists of delays are the same, in order.
+fn same_delays(a: &[ArcDelay], b: &[ArcDelay]) -> bool
+    ensures { result ≡ pointwise same_delay a.now b.now }
+{
+    let mut rest = b;
+    for delay in a {
+        let [first, more @ ..] = rest else {
+            return false;
+        };
+        if !same_delay(delay, first) {
+            return false;
+        }
+        rest = more;
+    }
+    rest.is_empty()
+}
+
+/// Writes the delays of the arcs into a node, where they are others than those that are there.
+fn put_delays(delays: &mut ArcDelays, node: u32, found: Held<Items<ArcDelay>>) -> Result<(), Memory>
+    requires { node < length delays.old }
+    ensures { OnOk result (delays.new ≡ slice_set delays.old node found) }
+{
+    if same_delays(delays.of_node(node), found.get().as_slice()) {
+        return Ok(());
+    }
+    delays.put(node, found)
+}
+
 /// Writes what is answered for a node.
 fn put(tables: &mut Renewed, node: u32, answer: NodeAnswer) -> Result<(), Memory>
     requires row { node < length tables.old.rows }
     requires delay { node < length tables.old.delays }
     ensures rows { OnOk result (tables.new.rows ≡ slice_set tables.old.rows node answer.row) }
-    ensures delays { OnOk result (tables.new.delays ≡ slice_set tables.old.delays node answer.delays) }
+    ensures delays { OnOk result
+        (tables.new.delays ≡ slice_set tables.old.delays node answer.delays) }
 {
-    tables.delays.put(node, answer.delays)?;
-    tables.rows.set(node as usize, answer.row)
+    put_delays(&mut tables.delays, node, answer.delays)?;
+    put_row(&mut tables.rows, node, answer.row)
 }
 
 /// Writes what is answered for the nodes of a level, in turn.
@@ -182,8 +248,10 @@ fn put_each(tables: &mut Renewed, nodes: &[u32], answers: Items<NodeAnswer>) -> 
     requires rows { All (λ n. n < length tables.old.rows) nodes.now }
     requires delays { All (λ n. n < length tables.old.delays) nodes.now }
     requires answers { length answers ≡ length nodes.now }
-    ensures rows { OnOk result (tables.new.rows ≡ put_all tables.old.rows nodes.now (rows_told answers)) }
-    ensures delays { OnOk result (tables.new.delays ≡ put_all tables.old.delays nodes.now (delays_told answers)) }
+    ensures rows { OnOk result
+        (tables.new.rows ≡ put_all tables.old.rows nodes.now (rows_told answers)) }
+    ensures delays { OnOk result
+        (tables.new.delays ≡ put_all tables.old.delays nodes.now (delays_told answers)) }
 {
     let mut at = 0;
     for answer in answers.into_vec() {
@@ -221,11 +289,20 @@ fn renew_level<H: Threads + Sync, G: Gate, L>(
     requires some { 1 ≤ workers }
     requires most { workers ≤ 32 }
     requires plan { IsPlan setting.now graph.now }
-    requires nodes { All (λ n. (n < node_bound graph.now.stored) × (level_at graph.now n ≡ turn.now.level)) turn.now.nodes }
+    requires nodes { All
+        (λ n. (n < node_bound graph.now.stored) × (level_at graph.now n ≡ turn.now.level))
+        turn.now.nodes }
     requires done { AreDoneBelow graph.now tables.old.rows turn.now.level }
     requires delays { length tables.old.delays ≡ node_bound graph.now.stored }
-    ensures put { OnOk result (IsLevelPut graph.now turn.now.nodes tables.old.rows tables.old.delays tables.new.rows tables.new.delays) }
-    ensures waits { OnOk result ((k n : ℕ) → waits waiting.new k n ≡ (waits waiting.old k n || list_any (λ m. is_moved base.now.stored tables.old.rows m (row_numbered graph.now.stored m) && stands_in (level_at graph.now) (heads_of graph.now m) k n) turn.now.nodes)) }
+    ensures put { OnOk result
+        (IsLevelPut graph.now turn.now.nodes tables.old.rows tables.old.delays tables.new.rows
+        tables.new.delays) }
+    ensures waits { OnOk result
+        ((k n : ℕ) → waits waiting.new k n
+        ≡
+        (waits waiting.old k n || list_any
+        (λ m. is_moved base.now.stored tables.old.rows m (row_numbered graph.now.stored m) &&
+        stands_in (level_at graph.now) (heads_of graph.now m) k n) turn.now.nodes)) }
     ensures steps { steps.new ≡ steps.old + length turn.now.nodes }
     ensures err { IfErr result (IsRangeFault graph.now.stored.design) }
 {
@@ -275,14 +352,20 @@ fn renew<H: Threads + Sync, G: Gate, L>(
     requires some { 1 ≤ workers }
     requires most { workers ≤ 32 }
     requires plan { IsPlan setting.now graph.now }
-    requires made { IsEditOf base.now.stored (record { insts = touched.now.insts; nets = touched.now.nets }) graph.now.stored }
+    requires made { IsEditOf base.now.stored
+        (record { insts = touched.now.insts; nets = touched.now.nets }) graph.now.stored }
     requires was { AreArrivals base.now.stored was.now }
-    requires seeds { AreSeeds base.now.stored graph.now.stored (record { insts = touched.now.insts; nets = touched.now.nets }) seeds.now }
+    requires seeds { AreSeeds base.now.stored graph.now.stored
+        (record { insts = touched.now.insts; nets = touched.now.nets }) seeds.now }
     requires begun { AreBegun base.now.stored graph.now.stored tables.old.rows tables.old.delays }
     ensures found { OnOk result (AreRenewed graph.now tables.new.rows tables.new.delays) }
-    ensures steps { OnOk result (steps.new ≡ steps.old + forward_count base.now.stored.design graph.now.stored.design (record { insts = touched.now.insts; nets = touched.now.nets })) }
+    ensures steps { OnOk result
+        (steps.new
+        ≡ steps.old + forward_count base.now.stored.design graph.now.stored.design
+        (record { insts = touched.now.insts; nets = touched.now.nets })) }
     ensures least { steps.old ≤ steps.new }
-    ensures few { steps.new ≤ steps.old + forward_count base.now.stored.design graph.now.stored.design (record { insts = touched.now.insts; nets = touched.now.nets }) }
+    ensures few { steps.new ≤ steps.old + forward_count base.now.stored.design
+        graph.now.stored.design (record { insts = touched.now.insts; nets = touched.now.nets }) }
     ensures err { IfErr result (IsRangeFault graph.now.stored.design) }
 {
     setting.store.laws();
@@ -316,7 +399,9 @@ fn renew<H: Threads + Sync, G: Gate, L>(
 fn empty_pin(alloc: Global, rows: &mut CowTable<NodeRow>, pin: u32) -> Result<(), Memory>
     requires { (pin : ℕ) → 2 * pin < length rows.old → 2 * pin + 1 < length rows.old }
     ensures long { OnOk result (length rows.new ≡ length rows.old) }
-    ensures rows { OnOk result ((n : ℕ) → n < length rows.old → get_or rows.new n empty_row ≡ (if nat_eq (pin_under n) pin then empty_row else get_or rows.old n empty_row)) }
+    ensures rows { OnOk result
+        ((n : ℕ) → n < length rows.old → get_or rows.new n empty_row
+        ≡ (if nat_eq (pin_under n) pin then empty_row else get_or rows.old n empty_row)) }
 {
     let node = 2 * pin as usize;
     if node >= rows.len() {
@@ -330,7 +415,11 @@ fn empty_pin(alloc: Global, rows: &mut CowTable<NodeRow>, pin: u32) -> Result<()
 fn empty_pins(alloc: Global, rows: &mut CowTable<NodeRow>, pins: &[u32]) -> Result<(), Memory>
     requires { (pin : ℕ) → 2 * pin < length rows.old → 2 * pin + 1 < length rows.old }
     ensures long { OnOk result (length rows.new ≡ length rows.old) }
-    ensures rows { OnOk result ((n : ℕ) → n < length rows.old → get_or rows.new n empty_row ≡ (if list_any (nat_eq (pin_under n)) pins.now then empty_row else get_or rows.old n empty_row)) }
+    ensures rows { OnOk result
+        ((n : ℕ) → n < length rows.old → get_or rows.new n empty_row
+        ≡
+        (if list_any (nat_eq (pin_under n)) pins.now then empty_row else get_or rows.old n
+        empty_row)) }
 {
     for pin in pins {
         empty_pin(alloc, rows, *pin)?;
@@ -348,7 +437,8 @@ impl Arrivals {
         graph: &Graph,
         touched: &Touched,
     ) -> Result<Renewed, Memory>
-        requires made { IsEditOf base.now.stored (record { insts = touched.now.insts; nets = touched.now.nets }) graph.now.stored }
+        requires made { IsEditOf base.now.stored
+            (record { insts = touched.now.insts; nets = touched.now.nets }) graph.now.stored }
         requires was { AreArrivals base.now.stored self.now }
         ensures { IfOk result (λ t. AreBegun base.now.stored graph.now.stored t.rows t.delays) }
     {
@@ -370,10 +460,12 @@ impl Arrivals {
         store: &Store,
         touched: &Touched,
     ) -> Result<Arc<Wires>, Fault>
-        requires made { IsEditOf base.now (record { insts = touched.now.insts; nets = touched.now.nets }) store.now }
+        requires made { IsEditOf base.now
+            (record { insts = touched.now.insts; nets = touched.now.nets }) store.now }
         requires sound { IsSound store.now.design }
         requires was { AreTables base.now self.now }
-        ensures plan { IfOk result (λ wires. ArePlanned store.now (arc_value wires) (arc_value self.now.ports)) }
+        ensures plan { IfOk result
+            (λ wires. ArePlanned store.now (arc_value wires) (arc_value self.now.ports)) }
         ensures err { IfErr result (IsRangeFault store.now.design) }
     {
         let wires = self.wires.update(alloc, base, store, &self.ports, touched)?;
@@ -398,14 +490,20 @@ impl Arrivals {
         requires some { 1 ≤ workers }
         requires most { workers ≤ 32 }
         requires graph { graph.now.stored ≡ store.now }
-        requires made { IsEditOf base.now.stored (record { insts = touched.now.insts; nets = touched.now.nets }) store.now }
+        requires made { IsEditOf base.now.stored
+            (record { insts = touched.now.insts; nets = touched.now.nets }) store.now }
         requires was { AreArrivals base.now.stored self.now }
         requires plan { ArePlanned store.now wires.now (arc_value self.now.ports) }
-        requires seeds { AreSeeds base.now.stored store.now (record { insts = touched.now.insts; nets = touched.now.nets }) seeds.now }
+        requires seeds { AreSeeds base.now.stored store.now
+            (record { insts = touched.now.insts; nets = touched.now.nets }) seeds.now }
         ensures found { IfOk result (λ t. AreRenewed graph.now t.rows t.delays) }
-        ensures steps { OnOk result (steps.new ≡ steps.old + forward_count base.now.stored.design store.now.design (record { insts = touched.now.insts; nets = touched.now.nets })) }
+        ensures steps { OnOk result
+            (steps.new
+            ≡ steps.old + forward_count base.now.stored.design store.now.design
+            (record { insts = touched.now.insts; nets = touched.now.nets })) }
         ensures least { steps.old ≤ steps.new }
-        ensures few { steps.new ≤ steps.old + forward_count base.now.stored.design store.now.design (record { insts = touched.now.insts; nets = touched.now.nets }) }
+        ensures few { steps.new ≤ steps.old + forward_count base.now.stored.design store.now.design
+            (record { insts = touched.now.insts; nets = touched.now.nets }) }
         ensures err { IfErr result (IsRangeFault store.now.design) }
     {
         let mut tables = self.begun(alloc, base, graph, touched)?;
@@ -455,17 +553,23 @@ impl Arrivals {
         requires some { 1 ≤ workers }
         requires most { workers ≤ 32 }
         requires graph { graph.now.stored ≡ store.now }
-        requires made { IsEditOf base.now.stored (record { insts = touched.now.insts; nets = touched.now.nets }) store.now }
+        requires made { IsEditOf base.now.stored
+            (record { insts = touched.now.insts; nets = touched.now.nets }) store.now }
         requires sound { IsSound store.now.design }
         requires was { AreArrivals base.now.stored self.now }
-        requires seeds { AreSeeds base.now.stored store.now (record { insts = touched.now.insts; nets = touched.now.nets }) seeds.now }
+        requires seeds { AreSeeds base.now.stored store.now
+            (record { insts = touched.now.insts; nets = touched.now.nets }) seeds.now }
         ensures rows { IfOk result (λ a. AreRows store.now a.rows) }
         ensures tables { IfOk result (AreTables store.now) }
         ensures delays { IfOk result (λ a. AreDelays store.now (arc_value a.delays)) }
         ensures fine { OnOk result (AreRowsFine store.now.design) }
-        ensures steps { OnOk result (steps.new ≡ steps.old + forward_count base.now.stored.design store.now.design (record { insts = touched.now.insts; nets = touched.now.nets })) }
+        ensures steps { OnOk result
+            (steps.new
+            ≡ steps.old + forward_count base.now.stored.design store.now.design
+            (record { insts = touched.now.insts; nets = touched.now.nets })) }
         ensures least { steps.old ≤ steps.new }
-        ensures few { steps.new ≤ steps.old + forward_count base.now.stored.design store.now.design (record { insts = touched.now.insts; nets = touched.now.nets }) }
+        ensures few { steps.new ≤ steps.old + forward_count base.now.stored.design store.now.design
+            (record { insts = touched.now.insts; nets = touched.now.nets }) }
         ensures err { IfErr result (IsRangeFault store.now.design) }
     {
         store.laws();

@@ -59,7 +59,8 @@ fn empty(rt: &impl Abort, alloc: Global, first: u64) -> Arc<Log>
 
 /// The log with one more note.
 fn longer(rt: &impl Abort, alloc: Global, base: &Log, note: Note) -> Arc<Log>
-    ensures { ((arc_value result).notes.items ≡ base.now.notes.items ++ note ∷ []) × ((arc_value result).first ≡ base.now.first) }
+    ensures { ((arc_value result).notes.items ≡ base.now.notes.items ++ note ∷ [])
+        × ((arc_value result).first ≡ base.now.first) }
 {
     assert!(rt; base.count() < 1 << 62);
     let mut notes = Vec::from_slice(alloc, base.notes.as_slice()).expect(rt, "memory");
@@ -79,7 +80,8 @@ fn add<R: Wait + Abort>(
     seat: &mut Seat<Log>,
     note: Note,
 ) -> u64
-    requires { let l = ⟦<Log as Stands>⟧ in IsSeatOf (meaning l.entries l.from l.origin l.by) board.now seat.old × (note.seat ≡ seat.old.view.number) }
+    requires { let l = ⟦<Log as Stands>⟧ in IsSeatOf (meaning l.entries l.from l.origin l.by)
+        board.now seat.old × (note.seat ≡ seat.old.view.number) }
     ensures seat { IsSame seat.old seat.new }
     ensures mine { seat.new.view.mine ≡ seat.old.view.mine ++ note ∷ [] }
 {
@@ -104,8 +106,10 @@ fn add_all<R: Wait + Abort>(
     who: u64,
     count: u64,
 ) -> Seat<Log>
-    requires { let l = ⟦<Log as Stands>⟧ in IsSeatOf (meaning l.entries l.from l.origin l.by) board.now seat × (seat.view.number ≡ who) }
-    ensures { let l = ⟦<Log as Stands>⟧ in IsSeatOf (meaning l.entries l.from l.origin l.by) board.now result }
+    requires { let l = ⟦<Log as Stands>⟧ in IsSeatOf (meaning l.entries l.from l.origin l.by)
+        board.now seat × (seat.view.number ≡ who) }
+    ensures { let l = ⟦<Log as Stands>⟧ in IsSeatOf (meaning l.entries l.from l.origin l.by)
+        board.now result }
 {
     for number in 0..count {
         add(rt, alloc, board, &mut seat, Note { seat: who, number });
@@ -122,20 +126,32 @@ fn add_beside<R: Threads + Wait + Abort + Sync>(
     two: Seat<Log>,
     count: u64,
 ) -> (Seat<Log>, Seat<Log>)
-    requires one { let l = ⟦<Log as Stands>⟧ in IsSeatOf (meaning l.entries l.from l.origin l.by) board.now one × (one.view.number ≡ 1) }
-    requires two { let l = ⟦<Log as Stands>⟧ in IsSeatOf (meaning l.entries l.from l.origin l.by) board.now two × (two.view.number ≡ 2) }
-    ensures one { let l = ⟦<Log as Stands>⟧ in IsSeatOf (meaning l.entries l.from l.origin l.by) board.now result.0 }
-    ensures two { let l = ⟦<Log as Stands>⟧ in IsSeatOf (meaning l.entries l.from l.origin l.by) board.now result.1 }
+    requires one { let l = ⟦<Log as Stands>⟧ in IsSeatOf (meaning l.entries l.from l.origin l.by)
+        board.now one × (one.view.number ≡ 1) }
+    requires two { let l = ⟦<Log as Stands>⟧ in IsSeatOf (meaning l.entries l.from l.origin l.by)
+        board.now two × (two.view.number ≡ 2) }
+    ensures one { let l = ⟦<Log as Stands>⟧ in IsSeatOf (meaning l.entries l.from l.origin l.by)
+        board.now result.0 }
+    ensures two { let l = ⟦<Log as Stands>⟧ in IsSeatOf (meaning l.entries l.from l.origin l.by)
+        board.now result.1 }
 {
     join(
         rt,
         || -> Seat<Log>
-            requires { IsSeatOf (meaning (λ (l : Log). l.notes.items) (λ (l : Log). l.first) (λ (l : Log). tt) (λ (n : Note). n.seat)) board.now one × (one.view.number ≡ 1) }
-            ensures { IsSeatOf (meaning (λ (l : Log). l.notes.items) (λ (l : Log). l.first) (λ (l : Log). tt) (λ (n : Note). n.seat)) board.entry.now result }
+            requires { IsSeatOf
+                (meaning (λ (l : Log). l.notes.items) (λ (l : Log). l.first) (λ (l : Log). tt)
+                (λ (n : Note). n.seat)) board.now one × (one.view.number ≡ 1) }
+            ensures { IsSeatOf
+                (meaning (λ (l : Log). l.notes.items) (λ (l : Log). l.first) (λ (l : Log). tt)
+                (λ (n : Note). n.seat)) board.entry.now result }
         { add_all(rt, alloc, board, one, 1, count) },
         || -> Seat<Log>
-            requires { IsSeatOf (meaning (λ (l : Log). l.notes.items) (λ (l : Log). l.first) (λ (l : Log). tt) (λ (n : Note). n.seat)) board.now two × (two.view.number ≡ 2) }
-            ensures { IsSeatOf (meaning (λ (l : Log). l.notes.items) (λ (l : Log). l.first) (λ (l : Log). tt) (λ (n : Note). n.seat)) board.entry.now result }
+            requires { IsSeatOf
+                (meaning (λ (l : Log). l.notes.items) (λ (l : Log). l.first) (λ (l : Log). tt)
+                (λ (n : Note). n.seat)) board.now two × (two.view.number ≡ 2) }
+            ensures { IsSeatOf
+                (meaning (λ (l : Log). l.notes.items) (λ (l : Log). l.first) (λ (l : Log). tt)
+                (λ (n : Note). n.seat)) board.entry.now result }
         { add_all(rt, alloc, board, two, 2, count) },
     )
 }
@@ -143,8 +159,10 @@ fn add_beside<R: Threads + Wait + Abort + Sync>(
 /// A board from 0 with two seats.
 fn opened(rt: &impl Abort, alloc: Global) -> (Board<Log>, Seat<Log>, Seat<Log>)
     ensures board { (result.0.seats ≡ 2) × (result.0.opening.first ≡ 0) }
-    ensures one { let l = ⟦<Log as Stands>⟧ in IsSeatOf (meaning l.entries l.from l.origin l.by) result.0 result.1 × IsNew 1 result.1 }
-    ensures two { let l = ⟦<Log as Stands>⟧ in IsSeatOf (meaning l.entries l.from l.origin l.by) result.0 result.2 × IsNew 2 result.2 }
+    ensures one { let l = ⟦<Log as Stands>⟧ in IsSeatOf (meaning l.entries l.from l.origin l.by)
+        result.0 result.1 × IsNew 1 result.1 }
+    ensures two { let l = ⟦<Log as Stands>⟧ in IsSeatOf (meaning l.entries l.from l.origin l.by)
+        result.0 result.2 × IsNew 2 result.2 }
 {
     let value = empty(rt, alloc, 0);
     let Begun { board, mut seats } = Board::begin(alloc, 0, value, 2).expect(rt, "memory");
@@ -161,7 +179,8 @@ fn closed(
     two: Seat<Log>,
 ) -> Arc<Log>
     requires board { board.seats ≡ 2 }
-    requires seats { let l = ⟦<Log as Stands>⟧ in IsSeatOf (meaning l.entries l.from l.origin l.by) board one × IsSeatOf (meaning l.entries l.from l.origin l.by) board two }
+    requires seats { let l = ⟦<Log as Stands>⟧ in IsSeatOf (meaning l.entries l.from l.origin l.by)
+        board one × IsSeatOf (meaning l.entries l.from l.origin l.by) board two }
 {
     let mut seats = Vec::with_capacity(alloc, 2).expect(rt, "memory");
     seats.push_reserved(one);
@@ -202,7 +221,8 @@ fn add_first<R: Wait + Abort>(
     seat: &mut Seat<Log>,
     who: u64,
 ) -> Result<u64, Unpublished<Log>>
-    requires { let l = ⟦<Log as Stands>⟧ in IsSeatOf (meaning l.entries l.from l.origin l.by) board.now seat.old × IsNew who seat.old × (board.now.opening.first ≡ 0) }
+    requires { let l = ⟦<Log as Stands>⟧ in IsSeatOf (meaning l.entries l.from l.origin l.by)
+        board.now seat.old × IsNew who seat.old × (board.now.opening.first ≡ 0) }
     ensures { IsSame seat.old seat.new }
 {
     let base = empty(rt, alloc, 0);

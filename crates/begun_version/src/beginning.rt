@@ -107,7 +107,8 @@ fn continued<H: Threads + Sync, G: Gate>(
     ensures number { IfOk result (λ v. (arc_value v).first ≡ length saved.now) }
     ensures journal { IfOk result (λ v. (arc_value v).journal ≡ []) }
     ensures stored { IfOk result (λ v. (arc_value v).stored.design ≡ (arc_value v).origin) }
-    ensures begins { IfOk result (λ v. BeginsOver store.design (Some saved.now) (arc_value v).origin) }
+    ensures begins { IfOk result
+        (λ v. BeginsOver store.design (Some saved.now) (arc_value v).origin) }
     ensures refused { IfErr result (TellsOver store.design (Some saved.now)) }
 {
     match replay(rt, alloc, store, saved, workers, gate) {

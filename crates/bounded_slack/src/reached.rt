@@ -50,7 +50,8 @@ impl Reached {
 
     /// Gives a node the greater of its sum and this one. Where memory is wanting all sums stay.
     pub(crate) fn raise(&mut self, held: Held) -> Result<(), Memory>
-        ensures { OnOk result (HasRaised (sum_at self.old) (sum_at self.new) held.level held.node held.sum) }
+        ensures { OnOk result
+            (HasRaised (sum_at self.old) (sum_at self.new) held.level held.node held.sum) }
     {
         let sum = greater(self.sum_of(held), held);
         match self.sums.insert((held.level, held.node), sum) {

@@ -43,7 +43,8 @@ fn settle<F: Fan>(
 ) -> Result<Option<i64>, Memory>
     requires net { IsNet (F.net fan.now) }
     requires searching { IsSearching (F.net fan.now) (sum_at reached.old) least (Some held) }
-    ensures { IfOk result (λ found. IsSpread (F.net fan.now) (sum_at reached.new) found held IsNever) }
+    ensures { IfOk result
+        (λ found. IsSpread (F.net fan.now) (sum_at reached.new) found held IsNever) }
 {
     if is_shut(least, room(fan, held)) {
         return Ok(least);
@@ -66,7 +67,8 @@ fn spread<F: Fan>(
     requires net { IsNet (F.net fan.now) }
     requires held { IsHeld (F.net fan.now) held }
     requires arcs { arcs.now ≡ arcs_into (F.net fan.now) held.node }
-    requires still { IsSpread (F.net fan.now) (sum_at reached.old) least held (IsStill (F.net fan.now) held.sum (arcs_into (F.net fan.now) held.node)) }
+    requires still { IsSpread (F.net fan.now) (sum_at reached.old) least held
+        (IsStill (F.net fan.now) held.sum (arcs_into (F.net fan.now) held.node)) }
     ensures { OnOk result (IsSpread (F.net fan.now) (sum_at reached.new) least held IsNever) }
 {
     for arc in arcs {
@@ -87,7 +89,8 @@ fn follow<F: Fan>(
     requires held { IsHeld (F.net fan.now) held }
     requires arc { IsArcInto (F.net fan.now) held.node arc }
     requires there { delay_in (arcs_into (F.net fan.now) held.node) arc.from ≡ Some arc.delay }
-    ensures { OnOk result (HasFollowed (F.net fan.now) least held arc (sum_at reached.old) (sum_at reached.new)) }
+    ensures { OnOk result
+        (HasFollowed (F.net fan.now) least held arc (sum_at reached.old) (sum_at reached.new)) }
 {
     let next = behind(fan, held, arc);
     if is_shut(least, room(fan, next)) {

@@ -22,7 +22,8 @@ pub(crate) struct Leveled {
 
 /// The level of a node; 0 of a number that is of no node.
 fn level(graph: &Graph, node: u32) -> u32
-    ensures { result ≡ (if nat_lt node (node_bound graph.now.stored) then level_at graph.now node else 0) }
+    ensures { result
+        ≡ (if nat_lt node (node_bound graph.now.stored) then level_at graph.now node else 0) }
 {
     if node < graph.count() {
         graph.level(node)

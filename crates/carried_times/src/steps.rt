@@ -80,7 +80,8 @@ fn turned(
     before: Option<i64>,
     after: Option<i64>,
 ) -> Option<Option<i64>>
-    ensures { IfSome result (λ time. time ≡ outer_some split (plus_some before was) (plus_some after now)) }
+    ensures { IfSome result
+        (λ time. time ≡ outer_some split (plus_some before was) (plus_some after now)) }
 {
     let before = later(before, was)?;
     let after = later(after, now)?;
@@ -95,7 +96,8 @@ fn step_in<A: Rows + Delayed>(
     arc: &GraphArc,
     time: Option<i64>,
 ) -> Option<Option<i64>>
-    ensures { IfSome result (λ behind. behind ≡ step_told before.now after.now split arc.now.from arc.now.to time) }
+    ensures { IfSome result
+        (λ behind. behind ≡ step_told before.now after.now split arc.now.from arc.now.to time) }
 {
     let was = before.delay(split, arc.from, arc.to);
     let now = after.delay(split, arc.from, arc.to);
@@ -114,7 +116,8 @@ pub(crate) fn step<A: Rows + Delayed>(
     arc: &GraphArc,
     times: Carried,
 ) -> Option<Carried>
-    ensures { IfSome result (λ behind. behind ≡ carried_step before.now after.now arc.now.from arc.now.to times) }
+    ensures { IfSome result
+        (λ behind. behind ≡ carried_step before.now after.now arc.now.from arc.now.to times) }
 {
     let early = step_in(before, after, Split::Early, arc, times.early)?;
     let late = step_in(before, after, Split::Late, arc, times.late)?;

@@ -90,7 +90,8 @@ fn behind<A: Rows + Delayed>(
     times: &[Carried],
     arcs: &[GraphArc],
 ) -> Option<Carried>
-    ensures { IfSome result (λ found. ArePassed before.now after.now nodes.now.keys times.now found arcs.now) }
+    ensures { IfSome result
+        (λ found. ArePassed before.now after.now nodes.now.keys times.now found arcs.now) }
 {
     let mut found = no_times();
     for arc in arcs {
@@ -110,7 +111,8 @@ fn node_times<A: Rows + Delayed>(
     node: u32,
 ) -> Option<Carried>
     requires { node < node_bound graph.now.stored }
-    ensures { IfSome result (IsTold before.now after.now graph.now seeds.now.keys nodes.now.keys times.now node) }
+    ensures { IfSome result
+        (IsTold before.now after.now graph.now seeds.now.keys nodes.now.keys times.now node) }
 {
     if seeds.contains(&node) {
         Some(merged(before.whole(node), after.whole(node)))
@@ -129,7 +131,9 @@ fn walked<A: Rows + Delayed>(
     nodes: &IndexSet<u32>,
 ) -> Result<Option<Items<Carried>>, Memory>
     requires { All (λ n. n < node_bound graph.now.stored) nodes.now.keys }
-    ensures { IfOk result (λ found. IfSome found (IsWalked before.now after.now graph.now seeds.now.keys nodes.now.keys)) }
+    ensures { IfOk result
+        (λ found. IfSome found
+        (IsWalked before.now after.now graph.now seeds.now.keys nodes.now.keys)) }
 {
     let mut times = Items::with_room(alloc, nodes.len())?;
     for node in nodes.as_slice() {
@@ -183,10 +187,14 @@ pub fn carried_times<A: Rows + Delayed>(
     requires delays_before { AreDelays base.now.stored (A.delays before.now) }
     requires rows { AreRows graph.now.stored (A.rows after.now) }
     requires delays { AreDelays graph.now.stored (A.delays after.now) }
-    requires made { IsEditOf base.now.stored (record { insts = touched.now.insts; nets = touched.now.nets }) graph.now.stored }
-    requires seeds { HasSeeds base.now.stored graph.now.stored (record { insts = touched.now.insts; nets = touched.now.nets }) seeds.now }
+    requires made { IsEditOf base.now.stored
+        (record { insts = touched.now.insts; nets = touched.now.nets }) graph.now.stored }
+    requires seeds { HasSeeds base.now.stored graph.now.stored
+        (record { insts = touched.now.insts; nets = touched.now.nets }) seeds.now }
     requires behind { AreBehind graph.now seeds.now nodes.now }
-    ensures { IfOk result (λ found. IfSome found (AreCarriedTimes base.now.stored graph.now.stored seeds.now nodes.now)) }
+    ensures { IfOk result
+        (λ found. IfSome found
+        (AreCarriedTimes base.now.stored graph.now.stored seeds.now nodes.now)) }
 {
     // What was touched is asked for by the contract alone.
     let _ = touched;

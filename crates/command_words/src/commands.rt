@@ -14,7 +14,8 @@ fn with_word<'a>(
     command: Command<'a>,
     id: &'a str,
 ) -> Result<Command<'a>, AllocError>
-    ensures { IfOk result (λ made. app_of made ≡ with_rule (app_of command.entry) (positional id.entry.now)) }
+    ensures { IfOk result
+        (λ made. app_of made ≡ with_rule (app_of command.entry) (positional id.entry.now)) }
 {
     command.arg(Arg::new(alloc, id).required(true))
 }
@@ -26,7 +27,9 @@ fn with_option<'a>(
     id: &'a str,
     name: &'a str,
 ) -> Result<Command<'a>, AllocError>
-    ensures { IfOk result (λ made. app_of made ≡ with_rule (app_of command.entry) (optional id.entry.now name.entry.now)) }
+    ensures { IfOk result
+        (λ made. app_of made
+        ≡ with_rule (app_of command.entry) (optional id.entry.now name.entry.now)) }
 {
     command.arg(Arg::new(alloc, id).long(name))
 }
@@ -37,7 +40,8 @@ fn with_words<'a>(
     command: Command<'a>,
     id: &'a str,
 ) -> Result<Command<'a>, AllocError>
-    ensures { IfOk result (λ made. app_of made ≡ with_rule (app_of command.entry) (several id.entry.now)) }
+    ensures { IfOk result
+        (λ made. app_of made ≡ with_rule (app_of command.entry) (several id.entry.now)) }
 {
     command.arg(Arg::new(alloc, id).required(true).num_args(1usize..))
 }

@@ -32,7 +32,8 @@ fn word<'a>(matches: &ArgMatches<'a>, id: &str) -> Option<&'a str>
 
 /// The number of a word, from `low` to `high`.
 fn number(matches: &ArgMatches<'_>, id: &str, low: u64, high: u64) -> Option<u64>
-    ensures value { result ≡ option_and_then (within low high) (first_of id.now (rows_of (found_of matches.now))) }
+    ensures value { result
+        ≡ option_and_then (within low high) (first_of id.now (rows_of (found_of matches.now))) }
     ensures bounds { IfSome result (λ n. (low ≤ n) × (n ≤ high)) }
 {
     match word(matches, id) {
@@ -43,7 +44,9 @@ fn number(matches: &ArgMatches<'_>, id: &str, low: u64, high: u64) -> Option<u64
 
 /// The multiple of 4 of a word, from `low` to `high`.
 fn multiple(matches: &ArgMatches<'_>, id: &str, low: u64, high: u64) -> Option<u64>
-    ensures value { result ≡ option_and_then (multiple_within low high) (first_of id.now (rows_of (found_of matches.now))) }
+    ensures value { result
+        ≡ option_and_then (multiple_within low high)
+        (first_of id.now (rows_of (found_of matches.now))) }
     ensures bounds { IfSome result (λ n. (low ≤ n) × (n ≤ high)) }
     ensures fourth { IfSome result (λ n. n % 4 ≡ 0) }
 {
@@ -69,8 +72,11 @@ fn names_of<'a>(matches: &ArgMatches<'a>) -> Option<Documents<'a>>
 /// Names, where they are 1 to 16.
 #[tactic(auto, using(crate::proofs::ByRows::lengths))]
 fn few<'a>(alloc: Global, names: &[&'a str]) -> Result<Option<Vec<&'a str>>, AllocError>
-    ensures names { IfOk result (λ found. option_map (λ kept. map (λ s. s.now) kept.items) found ≡ few_scripts (map (λ s. s.now) names.now)) }
-    ensures count { IfOk result (λ found. IfSome found (λ kept. (1 ≤ length kept.items) × (length kept.items ≤ 16))) }
+    ensures names { IfOk result
+        (λ found. option_map (λ kept. map (λ s. s.now) kept.items) found
+        ≡ few_scripts (map (λ s. s.now) names.now)) }
+    ensures count { IfOk result
+        (λ found. IfSome found (λ kept. (1 ≤ length kept.items) × (length kept.items ≤ 16))) }
 {
     if 1 <= names.len() && names.len() <= 16 {
         Ok(Some(Vec::from_slice(alloc, names)?))
@@ -82,8 +88,11 @@ fn few<'a>(alloc: Global, names: &[&'a str]) -> Result<Option<Vec<&'a str>>, All
 /// The names of the scripts, 1 to 16.
 #[tactic(auto, using(crate::proofs::ByRows::by_rows))]
 fn scripts<'a>(alloc: Global, matches: &ArgMatches<'a>) -> Result<Option<Vec<&'a str>>, AllocError>
-    ensures names { IfOk result (λ found. option_map (λ kept. map (λ s. s.now) kept.items) found ≡ scripts_in (rows_of (found_of matches.now))) }
-    ensures count { IfOk result (λ found. IfSome found (λ kept. (1 ≤ length kept.items) × (length kept.items ≤ 16))) }
+    ensures names { IfOk result
+        (λ found. option_map (λ kept. map (λ s. s.now) kept.items) found
+        ≡ scripts_in (rows_of (found_of matches.now))) }
+    ensures count { IfOk result
+        (λ found. IfSome found (λ kept. (1 ≤ length kept.items) × (length kept.items ≤ 16))) }
 {
     match matches.get_strs("SCRIPT") {
         None => Ok(None),
@@ -96,9 +105,13 @@ pub(crate) fn run_of<'a>(
     alloc: Global,
     matches: &ArgMatches<'a>,
 ) -> Result<Option<Run<'a>>, AllocError>
-    ensures asked { IfOk result (λ found. option_map run_words found ≡ run_in (rows_of (found_of matches.now))) }
-    ensures workers { IfOk result (λ found. IfSome found (λ run. (1 ≤ run.workers) × (run.workers ≤ 32))) }
-    ensures scripts { IfOk result (λ found. IfSome found (λ run. (1 ≤ length run.scripts.items) × (length run.scripts.items ≤ 16))) }
+    ensures asked { IfOk result
+        (λ found. option_map run_words found ≡ run_in (rows_of (found_of matches.now))) }
+    ensures workers { IfOk result
+        (λ found. IfSome found (λ run. (1 ≤ run.workers) × (run.workers ≤ 32))) }
+    ensures scripts { IfOk result
+        (λ found. IfSome found
+        (λ run. (1 ≤ length run.scripts.items) × (length run.scripts.items ≤ 16))) }
 {
     match (names_of(matches), number(matches, "WORKERS", 1, 32)) {
         (Some(names), Some(workers)) => match scripts(alloc, matches)? {
@@ -120,7 +133,8 @@ pub(crate) fn run_of<'a>(
 
 /// The generated run that the matches of `generate` ask for.
 pub(crate) fn generate_of(matches: &ArgMatches<'_>) -> Option<Generate>
-    ensures asked { option_map generate_words result ≡ generate_in (rows_of (found_of matches.now)) }
+    ensures asked { option_map generate_words result
+        ≡ generate_in (rows_of (found_of matches.now)) }
     ensures gates { IfSome result (λ g. (4 ≤ g.gates) × (g.gates ≤ 40000) × (g.gates % 4 ≡ 0)) }
     ensures edits { IfSome result (λ g. (g.edits ≤ 4000) × (g.edits % 4 ≡ 0)) }
 {

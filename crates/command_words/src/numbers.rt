@@ -21,7 +21,8 @@ fn is_numeral(text: &[u8]) -> bool
 /// The number that digits write, where it is below 2^64.
 #[tactic(auto, using(crate::proofs::NumberLemmas::number_grows, std::proofs::lemmas::List::drop_more))]
 fn value_of(digits: &[u8]) -> Option<u64>
-    ensures { MatchOption result (18446744073709551615 < number_behind 0 digits.now) (λ n. n ≡ number_behind 0 digits.now) }
+    ensures { MatchOption result (18446744073709551615 < number_behind 0 digits.now)
+        (λ n. n ≡ number_behind 0 digits.now) }
 {
     let mut number = 0u64;
     for digit in digits {

@@ -23,7 +23,9 @@ fn asked_by<'a>(
     name: &str,
     matches: &ArgMatches<'a>,
 ) -> Result<Option<Asked<'a>>, AllocError>
-    ensures asked { IfOk result (λ found. option_map words_of_asked found ≡ asked_in (name.now, rows_of (found_of matches.now))) }
+    ensures asked { IfOk result
+        (λ found. option_map words_of_asked found
+        ≡ asked_in (name.now, rows_of (found_of matches.now))) }
     ensures ranges { IfOk result (λ found. IfSome found IsInRange) }
 {
     match name {
@@ -41,7 +43,9 @@ fn asked_by<'a>(
 
 /// What all matches ask for.
 fn asked_of<'a>(alloc: Global, matches: &ArgMatches<'a>) -> Result<Option<Asked<'a>>, AllocError>
-    ensures asked { IfOk result (λ found. option_map words_of_asked found ≡ option_and_then asked_in (subcommand_rows_of matches.now)) }
+    ensures asked { IfOk result
+        (λ found. option_map words_of_asked found
+        ≡ option_and_then asked_in (subcommand_rows_of matches.now)) }
     ensures ranges { IfOk result (λ found. IfSome found IsInRange) }
 {
     match matches.subcommand() {
@@ -59,7 +63,8 @@ fn asked_of<'a>(alloc: Global, matches: &ArgMatches<'a>) -> Result<Option<Asked<
 /// Want of memory alone.
 #[tactic(auto, unfolding(crate::specs::Command::words_of))]
 pub fn read_words<'a>(alloc: Global, words: &'a [String]) -> Result<Option<Asked<'a>>, Memory>
-    ensures asked { IfOk result (λ found. option_map words_of_asked found ≡ words_of (map string_bytes words.entry.now)) }
+    ensures asked { IfOk result
+        (λ found. option_map words_of_asked found ≡ words_of (map string_bytes words.entry.now)) }
     ensures ranges { IfOk result (λ found. IfSome found IsInRange) }
 {
     let command = lizdrog(alloc)?;

@@ -21,7 +21,8 @@ use Rattle.sta_text.specs.Faults.{least_from}
 use Rattle.eco_journal.specs.Lines.{cut_lines, placed}
 use Rattle.eco_journal.specs.EditLines.{edit_of}
 use Rattle.eco_journal.proofs.Joined.{is_printed, line_cut}
-use Rattle.script_reader.specs.Commands.{kind_of, command_of}
+use Rattle.script_reader.specs.Words.{kind_of}
+use Rattle.script_reader.specs.Commands.{command_of}
 use Rattle.script_reader.specs.Scripts.{Event, is_ascii, change, single, events, line_said, too_long, outside, commands, faults, script_of}
 use Rattle.design_maker.specs.Draws.{drawn, drawn_on, chosen}
 use Rattle.design_maker.specs.Insts.{gate_name}

@@ -19,6 +19,8 @@ pub fn library_read_back()
 /// The constraints are read without a fault, in these units, as a clock and an input delay.
 #[tactic(auto, using(crate::proofs::ConstraintsBack::no_faults, crate::proofs::ConstraintsBack::back))]
 pub fn constraints_read_back()
-    ensures faults { faults_of (length constraints_text) ps_and_ff (events_of constraints_text) ≡ [] }
-    ensures constraints { constraints_of ps_and_ff (events_of constraints_text) ≡ generated_constraints }
+    ensures faults { faults_of (length constraints_text) ps_and_ff (events_of constraints_text)
+        ≡ [] }
+    ensures constraints { constraints_of ps_and_ff (events_of constraints_text)
+        ≡ generated_constraints }
 {}

@@ -23,7 +23,10 @@ fn add_place(
     cell: &Cell,
     place: u32,
 ) -> Result<(), Memory>
-    ensures { OnOk result ((name : List ℕ) → place_under places.new.entries name ≡ option_or (place_under places.old.entries name) (if bytes_eq cell.now.name name then Some place else None)) }
+    ensures { OnOk result
+        ((name : List ℕ) → place_under places.new.entries name
+        ≡ option_or (place_under places.old.entries name)
+        (if bytes_eq cell.now.name name then Some place else None)) }
 {
     if places.contains_key(&cell.name) {
         return Ok(());
@@ -108,7 +111,9 @@ pub(crate) fn cell_table(
 
 /// Whether the cell at a place of the late library agrees with the early one.
 fn agree_at(table: &CellTable, place: u32) -> bool
-    ensures { (early : Library) (late : List Cell) (cell : Cell) → table.now.agree ≡ map (agrees_in early) late → slice_get late place ≡ Some cell → result ≡ agrees_in early cell }
+    ensures { (early : Library) (late : List Cell) (cell : Cell) → table.now.agree
+        ≡ map (agrees_in early) late → slice_get late place ≡ Some cell → result
+        ≡ agrees_in early cell }
 {
     match table.agree.get(place as usize) {
         Some(agree) => *agree,
@@ -118,7 +123,10 @@ fn agree_at(table: &CellTable, place: u32) -> bool
 
 /// The cell at a place, where it can be used.
 fn usable_at<'a>(late: &'a Library, table: &CellTable, place: u32) -> Option<&'a Cell>
-    ensures { (early : Library) (name : List ℕ) → table.now.agree ≡ map (agrees_in early) late.entry.now.cells → slice_get late.entry.now.cells place ≡ cell_named late.entry.now.cells name → option_copied result ≡ usable_cell early late.entry.now name }
+    ensures { (early : Library) (name : List ℕ) → table.now.agree
+        ≡ map (agrees_in early) late.entry.now.cells → slice_get late.entry.now.cells place
+        ≡ cell_named late.entry.now.cells name → option_copied result
+        ≡ usable_cell early late.entry.now name }
 {
     if !agree_at(table, place) {
         return None;
@@ -136,7 +144,8 @@ fn place_of(table: &CellTable, name: &Name) -> Option<u32>
 /// The cell of a name that is in both libraries, and alike there; none where there is none.
 pub(crate) fn usable_cell<'a>(late: &'a Library, table: &CellTable, name: &Name) -> Option<&'a Cell>
     requires { ArePlaces late.now.cells table.now.places.entries }
-    ensures { (early : Library) → table.now.agree ≡ map (agrees_in early) late.entry.now.cells → option_copied result ≡ usable_cell early late.entry.now name.now }
+    ensures { (early : Library) → table.now.agree ≡ map (agrees_in early) late.entry.now.cells
+        → option_copied result ≡ usable_cell early late.entry.now name.now }
 {
     match place_of(table, name) {
         Some(place) => usable_at(late, table, place),

@@ -33,7 +33,10 @@ fn check_counts(store: &Store) -> Result<(), Fault>
 
 /// Refuses the least net, of all or of some, whose parasitics have too many nodes.
 fn check_nodes(alloc: Global, store: &Store, among: Option<&Items<Name>>) -> Result<(), Fault>
-    ensures { IsChecked result (option_map too_large (option_map large_net (least_among (option_copied among.entry) NetTest.TooManyNodes store.now.design))) }
+    ensures { IsChecked result
+        (option_map too_large
+        (option_map large_net
+        (least_among (option_copied among.entry) NetTest.TooManyNodes store.now.design))) }
 {
     let least = least_net(alloc, store, NetTest::TooManyNodes, among)?;
     match least {
@@ -44,7 +47,9 @@ fn check_nodes(alloc: Global, store: &Store, among: Option<&Items<Name>>) -> Res
 
 /// Refuses the least net, of all or of some, with more than one driver.
 fn check_drivers(alloc: Global, store: &Store, among: Option<&Items<Name>>) -> Result<(), Fault>
-    ensures { IsChecked result (option_map many_drivers (least_among (option_copied among.entry) NetTest.TooManyDrivers store.now.design)) }
+    ensures { IsChecked result
+        (option_map many_drivers
+        (least_among (option_copied among.entry) NetTest.TooManyDrivers store.now.design)) }
 {
     let least = least_net(alloc, store, NetTest::TooManyDrivers, among)?;
     match least {
@@ -76,7 +81,8 @@ pub fn check_nets(alloc: Global, store: &Store) -> Result<(), Fault>
 /// `apply` gave of the base. It looks at the nets that the ECO touched, with their pins and parasitics,
 /// and at no others; pins, instances and nets are counted only where their numbers pass the limit.
 pub fn check_nets_after(alloc: Global, store: &Store, touched: &Touched) -> Result<(), Fault>
-    ensures { (base : Design) (eco : Eco) → IsMadeOf base eco touched.now.nets store.now.design → net_fault base ≡ None → IsChecked result (net_fault store.now.design) }
+    ensures { (base : Design) (eco : Eco) → IsMadeOf base eco touched.now.nets store.now.design
+        → net_fault base ≡ None → IsChecked result (net_fault store.now.design) }
 {
     store.laws();
     check_nets_among(alloc, store, Some(&touched.nets))
@@ -84,7 +90,9 @@ pub fn check_nets_after(alloc: Global, store: &Store, touched: &Touched) -> Resu
 
 /// Refuses the least name of a constraint, or of an exception alone, that stands for nothing.
 fn check_dangling(alloc: Global, store: &Store, among: Option<&Items<Name>>) -> Result<(), Fault>
-    ensures { IsChecked result (option_map constraint_dangling (dangling_among (option_copied among.entry) store.now.design)) }
+    ensures { IsChecked result
+        (option_map constraint_dangling
+        (dangling_among (option_copied among.entry) store.now.design)) }
 {
     let names = dangling_among(alloc, store, among)?;
     let least = least_name(alloc, names.as_slice())?;
@@ -97,7 +105,9 @@ fn check_dangling(alloc: Global, store: &Store, among: Option<&Items<Name>>) -> 
 /// Refuses the least net, of all or of some, whose parasitics are no tree.
 fn check_trees(alloc: Global, store: &Store, among: Option<&Items<Name>>) -> Result<(), Fault>
     requires { net_fault store.now.design ≡ None }
-    ensures { IsChecked result (option_map rc_not_tree (least_among (option_copied among.entry) NetTest.NoTree store.now.design)) }
+    ensures { IsChecked result
+        (option_map rc_not_tree
+        (least_among (option_copied among.entry) NetTest.NoTree store.now.design)) }
 {
     let least = least_net(alloc, store, NetTest::NoTree, among)?;
     match least {
@@ -108,7 +118,9 @@ fn check_trees(alloc: Global, store: &Store, among: Option<&Items<Name>>) -> Res
 
 /// Refuses the least net, of all or of some, whose parasitics do not name its pins.
 fn check_pins(alloc: Global, store: &Store, among: Option<&Items<Name>>) -> Result<(), Fault>
-    ensures { IsChecked result (option_map rc_pins_differ (least_among (option_copied among.entry) NetTest.OtherPins store.now.design)) }
+    ensures { IsChecked result
+        (option_map rc_pins_differ
+        (least_among (option_copied among.entry) NetTest.OtherPins store.now.design)) }
 {
     let least = least_net(alloc, store, NetTest::OtherPins, among)?;
     match least {
@@ -145,7 +157,8 @@ pub fn check_data(alloc: Global, store: &Store) -> Result<(), Fault>
 /// instances may have gone, and at the nets that the ECO touched, and at nothing else.
 pub fn check_data_after(alloc: Global, store: &Store, touched: &Touched) -> Result<(), Fault>
     requires { net_fault store.now.design ≡ None }
-    ensures { (base : Design) (eco : Eco) → IsMadeOf base eco touched.now.nets store.now.design → data_fault base ≡ None → IsChecked result (link_data_fault store.now.design) }
+    ensures { (base : Design) (eco : Eco) → IsMadeOf base eco touched.now.nets store.now.design
+        → data_fault base ≡ None → IsChecked result (link_data_fault store.now.design) }
 {
     store.laws();
     check_data_among(alloc, store, Some(&touched.nets))

@@ -23,7 +23,8 @@ fn add_port(
     dir: Dir,
     name: &Name,
 ) -> Result<(), Memory>
-    ensures { OnOk result (names.new ≡ names.old ++ not_ports store.now.design dir (name.now ∷ [])) }
+    ensures { OnOk result
+        (names.new ≡ names.old ++ not_ports store.now.design dir (name.now ∷ [])) }
 {
     add_if(alloc, names, !is_port(store, dir, name), name)?;
     Ok(())
@@ -36,7 +37,10 @@ fn add_clock(
     names: &mut Items<Name>,
     clock: &Clock,
 ) -> Result<(), Memory>
-    ensures { OnOk result (names.new ≡ names.old ++ not_ports store.now.design input (filter_map (λ c. c.port) (clock.now ∷ []))) }
+    ensures { OnOk result
+        (names.new
+        ≡ names.old ++ not_ports store.now.design input
+        (filter_map (λ c. c.port) (clock.now ∷ []))) }
 {
     match &clock.port {
         Some(port) => add_port(alloc, store, names, Dir::Input, port),
@@ -51,7 +55,10 @@ fn add_clocks(
     names: &mut Items<Name>,
     clocks: &[Clock],
 ) -> Result<(), Memory>
-    ensures { OnOk result (names.new ≡ names.old ++ not_ports store.now.design input (filter_map (λ clock. clock.port) clocks.now)) }
+    ensures { OnOk result
+        (names.new
+        ≡ names.old ++ not_ports store.now.design input
+        (filter_map (λ clock. clock.port) clocks.now)) }
 {
     for clock in clocks {
         add_clock(alloc, store, names, clock)?;
@@ -67,7 +74,8 @@ fn add_delays(
     dir: Dir,
     delays: &[PortDelay],
 ) -> Result<(), Memory>
-    ensures { OnOk result (names.new ≡ names.old ++ not_ports store.now.design dir (map (λ i. i.port) delays.now)) }
+    ensures { OnOk result
+        (names.new ≡ names.old ++ not_ports store.now.design dir (map (λ i. i.port) delays.now)) }
 {
     for delay in delays {
         add_port(alloc, store, names, dir, &delay.port)?;
@@ -82,7 +90,8 @@ fn add_slews(
     names: &mut Items<Name>,
     slews: &[PortSlew],
 ) -> Result<(), Memory>
-    ensures { OnOk result (names.new ≡ names.old ++ not_ports store.now.design input (map (λ s. s.port) slews.now)) }
+    ensures { OnOk result
+        (names.new ≡ names.old ++ not_ports store.now.design input (map (λ s. s.port) slews.now)) }
 {
     for slew in slews {
         add_port(alloc, store, names, Dir::Input, &slew.port)?;
@@ -97,7 +106,10 @@ fn add_load(
     names: &mut Items<Name>,
     load: &PortLoad,
 ) -> Result<(), Memory>
-    ensures { OnOk result (names.new ≡ names.old ++ filter (λ name. is_none (port_named store.now.design name)) (load.now.port ∷ [])) }
+    ensures { OnOk result
+        (names.new
+        ≡ names.old ++ filter (λ name. is_none (port_named store.now.design name))
+        (load.now.port ∷ [])) }
 {
     add_if(
         alloc,
@@ -115,7 +127,10 @@ fn add_loads(
     names: &mut Items<Name>,
     loads: &[PortLoad],
 ) -> Result<(), Memory>
-    ensures { OnOk result (names.new ≡ names.old ++ filter (λ name. is_none (port_named store.now.design name)) (map (λ l. l.port) loads.now)) }
+    ensures { OnOk result
+        (names.new
+        ≡ names.old ++ filter (λ name. is_none (port_named store.now.design name))
+        (map (λ l. l.port) loads.now)) }
 {
     for load in loads {
         add_load(alloc, store, names, load)?;
@@ -130,7 +145,8 @@ fn add_exception(
     names: &mut Items<Name>,
     exception: &Exception,
 ) -> Result<(), Memory>
-    ensures { OnOk result (names.new ≡ names.old ++ dangling_exception store.now.design exception.now) }
+    ensures { OnOk result
+        (names.new ≡ names.old ++ dangling_exception store.now.design exception.now) }
 {
     add_objects(alloc, store, names, Dir::Input, &exception.from)?;
     add_objects(alloc, store, names, Dir::Output, &exception.to)?;
@@ -144,7 +160,8 @@ fn add_exceptions(
     names: &mut Items<Name>,
     exceptions: &[Exception],
 ) -> Result<(), Memory>
-    ensures { OnOk result (names.new ≡ names.old ++ flat_map (dangling_exception store.now.design) exceptions.now) }
+    ensures { OnOk result
+        (names.new ≡ names.old ++ flat_map (dangling_exception store.now.design) exceptions.now) }
 {
     for exception in exceptions {
         add_exception(alloc, store, names, exception)?;
@@ -174,7 +191,9 @@ fn dangling_ports(alloc: Global, store: &Store) -> Result<Items<Name>, Memory>
 
 /// The names of exceptions that stand for nothing.
 fn exception_names(alloc: Global, store: &Store) -> Result<Items<Name>, Memory>
-    ensures { IfOk result (λ names. names ≡ flat_map (dangling_exception store.now.design) store.now.design.constraints.exceptions) }
+    ensures { IfOk result
+        (λ names. names
+        ≡ flat_map (dangling_exception store.now.design) store.now.design.constraints.exceptions) }
 {
     let mut names = Items::new(alloc);
     add_exceptions(
@@ -206,7 +225,8 @@ pub(crate) fn dangling_among(
     store: &Store,
     among: Option<&Items<Name>>,
 ) -> Result<Items<Name>, Memory>
-    ensures { IfOk result (λ names. least names ≡ dangling_among (option_copied among.entry) store.now.design) }
+    ensures { IfOk result
+        (λ names. least names ≡ dangling_among (option_copied among.entry) store.now.design) }
 {
     match among {
         Some(_) => exception_names(alloc, store),

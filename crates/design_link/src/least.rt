@@ -22,7 +22,10 @@ fn comes_before(a: &Name, b: &Name) -> bool
 fn lesser_place(names: &[Name], a: usize, b: usize) -> usize
     requires a { a < length names.now }
     requires b { b < length names.now }
-    ensures { result ≡ (if is_before (slice_index_or names.now b []) (slice_index_or names.now a []) then b else a) }
+    ensures { result
+        ≡
+        (if is_before (slice_index_or names.now b []) (slice_index_or names.now a []) then b else
+        a) }
 {
     if comes_before(&names[b], &names[a]) {
         b
@@ -36,7 +39,8 @@ fn lesser_place(names: &[Name], a: usize, b: usize) -> usize
 fn least_place(names: &[Name]) -> usize
     requires { 0 < length names.now }
     ensures within { result < length names.now }
-    ensures least { (k : ℕ) → k < length names.now → is_before (slice_index_or names.now k []) (slice_index_or names.now result []) ≡ false }
+    ensures least { (k : ℕ) → k < length names.now
+        → is_before (slice_index_or names.now k []) (slice_index_or names.now result []) ≡ false }
 {
     let mut place = 0;
     for at in 0..names.len() {

@@ -25,7 +25,8 @@ use timing_defs::{
 
 /// Whether a pin of a name stands at a place.
 fn is_pin_at(pins: &[CellPin], at: usize, name: &Name) -> bool
-    ensures { result ≡ option_map_or (λ pin. bytes_eq pin.name name.now) (slice_get pins.now at) false }
+    ensures { result
+        ≡ option_map_or (λ pin. bytes_eq pin.name name.now) (slice_get pins.now at) false }
 {
     match pins.get(at) {
         Some(pin) => pin.name == *name,
@@ -76,7 +77,8 @@ fn refuse_cell(alloc: Global, name: &Name) -> Result<(), Fault>
 /// Refuses an instance whose cell cannot be used, or lacks a pin.
 fn check_inst(alloc: Global, late: &Library, table: &CellTable, inst: &Inst) -> Result<(), Fault>
     requires { ArePlaces late.now.cells table.now.places.entries }
-    ensures { (early : Library) → table.now.agree ≡ map (agrees_in early) late.now.cells → IsChecked result (link_inst early late.now inst.now) }
+    ensures { (early : Library) → table.now.agree ≡ map (agrees_in early) late.now.cells
+        → IsChecked result (link_inst early late.now inst.now) }
 {
     match usable_cell(late, table, &inst.cell) {
         Some(cell) => check_conns(alloc, &inst.name, cell, inst.conns.as_slice()),
@@ -109,7 +111,8 @@ fn add_name(alloc: Global, set: &mut IndexSet<Name>, name: &Name) -> Result<(), 
 
 /// The set of some names.
 fn name_set(alloc: Global, names: &[Name]) -> Result<IndexSet<Name>, Memory>
-    ensures { IfOk result (λ set. (name : List ℕ) → is_listed set.keys name ≡ is_listed names.now name) }
+    ensures { IfOk result
+        (λ set. (name : List ℕ) → is_listed set.keys name ≡ is_listed names.now name) }
 {
     let mut set = IndexSet::with_capacity(alloc, names.len())?;
     for name in names {
@@ -178,8 +181,11 @@ pub fn link(
     parasitics: Parasitics,
 ) -> Result<Store, Fault>
     requires { AreDocuments early late netlist constraints parasitics }
-    ensures linked { IfOk result (λ store. linked early late netlist constraints parasitics ≡ ok store.design) }
-    ensures refused { IfErr result (λ fault. (fault ≡ memory) ⊎ (linked early late netlist constraints parasitics ≡ err fault)) }
+    ensures linked { IfOk result
+        (λ store. linked early late netlist constraints parasitics ≡ ok store.design) }
+    ensures refused { IfErr result
+        (λ fault. (fault ≡ memory)
+        ⊎ (linked early late netlist constraints parasitics ≡ err fault)) }
 {
     check_documents(alloc, &early, &late, &netlist, &parasitics)?;
     let Module {

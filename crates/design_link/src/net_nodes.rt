@@ -24,7 +24,10 @@ const FEW: usize = 16_383;
 /// The pins of a net, as nodes.
 fn pin_nodes(alloc: Global, store: &Store, net: u32) -> Result<NodeSet, Memory>
     requires { is_number store.now.nets net ≡ true }
-    ensures { IfOk result (λ set. (name : List ℕ) → name_at store.now.nets net ≡ Some name → HaveSameNodes (nodes_in set) (map root_node (filter (is_on name) (pins store.now.design)))) }
+    ensures { IfOk result
+        (λ set. (name : List ℕ) → name_at store.now.nets net ≡ Some name
+        → HaveSameNodes (nodes_in set)
+        (map root_node (filter (is_on name) (pins store.now.design)))) }
 {
     store.laws();
     let mut nodes = NodeSet::new(alloc);
@@ -38,7 +41,10 @@ fn pin_nodes(alloc: Global, store: &Store, net: u32) -> Result<NodeSet, Memory>
 fn lumped_nodes(alloc: Global, store: &Store, net: u32, rc: &NetRc) -> Result<NodeSet, Memory>
     requires net { is_number store.now.nets net ≡ true }
     requires rc { IsRcOf store.now net rc.now }
-    ensures { IfOk result (λ set. HaveSameNodes (nodes_in set) (if is_lumped rc.now then map root_node (filter (is_on rc.now.net) (pins store.now.design)) else [])) }
+    ensures { IfOk result
+        (λ set. HaveSameNodes (nodes_in set)
+        (if is_lumped rc.now then map root_node (filter (is_on rc.now.net) (pins store.now.design))
+        else [])) }
 {
     if rc.ress.len() > 0 {
         return Ok(NodeSet::new(alloc));
@@ -51,7 +57,8 @@ fn lumped_nodes(alloc: Global, store: &Store, net: u32, rc: &NetRc) -> Result<No
 fn rc_nodes(alloc: Global, store: &Store, net: u32, rc: &NetRc) -> Result<NodeSet, Memory>
     requires net { is_number store.now.nets net ≡ true }
     requires rc { IsRcOf store.now net rc.now }
-    ensures { IfOk result (λ set. HaveSameNodes (nodes_in set) (nodes_of_rc store.now.design rc.now)) }
+    ensures { IfOk result
+        (λ set. HaveSameNodes (nodes_in set) (nodes_of_rc store.now.design rc.now)) }
 {
     let lumped = lumped_nodes(alloc, store, net, rc)?;
     let ends = lumped.with_resistors(alloc, rc.ress.as_slice())?;

@@ -18,7 +18,8 @@ fn one_if(holds: bool) -> usize
 /// How many pins drive a net.
 pub(crate) fn driver_count(store: &Store, net: u32) -> usize
     requires { is_number store.now.nets net ≡ true }
-    ensures { option_map (λ name. length (drivers store.now.design name)) (name_at store.now.nets net) ≡ Some result }
+    ensures { option_map (λ name. length (drivers store.now.design name))
+        (name_at store.now.nets net) ≡ Some result }
 {
     store.laws();
     let mut count = 0;

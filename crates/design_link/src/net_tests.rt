@@ -148,7 +148,10 @@ fn add_net(
 /// The nets that fail a test.
 fn failing_nets(alloc: Global, store: &Store, test: NetTest) -> Result<Items<Name>, Memory>
     requires { IsReadyFor test store.now.design }
-    ensures { IfOk result (λ names. names ≡ filter (fails test store.now.design) (names_below store.now.nets (length store.now.nets))) }
+    ensures { IfOk result
+        (λ names. names
+        ≡ filter (fails test store.now.design)
+        (names_below store.now.nets (length store.now.nets))) }
 {
     let mut names = Items::new(alloc);
     for net in 0..store.net_bound() {
@@ -167,7 +170,8 @@ fn add_failing(
     net: &Name,
 ) -> Result<(), Memory>
     requires { IsReadyFor test store.now.design }
-    ensures { OnOk result (names.new ≡ names.old ++ filter (fails_here test store.now.design) (net.now ∷ [])) }
+    ensures { OnOk result
+        (names.new ≡ names.old ++ filter (fails_here test store.now.design) (net.now ∷ [])) }
 {
     store.laws();
     let Some(number) = store.net(net) else {
@@ -205,7 +209,8 @@ fn failing_among(
     among: Option<&Items<Name>>,
 ) -> Result<Items<Name>, Memory>
     requires { IsReadyFor test store.now.design }
-    ensures { IfOk result (λ names. least names ≡ least_among (option_copied among.entry) test store.now.design) }
+    ensures { IfOk result
+        (λ names. least names ≡ least_among (option_copied among.entry) test store.now.design) }
 {
     store.laws();
     match among {
@@ -222,7 +227,8 @@ pub(crate) fn least_net(
     among: Option<&Items<Name>>,
 ) -> Result<Option<Name>, Memory>
     requires { IsReadyFor test store.now.design }
-    ensures { IfOk result (λ name. name ≡ least_among (option_copied among.entry) test store.now.design) }
+    ensures { IfOk result
+        (λ name. name ≡ least_among (option_copied among.entry) test store.now.design) }
 {
     let names = failing_among(alloc, store, test, among)?;
     let least = least_name(alloc, names.as_slice())?;

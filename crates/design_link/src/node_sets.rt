@@ -31,7 +31,8 @@ impl NodeSet {
 
     /// Adds a pin, if it is not there.
     pub(crate) fn with_pin(self, alloc: Global, pin: &Name) -> Result<NodeSet, Memory>
-        ensures { IfOk result (λ more. HaveSameNodes (nodes_in more) (nodes_in self ++ rc_pin pin.now ∷ [])) }
+        ensures { IfOk result
+            (λ more. HaveSameNodes (nodes_in more) (nodes_in self ++ rc_pin pin.now ∷ [])) }
     {
         let NodeSet { mut pins, inners } = self;
         match pins.insert(pin.copied(alloc)?) {
@@ -42,7 +43,8 @@ impl NodeSet {
 
     /// Adds an inner node, if it is not there.
     fn with_inner(self, inner: u32) -> Result<NodeSet, Memory>
-        ensures { IfOk result (λ more. HaveSameNodes (nodes_in more) (nodes_in self ++ rc_inner inner ∷ [])) }
+        ensures { IfOk result
+            (λ more. HaveSameNodes (nodes_in more) (nodes_in self ++ rc_inner inner ∷ [])) }
     {
         let NodeSet { pins, mut inners } = self;
         match inners.insert(inner) {
@@ -53,7 +55,8 @@ impl NodeSet {
 
     /// Adds a node, if it is not there.
     fn with_node(self, alloc: Global, node: &RcNode) -> Result<NodeSet, Memory>
-        ensures { IfOk result (λ more. HaveSameNodes (nodes_in more) (nodes_in self ++ node.now ∷ [])) }
+        ensures { IfOk result
+            (λ more. HaveSameNodes (nodes_in more) (nodes_in self ++ node.now ∷ [])) }
     {
         match node {
             RcNode::Pin(pin) => self.with_pin(alloc, pin),
@@ -63,7 +66,9 @@ impl NodeSet {
 
     /// Adds the ends of a resistor.
     fn with_ends(self, alloc: Global, resistor: &RcRes) -> Result<NodeSet, Memory>
-        ensures { IfOk result (λ more. HaveSameNodes (nodes_in more) (nodes_in self ++ resistor.now.a ∷ resistor.now.b ∷ [])) }
+        ensures { IfOk result
+            (λ more. HaveSameNodes (nodes_in more)
+            (nodes_in self ++ resistor.now.a ∷ resistor.now.b ∷ [])) }
     {
         let first = self.with_node(alloc, &resistor.a)?;
         let both = first.with_node(alloc, &resistor.b)?;
@@ -76,7 +81,9 @@ impl NodeSet {
         alloc: Global,
         resistors: &[RcRes],
     ) -> Result<NodeSet, Memory>
-        ensures { IfOk result (λ more. HaveSameNodes (nodes_in more) (nodes_in self ++ flat_map (λ r. r.a ∷ r.b ∷ []) resistors.now)) }
+        ensures { IfOk result
+            (λ more. HaveSameNodes (nodes_in more)
+            (nodes_in self ++ flat_map (λ r. r.a ∷ r.b ∷ []) resistors.now)) }
     {
         let mut all = self;
         for resistor in resistors {
@@ -87,7 +94,8 @@ impl NodeSet {
 
     /// Adds the nodes of capacitances.
     pub(crate) fn with_caps(self, alloc: Global, caps: &[RcCap]) -> Result<NodeSet, Memory>
-        ensures { IfOk result (λ more. HaveSameNodes (nodes_in more) (nodes_in self ++ map (λ c. c.node) caps.now)) }
+        ensures { IfOk result
+            (λ more. HaveSameNodes (nodes_in more) (nodes_in self ++ map (λ c. c.node) caps.now)) }
     {
         let mut all = self;
         for cap in caps {

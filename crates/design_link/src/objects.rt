@@ -18,7 +18,8 @@ use timing_defs::{Clock, Dir, Items, Name, Object};
 /// The direction of the port that has the number of a name; none where an instance's pin has it.
 fn port_dir_at(store: &Store, pin: u32) -> Option<Dir>
     requires { is_number store.now.pins pin ≡ true }
-    ensures { (name : List ℕ) → number_of store.now.pins name ≡ Some pin → result ≡ option_map (λ port. port.dir) (port_named store.now.design name) }
+    ensures { (name : List ℕ) → number_of store.now.pins name ≡ Some pin → result
+        ≡ option_map (λ port. port.dir) (port_named store.now.design name) }
 {
     store.laws();
     match store.inst_of(pin) {
@@ -76,7 +77,9 @@ fn is_clock(clocks: &[Clock], name: &Name) -> bool
 
 /// Whether the pin or the instance of a word is there.
 fn is_pin_or_inst(alloc: Global, store: &Store, word: &Name) -> Result<bool, Memory>
-    ensures { IfOk result (λ there. there ≡ (is_pin store.now.design (as_pin word.now) || is_inst store.now.design word.now)) }
+    ensures { IfOk result
+        (λ there. there
+        ≡ (is_pin store.now.design (as_pin word.now) || is_inst store.now.design word.now)) }
 {
     let pin = pin_word(alloc, word)?;
     if is_pin(store, &pin) {
@@ -159,7 +162,9 @@ fn add_object(
     dir: Dir,
     object: &Object,
 ) -> Result<(), Memory>
-    ensures { OnOk result (names.new ≡ names.old ++ filter_map (dangling_object store.now.design dir) (object.now ∷ [])) }
+    ensures { OnOk result
+        (names.new
+        ≡ names.old ++ filter_map (dangling_object store.now.design dir) (object.now ∷ [])) }
 {
     let there = is_there(alloc, store, dir, object)?;
     add_if(alloc, names, !there, word_of(object))?;
@@ -174,7 +179,8 @@ fn add_list(
     dir: Dir,
     objects: &[Object],
 ) -> Result<(), Memory>
-    ensures { OnOk result (names.new ≡ names.old ++ filter_map (dangling_object store.now.design dir) objects.now) }
+    ensures { OnOk result
+        (names.new ≡ names.old ++ filter_map (dangling_object store.now.design dir) objects.now) }
 {
     for object in objects {
         add_object(alloc, store, names, dir, object)?;
@@ -190,7 +196,8 @@ pub(crate) fn add_objects(
     dir: Dir,
     objects: &Option<Items<Object>>,
 ) -> Result<(), Memory>
-    ensures { OnOk result (names.new ≡ names.old ++ dangling_objects store.now.design dir objects.now) }
+    ensures { OnOk result
+        (names.new ≡ names.old ++ dangling_objects store.now.design dir objects.now) }
 {
     match objects {
         Some(objects) => add_list(alloc, store, names, dir, objects.as_slice()),

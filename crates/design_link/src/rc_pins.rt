@@ -46,7 +46,8 @@ fn has_name(store: &Store, pins: &[u32], name: &Name) -> bool
 /// Whether a pin of a name is on a net. The pins of most nets are few, and are looked through.
 fn is_named_on(store: &Store, net: u32, name: &Name) -> bool
     requires { is_number store.now.nets net ≡ true }
-    ensures { (word : List ℕ) → name_at store.now.nets net ≡ Some word → result ≡ is_pin_of store.now.design word (RcNode.Pin name.now) }
+    ensures { (word : List ℕ) → name_at store.now.nets net ≡ Some word → result
+        ≡ is_pin_of store.now.design word (RcNode.Pin name.now) }
 {
     store.laws();
     let pins = pins_on(store, net);
@@ -62,7 +63,8 @@ fn is_named_on(store: &Store, net: u32, name: &Name) -> bool
 /// Whether a node is inner, or a pin on a net.
 fn is_pin_of(store: &Store, net: u32, node: &RcNode) -> bool
     requires { is_number store.now.nets net ≡ true }
-    ensures { (word : List ℕ) → name_at store.now.nets net ≡ Some word → result ≡ is_pin_of store.now.design word node.now }
+    ensures { (word : List ℕ) → name_at store.now.nets net ≡ Some word → result
+        ≡ is_pin_of store.now.design word node.now }
 {
     match node {
         RcNode::Pin(name) => is_named_on(store, net, name),
@@ -73,7 +75,10 @@ fn is_pin_of(store: &Store, net: u32, node: &RcNode) -> bool
 /// Whether the pins at the ends of a resistor are on a net.
 fn has_ends_on(store: &Store, net: u32, resistor: &RcRes) -> bool
     requires { is_number store.now.nets net ≡ true }
-    ensures { (word : List ℕ) → name_at store.now.nets net ≡ Some word → result ≡ (is_pin_of store.now.design word resistor.now.a && is_pin_of store.now.design word resistor.now.b) }
+    ensures { (word : List ℕ) → name_at store.now.nets net ≡ Some word → result
+        ≡
+        (is_pin_of store.now.design word resistor.now.a && is_pin_of store.now.design word
+        resistor.now.b) }
 {
     if !is_pin_of(store, net, &resistor.a) {
         return false;
@@ -84,7 +89,9 @@ fn has_ends_on(store: &Store, net: u32, resistor: &RcRes) -> bool
 /// Whether all pins at the ends of resistors are on a net.
 fn are_ends_on(store: &Store, net: u32, ress: &[RcRes]) -> bool
     requires { is_number store.now.nets net ≡ true }
-    ensures { (word : List ℕ) → name_at store.now.nets net ≡ Some word → result ≡ list_all (λ r. is_pin_of store.now.design word r.a && is_pin_of store.now.design word r.b) ress.now }
+    ensures { (word : List ℕ) → name_at store.now.nets net ≡ Some word → result
+        ≡ list_all (λ r. is_pin_of store.now.design word r.a && is_pin_of store.now.design word r.b)
+        ress.now }
 {
     for resistor in ress {
         if !has_ends_on(store, net, resistor) {
@@ -97,7 +104,8 @@ fn are_ends_on(store: &Store, net: u32, ress: &[RcRes]) -> bool
 /// Whether all pins at capacitances are on a net.
 fn are_caps_on(store: &Store, net: u32, caps: &[RcCap]) -> bool
     requires { is_number store.now.nets net ≡ true }
-    ensures { (word : List ℕ) → name_at store.now.nets net ≡ Some word → result ≡ list_all (λ c. is_pin_of store.now.design word c.node) caps.now }
+    ensures { (word : List ℕ) → name_at store.now.nets net ≡ Some word → result
+        ≡ list_all (λ c. is_pin_of store.now.design word c.node) caps.now }
 {
     for cap in caps {
         if !is_pin_of(store, net, &cap.node) {
@@ -110,7 +118,8 @@ fn are_caps_on(store: &Store, net: u32, caps: &[RcCap]) -> bool
 /// Whether each pin that some parasitics name is on their net.
 fn are_named_on(store: &Store, net: u32, rc: &NetRc) -> bool
     requires { is_number store.now.nets net ≡ true }
-    ensures { (word : List ℕ) → name_at store.now.nets net ≡ Some word → result ≡ list_all (is_pin_of store.now.design word) (named_nodes rc.now) }
+    ensures { (word : List ℕ) → name_at store.now.nets net ≡ Some word → result
+        ≡ list_all (is_pin_of store.now.design word) (named_nodes rc.now) }
 {
     if !are_ends_on(store, net, rc.ress.as_slice()) {
         return false;
@@ -121,7 +130,9 @@ fn are_named_on(store: &Store, net: u32, rc: &NetRc) -> bool
 /// Whether all pins on a net are in a set.
 fn are_pins_in(store: &Store, net: u32, ends: &NodeSet) -> bool
     requires { is_number store.now.nets net ≡ true }
-    ensures { (word : List ℕ) → name_at store.now.nets net ≡ Some word → result ≡ list_all (λ pin. is_node (nodes_in ends.now) (root_node pin)) (filter (is_on word) (pins store.now.design)) }
+    ensures { (word : List ℕ) → name_at store.now.nets net ≡ Some word → result
+        ≡ list_all (λ pin. is_node (nodes_in ends.now) (root_node pin))
+        (filter (is_on word) (pins store.now.design)) }
 {
     store.laws();
     for pin in pins_on(store, net) {
@@ -159,7 +170,9 @@ fn is_at_end(ress: &[RcRes], name: &Name) -> bool
 /// Whether each pin on a net is at the end of one of some resistors, which are looked through for each.
 fn are_pins_at(store: &Store, net: u32, ress: &[RcRes]) -> bool
     requires { is_number store.now.nets net ≡ true }
-    ensures { (word : List ℕ) → name_at store.now.nets net ≡ Some word → result ≡ list_all (λ pin. list_any (λ r. touches r (root_node pin)) ress.now) (filter (is_on word) (pins store.now.design)) }
+    ensures { (word : List ℕ) → name_at store.now.nets net ≡ Some word → result
+        ≡ list_all (λ pin. list_any (λ r. touches r (root_node pin)) ress.now)
+        (filter (is_on word) (pins store.now.design)) }
 {
     store.laws();
     for pin in pins_on(store, net) {
@@ -173,7 +186,9 @@ fn are_pins_at(store: &Store, net: u32, ress: &[RcRes]) -> bool
 /// Whether each pin on a net is at the end of a resistor. The ends are hashed where resistors are many.
 fn are_pins_at_ends(alloc: Global, store: &Store, net: u32, rc: &NetRc) -> Result<bool, Memory>
     requires { is_number store.now.nets net ≡ true }
-    ensures { IfOk result (λ all. (word : List ℕ) → name_at store.now.nets net ≡ Some word → all ≡ list_all (has_resistor rc.now) (filter (is_on word) (pins store.now.design))) }
+    ensures { IfOk result
+        (λ all. (word : List ℕ) → name_at store.now.nets net ≡ Some word → all
+        ≡ list_all (has_resistor rc.now) (filter (is_on word) (pins store.now.design))) }
 {
     if rc.ress.len() <= FEW {
         return Ok(are_pins_at(store, net, rc.ress.as_slice()));

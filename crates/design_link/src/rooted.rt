@@ -32,7 +32,8 @@ fn add_node(alloc: Global, pins: &mut Items<PinCap>, node: &RcNode) -> Result<()
 
 /// Adds the pins at the ends of a resistor.
 fn add_ends(alloc: Global, pins: &mut Items<PinCap>, resistor: &RcRes) -> Result<(), Memory>
-    ensures { OnOk result (pins.new ≡ pins.old ++ filter_map bare_pin (resistor.now.a ∷ resistor.now.b ∷ [])) }
+    ensures { OnOk result
+        (pins.new ≡ pins.old ++ filter_map bare_pin (resistor.now.a ∷ resistor.now.b ∷ [])) }
 {
     add_node(alloc, pins, &resistor.a)?;
     add_node(alloc, pins, &resistor.b)?;
@@ -41,7 +42,8 @@ fn add_ends(alloc: Global, pins: &mut Items<PinCap>, resistor: &RcRes) -> Result
 
 /// Adds the pins at the ends of resistors.
 fn add_resistors(alloc: Global, pins: &mut Items<PinCap>, ress: &[RcRes]) -> Result<(), Memory>
-    ensures { OnOk result (pins.new ≡ pins.old ++ filter_map bare_pin (flat_map (λ r. r.a ∷ r.b ∷ []) ress.now)) }
+    ensures { OnOk result
+        (pins.new ≡ pins.old ++ filter_map bare_pin (flat_map (λ r. r.a ∷ r.b ∷ []) ress.now)) }
 {
     for resistor in ress {
         add_ends(alloc, pins, resistor)?;
@@ -51,7 +53,8 @@ fn add_resistors(alloc: Global, pins: &mut Items<PinCap>, ress: &[RcRes]) -> Res
 
 /// Adds the pins at capacitances.
 fn add_caps(alloc: Global, pins: &mut Items<PinCap>, caps: &[RcCap]) -> Result<(), Memory>
-    ensures { OnOk result (pins.new ≡ pins.old ++ filter_map bare_pin (map (λ c. c.node) caps.now)) }
+    ensures { OnOk result
+        (pins.new ≡ pins.old ++ filter_map bare_pin (map (λ c. c.node) caps.now)) }
 {
     for cap in caps {
         add_node(alloc, pins, &cap.node)?;

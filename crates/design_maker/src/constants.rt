@@ -11,7 +11,8 @@ use timing_defs::Items;
 /// A table by its template.
 #[tactic(auto, unfolding(crate::specs::Constants::table_text))]
 fn push_table(out: &mut Vec<u8>, name: &[u8], template: &[u8], values: &[u8]) -> Result<(), Memory>
-    ensures { OnOk result (out.new.items ≡ out.old.items ++ table_text name.now template.now values.now) }
+    ensures { OnOk result
+        (out.new.items ≡ out.old.items ++ table_text name.now template.now values.now) }
 {
     push(out, name)?;
     push(out, b" (")?;
@@ -44,7 +45,8 @@ fn push_test(out: &mut Vec<u8>, sort: &[u8], time: &[u8]) -> Result<(), Memory>
 /// The tables of an arc.
 #[tactic(auto, unfolding(crate::specs::Constants::arc_text))]
 fn push_arc(out: &mut Vec<u8>, template: &[u8], delay: &[u8], slew: &[u8]) -> Result<(), Memory>
-    ensures { OnOk result (out.new.items ≡ out.old.items ++ arc_text template.now delay.now slew.now) }
+    ensures { OnOk result
+        (out.new.items ≡ out.old.items ++ arc_text template.now delay.now slew.now) }
 {
     push_table(out, b"cell_rise", template, delay)?;
     push_table(out, b"rise_transition", template, slew)?;
@@ -161,7 +163,8 @@ fn push_gate(
     delay: &[u8],
     slew: &[u8],
 ) -> Result<(), Memory>
-    ensures { OnOk result (out.new.items ≡ out.old.items ++ gate_text cell.now cap.now delay.now slew.now) }
+    ensures { OnOk result
+        (out.new.items ≡ out.old.items ++ gate_text cell.now cap.now delay.now slew.now) }
 {
     push_cell_head(out, cell)?;
     push_gate_inputs(out, cap)?;

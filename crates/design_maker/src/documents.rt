@@ -27,7 +27,9 @@ pub struct Documents {
 /// The netlist of so many gates in each lane, and the last number drawn.
 fn netlist(alloc: Global, gates: u32, start: u64) -> Result<(Items<u8>, u64), Memory>
     requires { gates < 2 ^ 31 }
-    ensures { IfOk result (λ made. (made.0 ≡ module_text (lanes_from 0 4 gates start)) × (made.1 ≡ behind_lanes 4 gates start)) }
+    ensures { IfOk result
+        (λ made. (made.0 ≡ module_text (lanes_from 0 4 gates start))
+        × (made.1 ≡ behind_lanes 4 gates start)) }
 {
     let mut text = Vec::new(alloc);
     let x = push_netlist(alloc, &mut text, gates, start)?;
@@ -47,7 +49,9 @@ pub fn make(alloc: Global, start: u64, gates: u32, edits: u32) -> Result<Documen
     ensures library { IfOk result (λ made. made.lib ≡ library_text) }
     ensures netlist { IfOk result (λ made. made.netlist ≡ module_text (insts_of start gates)) }
     ensures constraints { IfOk result (λ made. made.sdc ≡ constraints_text) }
-    ensures scripts { IfOk result (λ made. made.scripts ≡ map (λ (script : Script). commands_text script.commands) (scripts_of start gates edits)) }
+    ensures scripts { IfOk result
+        (λ made. made.scripts
+        ≡ map (λ (script : Script). commands_text script.commands) (scripts_of start gates edits)) }
 {
     let (netlist, x) = netlist(alloc, gates / 4, start)?;
     let scripts = scripts(alloc, gates / 4, edits / 4, x)?;

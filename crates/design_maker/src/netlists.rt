@@ -15,7 +15,8 @@ const BLOCK: u32 = 32;
 
 /// The connections of the register from which the nets of a lane start.
 fn push_first_conns(alloc: Global, out: &mut Vec<u8>, lane: u32) -> Result<(), Memory>
-    ensures { OnOk result (out.new.items ≡ out.old.items ++ conns_text (first_register lane).conns) }
+    ensures { OnOk result
+        (out.new.items ≡ out.old.items ++ conns_text (first_register lane).conns) }
 {
     push_joined(out, b"D", b"d")?;
     push(out, b", ")?;
@@ -87,7 +88,8 @@ fn push_last(
     block: u32,
 ) -> Result<(), Memory>
     requires { block < 2 ^ 26 }
-    ensures { OnOk result (out.new.items ≡ out.old.items ++ inst_text (last_register lane gates block)) }
+    ensures { OnOk result
+        (out.new.items ≡ out.old.items ++ inst_text (last_register lane gates block)) }
 {
     push(out, b"DFF e")?;
     push_place(alloc, out, lane, block)?;
@@ -108,7 +110,8 @@ fn push_gates(
 ) -> Result<u64, Memory>
     requires { gates < 2 ^ 31 }
     ensures last { IfOk result (λ x. x ≡ drawn_on gates start) }
-    ensures text { OnOk result (out.new.items ≡ out.old.items ++ insts_text (gates_from lane 0 gates start)) }
+    ensures text { OnOk result
+        (out.new.items ≡ out.old.items ++ insts_text (gates_from lane 0 gates start)) }
 {
     let mut x = start;
     for before in 0..gates {
@@ -121,7 +124,9 @@ fn push_gates(
 /// The registers of a lane's blocks.
 fn push_registers(alloc: Global, out: &mut Vec<u8>, lane: u32, gates: u32) -> Result<(), Memory>
     requires { gates < 2 ^ 31 }
-    ensures { OnOk result (out.new.items ≡ out.old.items ++ insts_text (registers_from lane gates 0 (blocks_of gates))) }
+    ensures { OnOk result
+        (out.new.items
+        ≡ out.old.items ++ insts_text (registers_from lane gates 0 (blocks_of gates))) }
 {
     for block in 0..(gates + 31) / BLOCK {
         push_last(alloc, out, lane, gates, block)?;
@@ -140,7 +145,8 @@ fn push_lane(
 ) -> Result<u64, Memory>
     requires { gates < 2 ^ 31 }
     ensures last { IfOk result (λ x. x ≡ drawn_on gates start) }
-    ensures text { OnOk result (out.new.items ≡ out.old.items ++ insts_text (lane_of lane gates start)) }
+    ensures text { OnOk result
+        (out.new.items ≡ out.old.items ++ insts_text (lane_of lane gates start)) }
 {
     push_first(alloc, out, lane)?;
     let x = push_gates(alloc, out, lane, gates, start)?;
@@ -152,7 +158,8 @@ fn push_lane(
 fn push_lanes(alloc: Global, out: &mut Vec<u8>, gates: u32, start: u64) -> Result<u64, Memory>
     requires { gates < 2 ^ 31 }
     ensures last { IfOk result (λ x. x ≡ behind_lanes 4 gates start) }
-    ensures text { OnOk result (out.new.items ≡ out.old.items ++ insts_text (lanes_from 0 4 gates start)) }
+    ensures text { OnOk result
+        (out.new.items ≡ out.old.items ++ insts_text (lanes_from 0 4 gates start)) }
 {
     let mut x = start;
     for lane in 0..4 {
@@ -171,7 +178,8 @@ pub(crate) fn push_netlist(
 ) -> Result<u64, Memory>
     requires { gates < 2 ^ 31 }
     ensures last { IfOk result (λ x. x ≡ behind_lanes 4 gates start) }
-    ensures text { OnOk result (out.new.items ≡ out.old.items ++ module_text (lanes_from 0 4 gates start)) }
+    ensures text { OnOk result
+        (out.new.items ≡ out.old.items ++ module_text (lanes_from 0 4 gates start)) }
 {
     push(out, b"module generated (clk, d);\ninput clk, d;\n")?;
     let x = push_lanes(alloc, out, gates, start)?;

@@ -29,7 +29,8 @@ pub(crate) fn push_place(
     lane: u32,
     number: u32,
 ) -> Result<(), Memory>
-    ensures { OnOk result (out.new.items ≡ out.old.items ++ (decimal lane ++ (95 ∷ decimal number))) }
+    ensures { OnOk result
+        (out.new.items ≡ out.old.items ++ (decimal lane ++ (95 ∷ decimal number))) }
 {
     push_number(alloc, out, lane)?;
     push(out, b"_")?;
@@ -57,7 +58,8 @@ pub(crate) fn push_conn(
     lane: u32,
     net: u32,
 ) -> Result<(), Memory>
-    ensures { OnOk result (out.new.items ≡ out.old.items ++ conn_text (joined pin.now (net_name lane net))) }
+    ensures { OnOk result
+        (out.new.items ≡ out.old.items ++ conn_text (joined pin.now (net_name lane net))) }
 {
     push(out, b".")?;
     push(out, pin)?;

@@ -53,7 +53,8 @@ fn push_script(
 ) -> Result<u64, Memory>
     requires { (0 < gates) × (gates < 2 ^ 31) }
     ensures last { IfOk result (λ x. x ≡ drawn_on edits start) }
-    ensures text { OnOk result (out.new.items ≡ out.old.items ++ commands_text (commands_from lane gates edits start)) }
+    ensures text { OnOk result
+        (out.new.items ≡ out.old.items ++ commands_text (commands_from lane gates edits start)) }
 {
     let mut x = start;
     for edit in 0..edits {
@@ -73,7 +74,9 @@ fn script(
     start: u64,
 ) -> Result<(Items<u8>, u64), Memory>
     requires { (0 < gates) × (gates < 2 ^ 31) }
-    ensures { IfOk result (λ made. (made.0 ≡ commands_text (commands_from lane gates edits start)) × (made.1 ≡ drawn_on edits start)) }
+    ensures { IfOk result
+        (λ made. (made.0 ≡ commands_text (commands_from lane gates edits start))
+        × (made.1 ≡ drawn_on edits start)) }
 {
     let mut text = Vec::new(alloc);
     let x = push_script(alloc, &mut text, lane, gates, edits, start)?;
@@ -88,7 +91,10 @@ pub(crate) fn scripts(
     start: u64,
 ) -> Result<Items<Items<u8>>, Memory>
     requires { (0 < gates) × (gates < 2 ^ 31) }
-    ensures { IfOk result (λ made. made ≡ map (λ (script : Script). commands_text script.commands) (scripts_from 0 4 gates edits start)) }
+    ensures { IfOk result
+        (λ made. made
+        ≡ map (λ (script : Script). commands_text script.commands)
+        (scripts_from 0 4 gates edits start)) }
 {
     let mut all = Items::new(alloc);
     let mut x = start;

@@ -3,49 +3,88 @@
 use live_doors::{AppendSink, NotOpened};
 use sta_outside::{FileShelf, PutFault, Shelf, Sink};
 use std::alloc::Global;
-use std::fs::{Metadata, OpenFile};
+use std::fs::{File, Metadata, OpenFile};
 use std::io::{ErrorKind, Write};
 use std::process::Abort;
+use std::rt::Files;
 use std::{fs, io};
+
+/// Why a journal is not opened, or none where it is.
+fn why_not_opened<R: Files<File = File>>(rt: &R, path: &str) -> Option<NotOpened> {
+    match AppendSink::open(rt, path) {
+        Ok(sink) => {
+            drop(sink);
+            None
+        }
+        Err(why) => Some(why),
+    }
+}
+
+/// Asserts why a journal is not opened, or that it is.
+fn assert_opening<R: Files<File = File> + Abort>(rt: &R, path: &str, wanted: Option<NotOpened>) {
+    assert_eq!(rt; why_not_opened(rt, path), wanted, "{path}");
+}
 
 /// Puts a piece, as a desk that goes from thread to thread does.
 fn put<S: Sink + Send>(sink: &mut S, piece: &str) -> Result<(), PutFault> {
     sink.put(piece.as_bytes())
 }
 
+/// Asserts that a piece is put.
+fn assert_put<S: Sink + Send>(rt: &impl Abort, sink: &mut S, piece: &str) {
+    assert_eq!(rt; put(sink, piece), Ok(()));
+}
+
+/// Asserts the bytes of a file.
+fn assert_file<R: Files + Abort>(rt: &R, alloc: Global, path: &str, wanted: &[u8]) {
+    let mut shelf = FileShelf::new(rt);
+    let fetched = shelf.fetch(alloc, path).expect(rt, "a document");
+    assert_eq!(rt; fetched.as_slice(), wanted);
+    drop(fetched);
+}
+
+/// Asserts that there is no file.
+fn assert_no_file<R: Files + Abort>(rt: &R, alloc: Global, path: &str) {
+    let mut shelf = FileShelf::new(rt);
+    let fetched = shelf.fetch(alloc, path);
+    assert!(rt; fetched.is_err(), "no file");
+    drop(fetched);
+}
+
+/// Holds a journal and puts two pieces, which stand in its file at once, while nobody else can open it.
+fn put_while_held<R: Files<File = File> + Abort>(rt: &R, alloc: Global, path: &str) {
+    let mut sink = AppendSink::open(rt, path).expect(rt, "the lock");
+    assert_opening(rt, path, Some(NotOpened::Locked));
+    assert_put(rt, &mut sink, "derates 1000 1000 1000 1000\n");
+    assert_put(rt, &mut sink, "entry 2 1 1\n");
+    assert_eq!(rt; sink.fault_count(), 0);
+    assert_file(
+        rt,
+        alloc,
+        path,
+        b"journal 2 1 1\nderates 1000 1000 1000 1000\nentry 2 1 1\n".as_slice(),
+    );
+    drop(sink);
+}
+
 #[test]
 fn a_journal_is_appended_to_and_has_one_holder(rt: HostRuntime) {
     let path = "door_tests_journal.txt";
     fs::write(&rt, path, "journal 2 1 1\n").expect(&rt, "a file");
-    let mut sink = AppendSink::open(&rt, path).expect(&rt, "the lock");
-    assert_eq!(rt; AppendSink::open(&rt, path).err(), Some(NotOpened::Locked));
-    assert_eq!(rt; put(&mut sink, "derates 1000 1000 1000 1000\n"), Ok(()));
-    assert_eq!(rt; put(&mut sink, "entry 2 1 1\n"), Ok(()));
-    assert_eq!(rt; sink.fault_count(), 0);
-    let fetched = FileShelf::new(&rt).fetch(rt.alloc(), path);
-    drop(sink);
-    let again = AppendSink::open(&rt, path).is_ok();
+    put_while_held(&rt, rt.alloc(), path);
+    // the lock went with its holder
+    assert_opening(&rt, path, None);
     fs::remove_file(&rt, path).expect(&rt, "no file");
-    assert!(rt; again, "the lock went with its holder");
-    assert_eq!(rt;
-        fetched.expect(&rt, "a document").as_slice(),
-        b"journal 2 1 1\nderates 1000 1000 1000 1000\nentry 2 1 1\n".as_slice()
-    );
 }
 
 #[test]
 fn a_journal_that_is_missing_is_not_made(rt: HostRuntime) {
     let path = "door_tests_missing_journal.txt";
-    let missing = AppendSink::open(&rt, path).err();
-    assert_eq!(rt; missing, Some(NotOpened::Missing));
-    let fetched = FileShelf::new(&rt).fetch(rt.alloc(), path);
-    assert!(rt; fetched.is_err(), "no file");
-    let missing = AppendSink::open(&rt, "missing_folder/journal.txt").err();
-    assert_eq!(rt; missing, Some(NotOpened::Missing));
-    assert_eq!(rt;
-        AppendSink::open(&rt, ".").err(),
-        Some(NotOpened::Unreachable)
-    );
+    assert_opening(&rt, path, Some(NotOpened::Missing));
+    assert_no_file(&rt, rt.alloc(), path);
+    let other = "missing_folder/journal.txt";
+    assert_opening(&rt, other, Some(NotOpened::Missing));
+    assert_opening(&rt, ".", Some(NotOpened::Unreachable));
 }
 
 /// A file that takes two bytes at a time, has this much room, and can be synchronized or not.
@@ -93,6 +132,11 @@ impl OpenFile for Disk {
     }
 }
 
+/// Asserts what a put of `entry` answers.
+fn assert_entry<S: Sink>(rt: &impl Abort, sink: &mut S, wanted: Result<(), PutFault>) {
+    assert_eq!(rt; sink.put(b"entry"), wanted);
+}
+
 /// Asserts what two puts of `entry` answer on a disk, and how many of them failed.
 fn assert_puts(
     rt: &impl Abort,
@@ -107,9 +151,10 @@ fn assert_puts(
         room,
         syncs,
     });
-    assert_eq!(rt; sink.put(b"entry"), wanted.0);
-    assert_eq!(rt; sink.put(b"entry"), wanted.1);
+    assert_entry(rt, &mut sink, wanted.0);
+    assert_entry(rt, &mut sink, wanted.1);
     assert_eq!(rt; sink.fault_count(), faults);
+    drop(sink);
 }
 
 #[test]

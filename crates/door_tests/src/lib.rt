@@ -8,6 +8,8 @@ mod gates;
 #[cfg(test)]
 mod halls;
 #[cfg(test)]
+mod hearing;
+#[cfg(test)]
 mod journals;
 #[cfg(test)]
 mod keepers;

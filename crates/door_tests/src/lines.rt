@@ -1,5 +1,6 @@
 //! What a door hears of an input's bytes.
 
+use crate::hearing::hears;
 use live_doors::{Door, Lost, OpenDoor};
 use std::alloc::Global;
 use std::io;
@@ -16,30 +17,40 @@ fn repeated(rt: &impl Abort, alloc: Global, count: usize, text: &str) -> Vec<u8>
     bytes
 }
 
-/// Asserts the next line by its length and its first byte, or that there is none.
-fn assert_heard<D: Door>(
-    rt: &impl Abort,
-    alloc: Global,
-    door: &mut D,
-    wanted: Option<(usize, u8)>,
-) {
-    let heard = door.hear(alloc).expect(rt, "a line or the end");
-    let seen = match heard {
-        None => None,
-        Some(line) => match line.first() {
-            Some(byte) => Some((line.len(), *byte)),
-            None => Some((0, b' ')),
-        },
-    };
-    assert_eq!(rt; seen, wanted);
+/// The length and the first byte of a line; of an empty one a space.
+fn shape_of(line: &[u8]) -> (usize, u8) {
+    match line.first() {
+        Some(byte) => (line.len(), *byte),
+        None => (0, b' '),
+    }
+}
+
+/// Asserts the next line by its length and its first byte.
+fn assert_shape<D: Door>(rt: &impl Abort, alloc: Global, door: &mut D, wanted: (usize, u8)) {
+    let line = door.hear(alloc).expect(rt, "a line").expect(rt, "a line");
+    assert_eq!(rt; shape_of(line.as_slice()), wanted);
+    drop(line);
+}
+
+/// Asserts that there is no line more.
+fn assert_end<D: Door>(rt: &impl Abort, alloc: Global, door: &mut D) {
+    assert_eq!(rt; hears(alloc, door), Ok(false));
 }
 
 /// Asserts the bytes of the next line.
 fn assert_line<D: Door>(rt: &impl Abort, alloc: Global, door: &mut D, wanted: &[u8]) {
-    match door.hear(alloc).expect(rt, "a line or the end") {
-        Some(line) => assert_eq!(rt; line.as_slice(), wanted),
-        None => assert!(rt; false),
-    }
+    let line = door.hear(alloc).expect(rt, "a line").expect(rt, "a line");
+    assert_eq!(rt; line.as_slice(), wanted);
+    drop(line);
+}
+
+/// Asserts four lines, of which the second is empty and the last has no line feed.
+fn assert_four_lines<D: Door>(rt: &impl Abort, alloc: Global, door: &mut D) {
+    assert_line(rt, alloc, door, b"take".as_slice());
+    assert_line(rt, alloc, door, b"".as_slice());
+    assert_line(rt, alloc, door, b"  at\r".as_slice());
+    assert_line(rt, alloc, door, b"last".as_slice());
+    assert_end(rt, alloc, door);
 }
 
 #[test]
@@ -47,11 +58,16 @@ fn an_input_is_heard_line_by_line(rt: HostRuntime) {
     let alloc = rt.alloc();
     let mut written = Vec::new(alloc);
     let mut door = OpenDoor::new(alloc, b"take\n\n  at\r\nlast".as_slice(), &mut written);
-    assert_line(&rt, alloc, &mut door, b"take".as_slice());
-    assert_line(&rt, alloc, &mut door, b"".as_slice());
-    assert_line(&rt, alloc, &mut door, b"  at\r".as_slice());
-    assert_line(&rt, alloc, &mut door, b"last".as_slice());
-    assert_heard(&rt, alloc, &mut door, None);
+    assert_four_lines(&rt, alloc, &mut door);
+    drop(door);
+    drop(written);
+}
+
+/// Asserts what is kept of a long line, and the line `next` behind it.
+fn assert_kept<D: Door>(rt: &impl Abort, alloc: Global, door: &mut D, kept: usize) {
+    assert_shape(rt, alloc, door, (kept, b'x'));
+    assert_shape(rt, alloc, door, (4, b'n'));
+    assert_end(rt, alloc, door);
 }
 
 /// Asserts what is heard of a line of so many bytes, and of the line behind it.
@@ -60,10 +76,10 @@ fn assert_long(rt: &impl Abort, alloc: Global, count: usize, kept: usize) {
     let input = BufReader::new(alloc, bytes.as_slice()).expect(rt, "memory");
     let mut written = Vec::new(alloc);
     let mut door = OpenDoor::new(alloc, input, &mut written);
-    assert_heard(rt, alloc, &mut door, Some((kept, b'x')));
-    assert_heard(rt, alloc, &mut door, Some((4, b'n')));
-    assert_heard(rt, alloc, &mut door, None);
+    assert_kept(rt, alloc, &mut door, kept);
     drop(door);
+    drop(written);
+    drop(bytes);
 }
 
 #[test]
@@ -75,15 +91,23 @@ fn of_a_long_line_one_byte_more_than_its_limit_is_kept(rt: HostRuntime) {
     assert_long(&rt, rt.alloc(), 200_000, 65_537);
 }
 
+/// Asserts what is kept of a long line, and that no line is behind it, however often it is asked for.
+fn assert_last<D: Door>(rt: &impl Abort, alloc: Global, door: &mut D, kept: usize) {
+    assert_shape(rt, alloc, door, (kept, b'x'));
+    assert_end(rt, alloc, door);
+    assert_end(rt, alloc, door);
+}
+
 #[test]
 fn a_long_last_line_needs_no_line_feed(rt: HostRuntime) {
     let alloc = rt.alloc();
     let bytes = repeated(&rt, alloc, 200_000, "");
     let mut written = Vec::new(alloc);
     let mut door = OpenDoor::new(alloc, bytes.as_slice(), &mut written);
-    assert_heard(&rt, alloc, &mut door, Some((65_537, b'x')));
-    assert_heard(&rt, alloc, &mut door, None);
-    assert_heard(&rt, alloc, &mut door, None);
+    assert_last(&rt, alloc, &mut door, 65_537);
+    drop(door);
+    drop(written);
+    drop(bytes);
 }
 
 /// An input that gives `a`, is interrupted, gives `b`, a line feed and `c`, each by a call of its own, and is
@@ -121,9 +145,9 @@ impl Read for Pieces {
 /// How many lines are heard before the end or a fault, and the fault.
 fn heard_before_the_end<D: Door>(alloc: Global, door: &mut D) -> (u8, Option<Lost>) {
     for heard in 0..9 {
-        match door.hear(alloc) {
-            Ok(Some(_)) => {}
-            Ok(None) => return (heard, None),
+        match hears(alloc, door) {
+            Ok(true) => {}
+            Ok(false) => return (heard, None),
             Err(lost) => return (heard, Some(lost)),
         }
     }
@@ -137,29 +161,56 @@ fn lines_heard(rt: &impl Abort, alloc: Global, fails: u8) -> (u8, Option<Lost>) 
     let mut door = OpenDoor::new(alloc, input, &mut written);
     let heard = heard_before_the_end(alloc, &mut door);
     drop(door);
+    drop(written);
     heard
+}
+
+/// Asserts how many lines are heard where the call of a number fails, and the fault.
+fn assert_lines_heard(rt: &impl Abort, alloc: Global, fails: u8, lines: u8, fault: Option<Lost>) {
+    let heard = lines_heard(rt, alloc, fails);
+    assert_eq!(rt; heard.0, lines);
+    assert_eq!(rt; heard.1, fault);
 }
 
 #[test]
 fn a_fault_of_the_input_ends_the_hearing(rt: HostRuntime) {
     let alloc = rt.alloc();
-    assert_eq!(rt; lines_heard(&rt, alloc, 0), (2, None));
-    assert_eq!(rt; lines_heard(&rt, alloc, 1), (0, Some(Lost::Input)));
-    assert_eq!(rt; lines_heard(&rt, alloc, 2), (0, Some(Lost::Input)));
-    assert_eq!(rt; lines_heard(&rt, alloc, 3), (0, Some(Lost::Input)));
-    assert_eq!(rt; lines_heard(&rt, alloc, 4), (0, Some(Lost::Input)));
-    assert_eq!(rt; lines_heard(&rt, alloc, 5), (1, Some(Lost::Input)));
-    assert_eq!(rt; lines_heard(&rt, alloc, 6), (1, Some(Lost::Input)));
+    assert_lines_heard(&rt, alloc, 0, 2, None);
+    assert_lines_heard(&rt, alloc, 1, 0, Some(Lost::Input));
+    assert_lines_heard(&rt, alloc, 2, 0, Some(Lost::Input));
+    assert_lines_heard(&rt, alloc, 3, 0, Some(Lost::Input));
+    assert_lines_heard(&rt, alloc, 4, 0, Some(Lost::Input));
+    assert_lines_heard(&rt, alloc, 5, 1, Some(Lost::Input));
+    assert_lines_heard(&rt, alloc, 6, 1, Some(Lost::Input));
 }
 
-/// What a door lost that was closed behind its first line: when it was asked for the next one, and when a piece was said.
+/// What a door loses when it is asked for a line, and when a piece is said.
+fn losses<D: Door>(alloc: Global, door: &mut D, piece: &Vec<u8>) -> (Option<Lost>, Option<Lost>) {
+    (hears(alloc, door).err(), door.say(piece).err())
+}
+
+/// What a door loses when it is closed behind its first line: when it is asked for the next one, and when a piece is said.
+fn lost_behind_a_line<D: Door>(
+    rt: &impl Abort,
+    alloc: Global,
+    door: &mut D,
+) -> (Option<Lost>, Option<Lost>) {
+    assert_line(rt, alloc, door, b"take".as_slice());
+    door.close();
+    let piece = repeated(rt, alloc, 3, "\n");
+    let lost = losses(alloc, door, &piece);
+    drop(piece);
+    lost
+}
+
+/// What a door over bytes lost that was closed behind its first line.
 fn lost_when_closed(rt: &impl Abort, alloc: Global) -> (Option<Lost>, Option<Lost>) {
     let mut written = Vec::new(alloc);
     let mut door = OpenDoor::new(alloc, b"take\nnext".as_slice(), &mut written);
-    assert_line(rt, alloc, &mut door, b"take".as_slice());
-    door.close();
-    let piece = repeated(rt, alloc, 3, "\n");
-    (door.hear(alloc).err(), door.say(&piece).err())
+    let lost = lost_behind_a_line(rt, alloc, &mut door);
+    drop(door);
+    drop(written);
+    lost
 }
 
 #[test]

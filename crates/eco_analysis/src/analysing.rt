@@ -73,11 +73,17 @@ fn edited_analysis<H: Threads + Sync, G: Gate, L>(
     requires some { 1 ≤ workers }
     requires most { workers ≤ 32 }
     requires edit { IsSoundEdit touched.now.nets store.now.design }
-    requires applied { IsEditOf base.now.stored (record { insts = touched.now.insts; nets = touched.now.nets }) store.now }
+    requires applied { IsEditOf base.now.stored
+        (record { insts = touched.now.insts; nets = touched.now.nets }) store.now }
     ensures analysis { IfOk result (λ a. a.stored ≡ store.now) }
-    ensures least { OnOk result (steps.old + forward_count base.now.stored.design store.now.design (record { insts = touched.now.insts; nets = touched.now.nets }) ≤ steps.new) }
+    ensures least { OnOk result
+        (steps.old + forward_count base.now.stored.design store.now.design
+        (record { insts = touched.now.insts; nets = touched.now.nets }) ≤ steps.new) }
     ensures rises { steps.old ≤ steps.new }
-    ensures most { steps.new ≤ steps.old + forward_count base.now.stored.design store.now.design (record { insts = touched.now.insts; nets = touched.now.nets }) + backward_count base.now.stored.design store.now.design (record { insts = touched.now.insts; nets = touched.now.nets }) }
+    ensures most { steps.new ≤ steps.old + forward_count base.now.stored.design store.now.design
+        (record { insts = touched.now.insts; nets = touched.now.nets }) + backward_count
+        base.now.stored.design store.now.design
+        (record { insts = touched.now.insts; nets = touched.now.nets }) }
     ensures unsound { (IsSound store.now.design → ⊥) → steps.new ≡ steps.old }
     ensures refused { IfErr result (IsUnsound store.now.design) }
 {
@@ -102,11 +108,17 @@ pub(crate) fn analysed_edited<H: Threads + Sync, G: Gate, L>(
     requires some { 1 ≤ workers }
     requires most { workers ≤ 32 }
     requires edit { IsSoundEdit touched.now.nets store.now.design }
-    requires applied { IsEditOf base.now.stored (record { insts = touched.now.insts; nets = touched.now.nets }) store.now }
+    requires applied { IsEditOf base.now.stored
+        (record { insts = touched.now.insts; nets = touched.now.nets }) store.now }
     ensures analysis { IfOk result (λ a. (arc_value a).stored ≡ store.now) }
-    ensures least { OnOk result (steps.old + forward_count base.now.stored.design store.now.design (record { insts = touched.now.insts; nets = touched.now.nets }) ≤ steps.new) }
+    ensures least { OnOk result
+        (steps.old + forward_count base.now.stored.design store.now.design
+        (record { insts = touched.now.insts; nets = touched.now.nets }) ≤ steps.new) }
     ensures rises { steps.old ≤ steps.new }
-    ensures most { steps.new ≤ steps.old + forward_count base.now.stored.design store.now.design (record { insts = touched.now.insts; nets = touched.now.nets }) + backward_count base.now.stored.design store.now.design (record { insts = touched.now.insts; nets = touched.now.nets }) }
+    ensures most { steps.new ≤ steps.old + forward_count base.now.stored.design store.now.design
+        (record { insts = touched.now.insts; nets = touched.now.nets }) + backward_count
+        base.now.stored.design store.now.design
+        (record { insts = touched.now.insts; nets = touched.now.nets }) }
     ensures unsound { (IsSound store.now.design → ⊥) → steps.new ≡ steps.old }
     ensures refused { IfErr result (IsUnsound store.now.design) }
 {

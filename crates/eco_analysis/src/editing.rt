@@ -63,8 +63,11 @@ fn store_after(
 ) -> Result<(Store, Touched), Fault>
     requires analysis { store.now ≡ analysis.now.stored }
     requires eco { is_eco eco.now ≡ true }
-    ensures made { IfOk result (λ made. IsMadeOf store.now.design eco.now made.1.nets made.0.design) }
-    ensures applied { IfOk result (λ made. IsApplied store.now eco.now made.0 (record { insts = made.1.insts; nets = made.1.nets })) }
+    ensures made { IfOk result
+        (λ made. IsMadeOf store.now.design eco.now made.1.nets made.0.design) }
+    ensures applied { IfOk result
+        (λ made. IsApplied store.now eco.now made.0
+        (record { insts = made.1.insts; nets = made.1.nets })) }
     ensures refused { IfErr result (IsRefused store.now.design eco.now) }
 {
     analysis.laws();
@@ -105,12 +108,20 @@ fn prepared<H: Threads + Sync, G: Gate, L>(
     requires some { 1 ≤ workers }
     requires most { workers ≤ 32 }
     requires made { IsMadeOf base.now.design eco.now touched.now.nets (arc_value store).design }
-    requires applied { IsApplied base.now eco.now (arc_value store) (record { insts = touched.now.insts; nets = touched.now.nets }) }
-    ensures accepts { IfOk result (λ next. Accepts base.now.design eco.now (arc_value next.store).design) }
-    ensures analysed { IfOk result (λ next. (arc_value next.analysis).stored ≡ arc_value next.store) }
-    ensures least { OnOk result (steps.old + forward_count base.now.design (arc_value store).design (record { insts = touched.now.insts; nets = touched.now.nets }) ≤ steps.new) }
+    requires applied { IsApplied base.now eco.now (arc_value store)
+        (record { insts = touched.now.insts; nets = touched.now.nets }) }
+    ensures accepts { IfOk result
+        (λ next. Accepts base.now.design eco.now (arc_value next.store).design) }
+    ensures analysed { IfOk result
+        (λ next. (arc_value next.analysis).stored ≡ arc_value next.store) }
+    ensures least { OnOk result
+        (steps.old + forward_count base.now.design (arc_value store).design
+        (record { insts = touched.now.insts; nets = touched.now.nets }) ≤ steps.new) }
     ensures rises { steps.old ≤ steps.new }
-    ensures most { steps.new ≤ steps.old + forward_count base.now.design (arc_value store).design (record { insts = touched.now.insts; nets = touched.now.nets }) + backward_count base.now.design (arc_value store).design (record { insts = touched.now.insts; nets = touched.now.nets }) }
+    ensures most { steps.new ≤ steps.old + forward_count base.now.design (arc_value store).design
+        (record { insts = touched.now.insts; nets = touched.now.nets }) + backward_count
+        base.now.design (arc_value store).design
+        (record { insts = touched.now.insts; nets = touched.now.nets }) }
     ensures unsound { (IsSound (arc_value store).design → ⊥) → steps.new ≡ steps.old }
     ensures refused { IfErr result (IsRefusal base.now.design eco.now) }
 {
@@ -128,8 +139,10 @@ fn prepared<H: Threads + Sync, G: Gate, L>(
 /// the call does nothing.
 #[tactic(auto, using(timing_rules::proofs::LongerJournals::accepted_once, timing_rules::proofs::LongerJournals::not_both))]
 pub fn exclusion(eco: &Eco)
-    ensures once { (d : Design) → (a : Design) → (b : Design) → Accepts d eco.now a → Accepts d eco.now b → a ≡ b }
-    ensures apart { (d : Design) → (a : Design) → Accepts d eco.now a → (x : Fault) → Refuses d eco.now x → ⊥ }
+    ensures once { (d : Design) → (a : Design) → (b : Design) → Accepts d eco.now a
+        → Accepts d eco.now b → a ≡ b }
+    ensures apart { (d : Design) → (a : Design) → Accepts d eco.now a → (x : Fault)
+        → Refuses d eco.now x → ⊥ }
 {
     let _ = eco;
 }
@@ -158,8 +171,10 @@ pub fn after_eco<H: Threads + Sync, G: Gate, L>(
     requires eco { is_eco eco.now ≡ true }
     requires some { 1 ≤ workers }
     requires most { workers ≤ 32 }
-    ensures accepts { IfOk result (λ next. Accepts store.now.design eco.now (arc_value next.store).design) }
-    ensures analysed { IfOk result (λ next. (arc_value next.analysis).stored ≡ arc_value next.store) }
+    ensures accepts { IfOk result
+        (λ next. Accepts store.now.design eco.now (arc_value next.store).design) }
+    ensures analysed { IfOk result
+        (λ next. (arc_value next.analysis).stored ≡ arc_value next.store) }
     ensures rises { steps.old ≤ steps.new }
     ensures counted { IsCounted store.now.design eco.now (is_told result) (steps.new - steps.old) }
     ensures refused { IfErr result (IsRefusal store.now.design eco.now) }

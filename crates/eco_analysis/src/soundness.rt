@@ -112,7 +112,8 @@ pub(crate) fn sound_graph_edited(
     touched: &Touched,
 ) -> Result<Graph, Fault>
     requires edit { IsSoundEdit touched.now.nets store.now.design }
-    requires applied { IsEditOf base.now.stored (record { insts = touched.now.insts; nets = touched.now.nets }) store.now }
+    requires applied { IsEditOf base.now.stored
+        (record { insts = touched.now.insts; nets = touched.now.nets }) store.now }
     ensures graph { IfOk result (λ graph. graph.stored ≡ store.now) }
     ensures sound { OnOk result (IsSound store.now.design) }
     ensures refused { IfErr result (IsUnsound store.now.design) }

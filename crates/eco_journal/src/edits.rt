@@ -37,7 +37,10 @@ fn two_names(alloc: Global, words: &[Span<'_>]) -> Result<(Name, Name), Stop>
 /// The words as names.
 #[tactic(auto, using(std::proofs::lemmas::List::drop_more))]
 fn names_of(alloc: Global, words: &[Span<'_>]) -> Result<Items<Name>, Stop>
-    ensures { MatchResult result (λ names. (list_all is_word (map part_of words.now) ≡ true) × (names ≡ texts_of (map part_of words.now))) (λ stop. Unfits stop (list_all is_word (map part_of words.now) ≡ false)) }
+    ensures { MatchResult result
+        (λ names. (list_all is_word (map part_of words.now) ≡ true)
+        × (names ≡ texts_of (map part_of words.now)))
+        (λ stop. Unfits stop (list_all is_word (map part_of words.now) ≡ false)) }
 {
     let mut names = Items::new(alloc);
     for word in words {

@@ -76,7 +76,11 @@ fn line_edit(alloc: Global, line: &Span<'_>) -> Result<Edit, ReadFault>
 
 /// The session and the number of edits of an entry's head.
 fn session_and_edits(words: &[Span<'_>]) -> Result<EntryHead, Stop>
-    ensures value { MatchResult result (λ head. with_session (map part_of words.now) (number_at (map part_of words.now) 3 1 16) ≡ Ok (head_of head)) (λ stop. Stops stop (with_session (map part_of words.now) (number_at (map part_of words.now) 3 1 16))) }
+    ensures value { MatchResult result
+        (λ head. with_session (map part_of words.now) (number_at (map part_of words.now) 3 1 16)
+        ≡ Ok (head_of head))
+        (λ stop. Stops stop
+        (with_session (map part_of words.now) (number_at (map part_of words.now) 3 1 16))) }
     ensures some { IfOk result (λ head. 0 < head.edits) }
 {
     let session = number_at(words, 3, 1, SESSION_LIMIT)?;
@@ -95,7 +99,9 @@ fn is_head(words: &[Span<'_>]) -> bool
 
 /// The head of the entry with that number.
 fn entry_head(words: &[Span<'_>], next: u128) -> Result<EntryHead, Stop>
-    ensures value { MatchResult result (λ head. entry_head next (map part_of words.now) ≡ Ok (head_of head)) (λ stop. Stops stop (entry_head next (map part_of words.now))) }
+    ensures value { MatchResult result
+        (λ head. entry_head next (map part_of words.now) ≡ Ok (head_of head))
+        (λ stop. Stops stop (entry_head next (map part_of words.now))) }
     ensures some { IfOk result (λ head. 0 < head.edits) }
 {
     if !is_head(words) {
@@ -111,7 +117,11 @@ fn entry_head(words: &[Span<'_>], next: u128) -> Result<EntryHead, Stop>
 /// The head of the entry with that number, by its line.
 fn head(alloc: Global, line: &Span<'_>, next: u128) -> Result<EntryHead, ReadFault>
     requires { line.now.at + length line.now.text.now < 2 ^ 64 }
-    ensures value { MatchResult result (λ head. at_line (part_of line.now) (entry_head next (words_of (part_of line.now))) ≡ Ok (head_of head)) (λ fault. Fails fault (at_line (part_of line.now) (entry_head next (words_of (part_of line.now))))) }
+    ensures value { MatchResult result
+        (λ head. at_line (part_of line.now) (entry_head next (words_of (part_of line.now)))
+        ≡ Ok (head_of head))
+        (λ fault. Fails fault
+        (at_line (part_of line.now) (entry_head next (words_of (part_of line.now))))) }
     ensures some { IfOk result (λ head. 0 < head.edits) }
 {
     let words = words_of(alloc, line)?;
@@ -124,7 +134,12 @@ fn head(alloc: Global, line: &Span<'_>, next: u128) -> Result<EntryHead, ReadFau
 /// The edit of the next line of a text of that length.
 #[tactic(auto, using(crate::proofs::JournalLemmas::stopped), unfolding(crate::specs::Journal::entries))]
 fn next_edit(alloc: Global, lines: &mut Lines<'_>, size: usize) -> Result<Edit, ReadFault>
-    ensures value { (t : Text) (left session due : ℕ) (edits : List Edit) (all : List Entry) → t.size ≡ size → MatchResult result (λ e. entries t (Ok (edits_left t left session (due - 1) (edits ++ e ∷ []) all)) lines.new ≡ entries t (Ok (edit left session due edits all)) lines.old) (λ fault. Fails fault (entries t (Ok (edit left session due edits all)) lines.old)) }
+    ensures value { (t : Text) (left session due : ℕ) (edits : List Edit) (all : List Entry)
+        → t.size ≡ size
+        → MatchResult result
+        (λ e. entries t (Ok (edits_left t left session (due - 1) (edits ++ e ∷ []) all)) lines.new
+        ≡ entries t (Ok (edit left session due edits all)) lines.old)
+        (λ fault. Fails fault (entries t (Ok (edit left session due edits all)) lines.old)) }
     ensures fewer { IfOk result (λ _. length lines.new < length lines.old) }
 {
     let line = next_line(lines, size)?;
@@ -139,7 +154,11 @@ fn edits(
     size: usize,
     count: usize,
 ) -> Result<Items<Edit>, ReadFault>
-    ensures value { (t : Text) (left session : ℕ) (all : List Entry) → t.size ≡ size → MatchResult result (λ edits. entries t (Ok (edits_left t left session 0 edits all)) lines.new ≡ entries t (Ok (edits_left t left session count [] all)) lines.old) (λ fault. Fails fault (entries t (Ok (edits_left t left session count [] all)) lines.old)) }
+    ensures value { (t : Text) (left session : ℕ) (all : List Entry) → t.size ≡ size
+        → MatchResult result
+        (λ edits. entries t (Ok (edits_left t left session 0 edits all)) lines.new
+        ≡ entries t (Ok (edits_left t left session count [] all)) lines.old)
+        (λ fault. Fails fault (entries t (Ok (edits_left t left session count [] all)) lines.old)) }
     ensures fewer { IfOk result (λ _. length lines.new ≤ length lines.old) }
 {
     let mut edits = Items::new(alloc);
@@ -154,7 +173,12 @@ fn edits(
 /// The entry of that number, by its lines.
 #[tactic(auto, using(crate::proofs::JournalLemmas::stopped), unfolding(crate::specs::Journal::entries))]
 fn entry(alloc: Global, lines: &mut Lines<'_>, size: usize, next: u128) -> Result<Entry, ReadFault>
-    ensures value { (t : Text) (left : ℕ) (all : List Entry) → t.size ≡ size → t.first + length all + 1 ≡ next → MatchResult result (λ found. entries t (Ok (entries_left t (left - 1) (all ++ found ∷ []))) lines.new ≡ entries t (Ok (entry left all)) lines.old) (λ fault. Fails fault (entries t (Ok (entry left all)) lines.old)) }
+    ensures value { (t : Text) (left : ℕ) (all : List Entry) → t.size ≡ size
+        → t.first + length all + 1 ≡ next
+        → MatchResult result
+        (λ found. entries t (Ok (entries_left t (left - 1) (all ++ found ∷ []))) lines.new
+        ≡ entries t (Ok (entry left all)) lines.old)
+        (λ fault. Fails fault (entries t (Ok (entry left all)) lines.old)) }
     ensures fewer { IfOk result (λ _. length lines.new < length lines.old) }
 {
     let line = next_line(lines, size)?;
@@ -175,7 +199,11 @@ pub(crate) fn entries(
     count: u128,
     all: &mut Items<Entry>,
 ) -> Result<(), ReadFault>
-    ensures value { (t : Text) → t.size ≡ size → t.first ≡ 0 → MatchResult result (λ _. entries t (Ok (block_left t all.new)) lines.new ≡ entries t (Ok (entries_left t count all.old)) lines.old) (λ fault. Fails fault (entries t (Ok (entries_left t count all.old)) lines.old)) }
+    ensures value { (t : Text) → t.size ≡ size → t.first ≡ 0
+        → MatchResult result
+        (λ _. entries t (Ok (block_left t all.new)) lines.new
+        ≡ entries t (Ok (entries_left t count all.old)) lines.old)
+        (λ fault. Fails fault (entries t (Ok (entries_left t count all.old)) lines.old)) }
     ensures fewer { IfOk result (λ _. length lines.new ≤ length lines.old) }
 {
     let mut left = count;
@@ -189,7 +217,8 @@ pub(crate) fn entries(
 
 /// The count of `journal 1 COUNT` by the words of its line, which begins at that place.
 fn plain_count(words: &[Span<'_>], at: usize) -> Result<u128, ReadFault>
-    ensures { (line : Part) → line.at ≡ at → Tells result (plain_form line (map part_of words.now)) }
+    ensures { (line : Part) → line.at ≡ at
+        → Tells result (plain_form line (map part_of words.now)) }
 {
     if !is_form(words, 3, b"journal") {
         return Err(bad_line(at));
@@ -215,7 +244,11 @@ fn plain_head(alloc: Global, line: &Span<'_>) -> Result<u128, ReadFault>
 /// The count of the entries of a journal, by its first line.
 #[tactic(auto, unfolding(crate::specs::Journal::entries))]
 fn counted(alloc: Global, lines: &mut Lines<'_>, size: usize) -> Result<u128, ReadFault>
-    ensures { (t : Text) → t.size ≡ size → MatchResult result (λ count. entries t (Ok (entries_left t count [])) lines.new ≡ entries t (Ok heading) lines.old) (λ fault. Fails fault (entries t (Ok heading) lines.old)) }
+    ensures { (t : Text) → t.size ≡ size
+        → MatchResult result
+        (λ count. entries t (Ok (entries_left t count [])) lines.new
+        ≡ entries t (Ok heading) lines.old)
+        (λ fault. Fails fault (entries t (Ok heading) lines.old)) }
 {
     let line = next_line(lines, size)?;
     plain_head(alloc, &line)
@@ -224,7 +257,8 @@ fn counted(alloc: Global, lines: &mut Lines<'_>, size: usize) -> Result<u128, Re
 /// The entries of a journal, of which these lines are all.
 #[tactic(auto, using(crate::proofs::JournalLemmas::stopped), unfolding(crate::specs::Journal::entries))]
 fn whole(alloc: Global, lines: &mut Lines<'_>, size: usize) -> Result<Items<Entry>, ReadFault>
-    ensures { (t : Text) → t.size ≡ size → t.first ≡ 0 → t.saved ≡ false → Tells result (entries t (Ok heading) lines.old) }
+    ensures { (t : Text) → t.size ≡ size → t.first ≡ 0 → t.saved ≡ false
+        → Tells result (entries t (Ok heading) lines.old) }
 {
     let count = counted(alloc, lines, size)?;
     let mut all = Items::new(alloc);

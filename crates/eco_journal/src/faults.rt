@@ -42,7 +42,8 @@ pub(crate) fn fault_of(at: usize, stop: Stop) -> ReadFault
 
 /// The next line of a text of that length.
 pub(crate) fn next_line<'a>(lines: &mut Lines<'a>, size: usize) -> Result<Span<'a>, ReadFault>
-    ensures next { MatchResult result (λ line. lines.old ≡ part_of line ∷ lines.new) (λ fault. (lines.old ≡ []) × (fault ≡ At JournalBadLine size)) }
+    ensures next { MatchResult result (λ line. lines.old ≡ part_of line ∷ lines.new)
+        (λ fault. (lines.old ≡ []) × (fault ≡ At JournalBadLine size)) }
     ensures within { IfOk result (λ line. line.at + length line.text.now < 2 ^ 64) }
 {
     match lines.next() {

@@ -29,7 +29,8 @@ pub(crate) enum Item<'a> {
 
 /// The digits behind `#`, where the word begins so.
 fn inner(text: &[u8]) -> Option<&[u8]>
-    ensures { MatchOption result (inner text.now ≡ None) (λ digits. inner text.now ≡ Some digits.now) }
+    ensures { MatchOption result (inner text.now ≡ None)
+        (λ digits. inner text.now ≡ Some digits.now) }
 {
     match text.split_first() {
         Some((first, digits)) if *first == b'#' => Some(digits),
@@ -77,7 +78,10 @@ fn size_of(word: &Span<'_>) -> Result<u64, Stop>
 /// The word at a place, from 0.
 #[tactic(auto, using(crate::proofs::ItemsLemmas::word_and_rest, crate::proofs::ItemsLemmas::no_word))]
 fn word_at<'a>(words: &[Span<'a>], k: usize) -> Option<Span<'a>>
-    ensures { MatchOption result (drop k (map part_of words.now) ≡ []) (λ word. (drop k (map part_of words.now) ≡ part_of word ∷ drop (k + 1) (map part_of words.now)) × (k < length words.now)) }
+    ensures { MatchOption result (drop k (map part_of words.now) ≡ [])
+        (λ word.
+        (drop k (map part_of words.now) ≡ part_of word ∷ drop (k + 1) (map part_of words.now))
+        × (k < length words.now)) }
 {
     if k < words.len() {
         Some(words[k])
@@ -88,7 +92,11 @@ fn word_at<'a>(words: &[Span<'a>], k: usize) -> Option<Span<'a>>
 
 /// The word of graphic bytes at a place.
 fn graphic_at<'a>(words: &[Span<'a>], k: usize) -> Result<Span<'a>, Stop>
-    ensures { MatchResult result (λ word. (drop k (map part_of words.now) ≡ part_of word ∷ drop (k + 1) (map part_of words.now)) × (is_word (part_of word) ≡ true) × (k < length words.now)) (λ stop. Unfits stop (first_fits is_word (drop k (map part_of words.now)) ≡ false)) }
+    ensures { MatchResult result
+        (λ word.
+        (drop k (map part_of words.now) ≡ part_of word ∷ drop (k + 1) (map part_of words.now))
+        × (is_word (part_of word) ≡ true) × (k < length words.now))
+        (λ stop. Unfits stop (first_fits is_word (drop k (map part_of words.now)) ≡ false)) }
 {
     match word_at(words, k) {
         Some(word) if is_name(word.text) => Ok(word),
@@ -98,7 +106,11 @@ fn graphic_at<'a>(words: &[Span<'a>], k: usize) -> Result<Span<'a>, Stop>
 
 /// The word at a place, which names a node.
 fn node_at<'a>(words: &[Span<'a>], k: usize) -> Result<Span<'a>, Stop>
-    ensures { MatchResult result (λ word. (drop k (map part_of words.now) ≡ part_of word ∷ drop (k + 1) (map part_of words.now)) × (is_node (part_of word) ≡ true) × (k < length words.now)) (λ stop. Unfits stop (first_fits is_node (drop k (map part_of words.now)) ≡ false)) }
+    ensures { MatchResult result
+        (λ word.
+        (drop k (map part_of words.now) ≡ part_of word ∷ drop (k + 1) (map part_of words.now))
+        × (is_node (part_of word) ≡ true) × (k < length words.now))
+        (λ stop. Unfits stop (first_fits is_node (drop k (map part_of words.now)) ≡ false)) }
 {
     match word_at(words, k) {
         Some(word) if is_node(&word) => Ok(word),
@@ -109,7 +121,15 @@ fn node_at<'a>(words: &[Span<'a>], k: usize) -> Result<Span<'a>, Stop>
 /// A capacitance from a place on, behind its `c`.
 #[tactic(auto, unfolding(crate::specs::Items::cut_items))]
 fn cap_item<'a>(words: &[Span<'a>], k: usize) -> Result<Item<'a>, Stop>
-    ensures { (mixed : Bool) (items : List ItemWords) → MatchResult result (λ found. (cut_items mixed (item true) (items ++ item_of found ∷ []) (drop (k + 2) (map part_of words.now)) ≡ cut_items mixed cap_node items (drop k (map part_of words.now))) × (k + 2 ≤ length words.now)) (λ stop. Unfits stop (cut_items mixed cap_node items (drop k (map part_of words.now)) ≡ None)) }
+    ensures { (mixed : Bool) (items : List ItemWords)
+        → MatchResult result
+        (λ found.
+        (cut_items mixed (item true) (items ++ item_of found ∷ [])
+        (drop (k + 2) (map part_of words.now))
+        ≡ cut_items mixed cap_node items (drop k (map part_of words.now)))
+        × (k + 2 ≤ length words.now))
+        (λ stop. Unfits stop
+        (cut_items mixed cap_node items (drop k (map part_of words.now)) ≡ None)) }
 {
     let node = node_at(words, k)?;
     let size = graphic_at(words, k + 1)?;
@@ -119,7 +139,15 @@ fn cap_item<'a>(words: &[Span<'a>], k: usize) -> Result<Item<'a>, Stop>
 /// A resistance from a place on, behind its `r`.
 #[tactic(auto, unfolding(crate::specs::Items::cut_items))]
 fn res_item<'a>(words: &[Span<'a>], k: usize) -> Result<Item<'a>, Stop>
-    ensures { (mixed : Bool) (items : List ItemWords) → MatchResult result (λ found. (cut_items mixed (item mixed) (items ++ item_of found ∷ []) (drop (k + 3) (map part_of words.now)) ≡ cut_items mixed res_from items (drop k (map part_of words.now))) × (k + 3 ≤ length words.now)) (λ stop. Unfits stop (cut_items mixed res_from items (drop k (map part_of words.now)) ≡ None)) }
+    ensures { (mixed : Bool) (items : List ItemWords)
+        → MatchResult result
+        (λ found.
+        (cut_items mixed (item mixed) (items ++ item_of found ∷ [])
+        (drop (k + 3) (map part_of words.now))
+        ≡ cut_items mixed res_from items (drop k (map part_of words.now)))
+        × (k + 3 ≤ length words.now))
+        (λ stop. Unfits stop
+        (cut_items mixed res_from items (drop k (map part_of words.now)) ≡ None)) }
 {
     let from = node_at(words, k)?;
     let to = node_at(words, k + 1)?;
@@ -150,8 +178,17 @@ fn item_at<'a>(
     caps: bool,
     mixed: bool,
 ) -> Result<Cut<'a>, Stop>
-    requires { (drop k (map part_of words.now) ≡ part_of first.now ∷ drop (k + 1) (map part_of words.now)) × (k < length words.now) }
-    ensures { (items : List ItemWords) → MatchResult result (λ cut. (cut_items mixed (item cut.caps) (items ++ item_of cut.item ∷ []) (drop cut.next (map part_of words.now)) ≡ cut_items mixed (item caps) items (drop k (map part_of words.now))) × (k < cut.next) × (cut.next ≤ length words.now)) (λ stop. Unfits stop (cut_items mixed (item caps) items (drop k (map part_of words.now)) ≡ None)) }
+    requires { (drop k (map part_of words.now)
+        ≡ part_of first.now ∷ drop (k + 1) (map part_of words.now)) × (k < length words.now) }
+    ensures { (items : List ItemWords)
+        → MatchResult result
+        (λ cut.
+        (cut_items mixed (item cut.caps) (items ++ item_of cut.item ∷ [])
+        (drop cut.next (map part_of words.now))
+        ≡ cut_items mixed (item caps) items (drop k (map part_of words.now))) × (k < cut.next)
+        × (cut.next ≤ length words.now))
+        (λ stop. Unfits stop
+        (cut_items mixed (item caps) items (drop k (map part_of words.now)) ≡ None)) }
 {
     let behind = k + 1;
     if is_cap(first.text, caps) {
@@ -176,7 +213,9 @@ fn item_at<'a>(
 /// The items that words write. Where they are not `mixed`, the capacitances come first.
 #[tactic(auto, unfolding(crate::specs::Items::cut_items))]
 fn cut_items<'a>(alloc: Global, words: &[Span<'a>], mixed: bool) -> Result<Items<Item<'a>>, Stop>
-    ensures { MatchResult result (λ items. cut_items mixed (item true) [] (map part_of words.now) ≡ Some (map item_of items)) (λ stop. Unfits stop (cut_items mixed (item true) [] (map part_of words.now) ≡ None)) }
+    ensures { MatchResult result
+        (λ items. cut_items mixed (item true) [] (map part_of words.now) ≡ Some (map item_of items))
+        (λ stop. Unfits stop (cut_items mixed (item true) [] (map part_of words.now) ≡ None)) }
 {
     let mut items = Items::new(alloc);
     let mut caps = true;

@@ -17,21 +17,31 @@ ghost use Rattle.eco_journal.specs.Blocks.{block_of, blocks_text, all_entries, A
 /// 16, and 1 to 1,000 edits each, of words and of numbers in their ranges.
 #[tactic(auto, using(crate::proofs::JournalBack::journal_back))]
 pub fn journal_read_back()
-    ensures { (entries : List Entry) → AreEntries entries → length entries < 2 ^ 64 → entries_of (journal_text entries) ≡ Ok entries }
+    ensures { (entries : List Entry) → AreEntries entries → length entries < 2 ^ 64
+        → entries_of (journal_text entries) ≡ Ok entries }
 {}
 
 /// The bytes of a block of a saved journal are read back as its three parts.
 #[tactic(auto, using(crate::proofs::BlockBack::block_back))]
 pub fn block_read_back()
-    ensures { (first : ℕ) (derates : Derates) (entries : List Entry) → first + length entries < 2 ^ 64 → AreFactors derates → AreEntries entries → block_of (block_text first derates entries) ≡ Some (record { first = first; derates = derates; entries = entries }) }
+    ensures { (first : ℕ) (derates : Derates) (entries : List Entry)
+        → first + length entries < 2 ^ 64 → AreFactors derates → AreEntries entries
+        → block_of (block_text first derates entries)
+        ≡ Some (record { first = first; derates = derates; entries = entries }) }
 {}
 
 /// Blocks of one saved journal, each of which numbers its entries behind those before it, are read as
 /// all of their entries, also behind a journal under which no delay was scaled.
 #[tactic(auto, using(crate::proofs::BlockBack::saved_back, crate::proofs::BlockBack::continued_back))]
 pub fn saved_read_back()
-    ensures blocks { (derates : Derates) (blocks : List (List Entry)) → length (all_entries blocks) < 2 ^ 64 → AreFactors derates → AreLawful blocks → saved_of (blocks_text derates 0 blocks) derates ≡ Ok (all_entries blocks) }
-    ensures continued { (entries : List Entry) (blocks : List (List Entry)) → length entries + length (all_entries blocks) < 2 ^ 64 → AreEntries entries → AreLawful blocks → saved_of (journal_text entries ++ blocks_text unscaled (length entries) blocks) unscaled ≡ Ok (entries ++ all_entries blocks) }
+    ensures blocks { (derates : Derates) (blocks : List (List Entry))
+        → length (all_entries blocks) < 2 ^ 64 → AreFactors derates → AreLawful blocks
+        → saved_of (blocks_text derates 0 blocks) derates ≡ Ok (all_entries blocks) }
+    ensures continued { (entries : List Entry) (blocks : List (List Entry))
+        → length entries + length (all_entries blocks) < 2 ^ 64 → AreEntries entries
+        → AreLawful blocks
+        → saved_of (journal_text entries ++ blocks_text unscaled (length entries) blocks) unscaled
+        ≡ Ok (entries ++ all_entries blocks) }
 {}
 
 /// The lines of 1 to 1,000 edits that can be written are read back as these edits.
@@ -44,5 +54,6 @@ pub fn eco_read_back()
 /// written.
 pub fn eco_can_be_written()
     ensures text { (bytes : List ℕ) (eco : Eco) → eco_of bytes ≡ Ok eco → IsEco eco }
-    ensures line { (mixed : Bool) (words : List Part) (e : Edit) → edit_of mixed words ≡ Ok e → IsEdit e }
+    ensures line { (mixed : Bool) (words : List Part) (e : Edit) → edit_of mixed words ≡ Ok e
+        → IsEdit e }
 {}

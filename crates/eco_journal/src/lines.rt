@@ -59,7 +59,8 @@ impl<'a> Lines<'a> {
     /// Takes the next line, without its line feed; none at the end. Takes no memory.
     #[tactic(auto, using(crate::proofs::LinesLemmas::only_line, crate::proofs::LinesLemmas::first_line), unfolding(crate::specs::Lines::placed, crate::specs::Lines::cut_lines))]
     pub fn next(&mut self) -> Option<Span<'a>>
-        ensures next { MatchOption result ((self.old ≡ []) × (self.new ≡ [])) (λ line. self.old ≡ part_of line ∷ self.new) }
+        ensures next { MatchOption result ((self.old ≡ []) × (self.new ≡ []))
+            (λ line. self.old ≡ part_of line ∷ self.new) }
         ensures within { IfSome result (λ line. line.at + length line.text.now < 2 ^ 64) }
     {
         if self.rest.is_empty() {
@@ -106,7 +107,8 @@ impl<'a> Model for Words<'a> {
 impl<'a> Words<'a> {
     #[tactic(auto, using(crate::proofs::LinesLemmas::only_word, crate::proofs::LinesLemmas::first_word), unfolding(crate::specs::Lines::placed))]
     fn next(&mut self) -> Option<Span<'a>>
-        ensures { MatchOption result ((self.old ≡ []) × (self.new ≡ [])) (λ word. self.old ≡ part_of word ∷ self.new) }
+        ensures { MatchOption result ((self.old ≡ []) × (self.new ≡ []))
+            (λ word. self.old ≡ part_of word ∷ self.new) }
     {
         if self.ended {
             return None;

@@ -93,7 +93,8 @@ pub fn says(words: &[Span<'_>], k: usize, wanted: &[u8]) -> bool
 
 /// The name that the bytes make.
 pub(crate) fn name_of(alloc: Global, text: &[u8]) -> Result<Name, Stop>
-    ensures { MatchResult result (λ name. (is_name text.now ≡ true) × (name ≡ text.now)) (λ stop. Unfits stop (is_name text.now ≡ false)) }
+    ensures { MatchResult result (λ name. (is_name text.now ≡ true) × (name ≡ text.now))
+        (λ stop. Unfits stop (is_name text.now ≡ false)) }
 {
     match Name::from_bytes(alloc, text)? {
         Some(name) => Ok(name),
@@ -103,7 +104,9 @@ pub(crate) fn name_of(alloc: Global, text: &[u8]) -> Result<Name, Stop>
 
 /// The name at a place.
 pub(crate) fn name_at(alloc: Global, words: &[Span<'_>], k: usize) -> Result<Name, Stop>
-    ensures { let text = text_of (map part_of words.now) k in MatchResult result (λ name. (is_name text ≡ true) × (name ≡ text)) (λ stop. Unfits stop (is_name text ≡ false)) }
+    ensures { let text = text_of (map part_of words.now) k in MatchResult result
+        (λ name. (is_name text ≡ true) × (name ≡ text))
+        (λ stop. Unfits stop (is_name text ≡ false)) }
 {
     name_of(alloc, text_at(words, k))
 }

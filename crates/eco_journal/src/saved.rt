@@ -88,7 +88,12 @@ fn first_block(
     before: usize,
     derates: &Derates,
 ) -> Result<BlockHead, ReadFault>
-    ensures { (t : Text) (all : List Entry) (line : Part) → t.derates ≡ derates.now → length all ≡ before → line.at ≡ at → MatchResult result (λ head. first_block t all line (map part_of words.now) ≡ Ok (behind_head t line.at all head)) (λ fault. Fails fault (first_block t all line (map part_of words.now))) }
+    ensures { (t : Text) (all : List Entry) (line : Part) → t.derates ≡ derates.now → length all
+        ≡ before → line.at ≡ at
+        → MatchResult result
+        (λ head. first_block t all line (map part_of words.now)
+        ≡ Ok (behind_head t line.at all head))
+        (λ fault. Fails fault (first_block t all line (map part_of words.now))) }
 {
     if words.len() != 3 || before != 0 {
         return Err(bad_line(at));
@@ -102,7 +107,13 @@ fn first_block(
 
 /// The count of a block of the second form, whose first number is flawed or not.
 fn scaled_head(words: &[Span<'_>], flaw: Option<usize>) -> Result<BlockHead, ReadFault>
-    ensures { (t : Text) (all : List Entry) (line : Part) → MatchResult result (λ head. factors_next all line flaw (place_of (map part_of words.now) 3) (number_of (text_of (map part_of words.now) 3)) ≡ Ok (behind_head t line.at all head)) (λ fault. Fails fault (factors_next all line flaw (place_of (map part_of words.now) 3) (number_of (text_of (map part_of words.now) 3)))) }
+    ensures { (t : Text) (all : List Entry) (line : Part)
+        → MatchResult result
+        (λ head. factors_next all line flaw (place_of (map part_of words.now) 3)
+        (number_of (text_of (map part_of words.now) 3)) ≡ Ok (behind_head t line.at all head))
+        (λ fault. Fails fault
+        (factors_next all line flaw (place_of (map part_of words.now) 3)
+        (number_of (text_of (map part_of words.now) 3)))) }
 {
     match number_of(text_at(words, 3)) {
         Some(count) => Ok(BlockHead::Scaled { flaw, count }),
@@ -115,7 +126,10 @@ fn scaled_head(words: &[Span<'_>], flaw: Option<usize>) -> Result<BlockHead, Rea
 
 /// The head of a block of the second form, with so many entries before it.
 fn later_block(words: &[Span<'_>], at: usize, before: usize) -> Result<BlockHead, ReadFault>
-    ensures { (t : Text) (all : List Entry) (line : Part) → length all ≡ before → line.at ≡ at → MatchResult result (λ head. later_block all line (map part_of words.now) ≡ Ok (behind_head t line.at all head)) (λ fault. Fails fault (later_block all line (map part_of words.now))) }
+    ensures { (t : Text) (all : List Entry) (line : Part) → length all ≡ before → line.at ≡ at
+        → MatchResult result
+        (λ head. later_block all line (map part_of words.now) ≡ Ok (behind_head t line.at all head))
+        (λ fault. Fails fault (later_block all line (map part_of words.now))) }
 {
     if words.len() != 4 {
         return Err(bad_line(at));
@@ -140,7 +154,12 @@ fn block_form(
     before: usize,
     derates: &Derates,
 ) -> Result<BlockHead, ReadFault>
-    ensures { (t : Text) (all : List Entry) (line : Part) → t.derates ≡ derates.now → length all ≡ before → line.at ≡ at → MatchResult result (λ head. block_form t all line (map part_of words.now) ≡ Ok (behind_head t line.at all head)) (λ fault. Fails fault (block_form t all line (map part_of words.now))) }
+    ensures { (t : Text) (all : List Entry) (line : Part) → t.derates ≡ derates.now → length all
+        ≡ before → line.at ≡ at
+        → MatchResult result
+        (λ head. block_form t all line (map part_of words.now)
+        ≡ Ok (behind_head t line.at all head))
+        (λ fault. Fails fault (block_form t all line (map part_of words.now))) }
 {
     if !is_block(words) {
         return Err(bad_line(at));
@@ -163,7 +182,10 @@ fn block_head(
     derates: &Derates,
 ) -> Result<BlockHead, ReadFault>
     requires { line.now.at + length line.now.text.now < 2 ^ 64 }
-    ensures { (t : Text) (all : List Entry) → t.derates ≡ derates.now → length all ≡ before → MatchResult result (λ head. block_head t all (part_of line.now) ≡ Ok (behind_head t line.now.at all head)) (λ fault. Fails fault (block_head t all (part_of line.now))) }
+    ensures { (t : Text) (all : List Entry) → t.derates ≡ derates.now → length all ≡ before
+        → MatchResult result
+        (λ head. block_head t all (part_of line.now) ≡ Ok (behind_head t line.now.at all head))
+        (λ fault. Fails fault (block_head t all (part_of line.now))) }
 {
     let words = words_of(alloc, line)?;
     block_form(words.as_slice(), line.at, before, derates)
@@ -177,7 +199,11 @@ fn with_factors(
     count: u128,
     derates: &Derates,
 ) -> Result<u128, ReadFault>
-    ensures { (t : Text) (all : List Entry) (defined : Result Derates ReadFault) → t.derates ≡ derates.now → Tells told defined → MatchResult result (λ n. factors_read t at flaw count all defined ≡ Ok (entries_left t n all)) (λ fault. Fails fault (factors_read t at flaw count all defined)) }
+    ensures { (t : Text) (all : List Entry) (defined : Result Derates ReadFault) → t.derates
+        ≡ derates.now → Tells told defined
+        → MatchResult result
+        (λ n. factors_read t at flaw count all defined ≡ Ok (entries_left t n all))
+        (λ fault. Fails fault (factors_read t at flaw count all defined)) }
 {
     match told {
         Ok(found) if !same_derates(&found, derates) => Err(other_derates(at)),
@@ -204,7 +230,11 @@ fn scaled_count(
     count: u128,
     derates: &Derates,
 ) -> Result<u128, ReadFault>
-    ensures value { (t : Text) (all : List Entry) → t.size ≡ size → t.derates ≡ derates.now → MatchResult result (λ n. entries t (Ok (entries_left t n all)) lines.new ≡ entries t (Ok (factors at flaw count all)) lines.old) (λ fault. Fails fault (entries t (Ok (factors at flaw count all)) lines.old)) }
+    ensures value { (t : Text) (all : List Entry) → t.size ≡ size → t.derates ≡ derates.now
+        → MatchResult result
+        (λ n. entries t (Ok (entries_left t n all)) lines.new
+        ≡ entries t (Ok (factors at flaw count all)) lines.old)
+        (λ fault. Fails fault (entries t (Ok (factors at flaw count all)) lines.old)) }
     ensures fewer { IfOk result (λ _. length lines.new ≤ length lines.old) }
 {
     match lines.next() {
@@ -225,7 +255,11 @@ fn block_count(
     head: BlockHead,
     derates: &Derates,
 ) -> Result<u128, ReadFault>
-    ensures value { (t : Text) (all : List Entry) → t.size ≡ size → t.derates ≡ derates.now → MatchResult result (λ n. entries t (Ok (entries_left t n all)) lines.new ≡ entries t (Ok (behind_head t at all head)) lines.old) (λ fault. Fails fault (entries t (Ok (behind_head t at all head)) lines.old)) }
+    ensures value { (t : Text) (all : List Entry) → t.size ≡ size → t.derates ≡ derates.now
+        → MatchResult result
+        (λ n. entries t (Ok (entries_left t n all)) lines.new
+        ≡ entries t (Ok (behind_head t at all head)) lines.old)
+        (λ fault. Fails fault (entries t (Ok (behind_head t at all head)) lines.old)) }
     ensures fewer { IfOk result (λ _. length lines.new ≤ length lines.old) }
 {
     match head {
@@ -247,7 +281,12 @@ fn read_block(
     all: &mut Items<Entry>,
 ) -> Result<(), ReadFault>
     requires { line.now.at + length line.now.text.now < 2 ^ 64 }
-    ensures value { (t : Text) → t.size ≡ size → t.first ≡ 0 → t.saved ≡ true → t.derates ≡ derates.now → MatchResult result (λ _. entries t (Ok (block all.new)) lines.new ≡ entries t (Ok (block all.old)) (part_of line.now ∷ lines.old)) (λ fault. Fails fault (entries t (Ok (block all.old)) (part_of line.now ∷ lines.old))) }
+    ensures value { (t : Text) → t.size ≡ size → t.first ≡ 0 → t.saved ≡ true → t.derates
+        ≡ derates.now
+        → MatchResult result
+        (λ _. entries t (Ok (block all.new)) lines.new
+        ≡ entries t (Ok (block all.old)) (part_of line.now ∷ lines.old))
+        (λ fault. Fails fault (entries t (Ok (block all.old)) (part_of line.now ∷ lines.old))) }
     ensures fewer { IfOk result (λ _. length lines.new ≤ length lines.old) }
 {
     let head = block_head(alloc, line, all.len(), derates)?;

@@ -31,7 +31,8 @@ fn push_name(out: &mut String, name: &Name) -> Result<(), Memory>
 
 /// A blank and two names.
 fn push_pair(out: &mut String, first: &Name, second: &Name) -> Result<(), Memory>
-    ensures { OnOk result (string_bytes out.new ≡ string_bytes out.old ++ word first.now ++ word second.now) }
+    ensures { OnOk result
+        (string_bytes out.new ≡ string_bytes out.old ++ word first.now ++ word second.now) }
 {
     push_name(out, first)?;
     push_name(out, second)
@@ -66,7 +67,8 @@ fn push_whole(alloc: Global, out: &mut String, n: i64) -> Result<(), Memory>
 
 /// A blank and a node.
 fn push_node(alloc: Global, out: &mut String, node: &RcNode) -> Result<(), Memory>
-    ensures { OnOk result (string_bytes out.new ≡ string_bytes out.old ++ word (rc_node_text node.now)) }
+    ensures { OnOk result
+        (string_bytes out.new ≡ string_bytes out.old ++ word (rc_node_text node.now)) }
 {
     match node {
         RcNode::Pin(name) => push_name(out, name),
@@ -97,7 +99,8 @@ fn push_res(alloc: Global, out: &mut String, res: &RcRes) -> Result<(), Memory>
 
 #[tactic(auto, using(std::proofs::lemmas::List::drop_more))]
 fn push_caps(alloc: Global, out: &mut String, caps: &[RcCap]) -> Result<(), Memory>
-    ensures { OnOk result (string_bytes out.new ≡ string_bytes out.old ++ flat_map cap_text caps.now) }
+    ensures { OnOk result
+        (string_bytes out.new ≡ string_bytes out.old ++ flat_map cap_text caps.now) }
 {
     for cap in caps {
         push_cap(alloc, out, cap)?;
@@ -107,7 +110,8 @@ fn push_caps(alloc: Global, out: &mut String, caps: &[RcCap]) -> Result<(), Memo
 
 #[tactic(auto, using(std::proofs::lemmas::List::drop_more))]
 fn push_ress(alloc: Global, out: &mut String, ress: &[RcRes]) -> Result<(), Memory>
-    ensures { OnOk result (string_bytes out.new ≡ string_bytes out.old ++ flat_map res_text ress.now) }
+    ensures { OnOk result
+        (string_bytes out.new ≡ string_bytes out.old ++ flat_map res_text ress.now) }
 {
     for res in ress {
         push_res(alloc, out, res)?;
@@ -130,7 +134,8 @@ fn push_rc(alloc: Global, out: &mut String, rc: &Option<NetRc>) -> Result<(), Me
 
 /// A verb and the one name behind it.
 fn push_one(out: &mut String, verb: &str, name: &Name) -> Result<(), Memory>
-    ensures { OnOk result (string_bytes out.new ≡ string_bytes out.old ++ (verb.now ++ word name.now)) }
+    ensures { OnOk result
+        (string_bytes out.new ≡ string_bytes out.old ++ (verb.now ++ word name.now)) }
 {
     push(out, verb)?;
     push_name(out, name)
@@ -138,7 +143,9 @@ fn push_one(out: &mut String, verb: &str, name: &Name) -> Result<(), Memory>
 
 /// A verb and the two names behind it.
 fn push_two(out: &mut String, verb: &str, first: &Name, second: &Name) -> Result<(), Memory>
-    ensures { OnOk result (string_bytes out.new ≡ string_bytes out.old ++ (verb.now ++ word first.now ++ word second.now)) }
+    ensures { OnOk result
+        (string_bytes out.new
+        ≡ string_bytes out.old ++ (verb.now ++ word first.now ++ word second.now)) }
 {
     push(out, verb)?;
     push_pair(out, first, second)
@@ -152,7 +159,11 @@ fn push_buffer(
     cell: &Name,
     sinks: &[Name],
 ) -> Result<(), Memory>
-    ensures { OnOk result (string_bytes out.new ≡ string_bytes out.old ++ (codes "insert_buffer" ++ word net.now ++ word inst.now ++ word fresh.now ++ word cell.now ++ flat_map word sinks.now)) }
+    ensures { OnOk result
+        (string_bytes out.new
+        ≡ string_bytes out.old ++
+        (codes "insert_buffer" ++ word net.now ++ word inst.now ++ word fresh.now ++ word cell.now
+        ++ flat_map word sinks.now)) }
 {
     push(out, "insert_buffer")?;
     push_pair(out, net, inst)?;
@@ -187,7 +198,8 @@ fn push_edit(alloc: Global, out: &mut String, edit: &Edit) -> Result<(), Memory>
 }
 
 fn push_edit_line(alloc: Global, out: &mut String, edit: &Edit) -> Result<(), Memory>
-    ensures { OnOk result (string_bytes out.new ≡ string_bytes out.old ++ line (edit_text edit.now)) }
+    ensures { OnOk result
+        (string_bytes out.new ≡ string_bytes out.old ++ line (edit_text edit.now)) }
 {
     push_edit(alloc, out, edit)?;
     push(out, "\n")
@@ -195,7 +207,9 @@ fn push_edit_line(alloc: Global, out: &mut String, edit: &Edit) -> Result<(), Me
 
 #[tactic(auto, using(std::proofs::lemmas::List::drop_more))]
 fn push_edits(alloc: Global, out: &mut String, edits: &[Edit]) -> Result<(), Memory>
-    ensures { OnOk result (string_bytes out.new ≡ string_bytes out.old ++ flat_map (λ edit. line (edit_text edit)) edits.now) }
+    ensures { OnOk result
+        (string_bytes out.new
+        ≡ string_bytes out.old ++ flat_map (λ edit. line (edit_text edit)) edits.now) }
 {
     for edit in edits {
         push_edit_line(alloc, out, edit)?;
@@ -210,7 +224,11 @@ fn push_entry_head(
     session: u32,
     edits: usize,
 ) -> Result<(), Memory>
-    ensures { OnOk result (string_bytes out.new ≡ string_bytes out.old ++ line (codes "entry" ++ number place ++ codes " session" ++ number session ++ codes " edits" ++ number edits)) }
+    ensures { OnOk result
+        (string_bytes out.new
+        ≡ string_bytes out.old ++ line
+        (codes "entry" ++ number place ++ codes " session" ++ number session ++ codes " edits" ++
+        number edits)) }
 {
     push(out, "entry")?;
     push_number(alloc, out, place)?;
@@ -222,7 +240,8 @@ fn push_entry_head(
 }
 
 fn push_entry(alloc: Global, out: &mut String, place: u64, entry: &Entry) -> Result<(), Memory>
-    ensures { OnOk result (string_bytes out.new ≡ string_bytes out.old ++ entry_text place entry.now) }
+    ensures { OnOk result
+        (string_bytes out.new ≡ string_bytes out.old ++ entry_text place entry.now) }
 {
     let edits = entry.eco.edits.as_slice();
     push_entry_head(alloc, out, place, entry.session, edits.len())?;
@@ -251,7 +270,8 @@ fn push_entries(
     entries: &[Entry],
 ) -> Result<(), Memory>
     requires { first ≤ 2 ^ 62 }
-    ensures { OnOk result (string_bytes out.new ≡ string_bytes out.old ++ entries_text (first + 1) entries.now) }
+    ensures { OnOk result
+        (string_bytes out.new ≡ string_bytes out.old ++ entries_text (first + 1) entries.now) }
 {
     let mut number = first;
     for entry in entries {
@@ -262,7 +282,8 @@ fn push_entries(
 }
 
 fn push_derates(alloc: Global, out: &mut String, derates: &Derates) -> Result<(), Memory>
-    ensures { OnOk result (string_bytes out.new ≡ string_bytes out.old ++ line (derates_text derates.now)) }
+    ensures { OnOk result
+        (string_bytes out.new ≡ string_bytes out.old ++ line (derates_text derates.now)) }
 {
     push(out, "derates")?;
     push_number(alloc, out, derates.early_cell as u64)?;
@@ -273,7 +294,9 @@ fn push_derates(alloc: Global, out: &mut String, derates: &Derates) -> Result<()
 }
 
 fn push_block_head(alloc: Global, out: &mut String, first: u64, count: usize) -> Result<(), Memory>
-    ensures { OnOk result (string_bytes out.new ≡ string_bytes out.old ++ line (codes "journal 2" ++ number first ++ number count)) }
+    ensures { OnOk result
+        (string_bytes out.new
+        ≡ string_bytes out.old ++ line (codes "journal 2" ++ number first ++ number count)) }
 {
     push(out, "journal 2")?;
     push_number(alloc, out, first)?;

@@ -162,7 +162,9 @@ pub fn inst_pins(alloc: Global, store: &Store, inst: u32) -> Result<Items<u32>, 
 
 /// The instances of the pins of nodes that have tests in their cells, each once.
 fn tested_set(alloc: Global, store: &Store, nodes: &[u32]) -> Result<IndexSet<u32>, Memory>
-    ensures { IfOk result (λ insts. insts.keys ≡ insert_all nat_eq [] (filter_map (tested_under store.now) nodes.now)) }
+    ensures { IfOk result
+        (λ insts. insts.keys
+        ≡ insert_all nat_eq [] (filter_map (tested_under store.now) nodes.now)) }
 {
     let found = tested_insts(alloc, store, nodes)?;
     number_set(alloc, found.as_slice())
@@ -175,7 +177,10 @@ fn add_tested_pins(
     pins: &mut Items<u32>,
     nodes: &[u32],
 ) -> Result<(), Memory>
-    ensures { OnOk result (pins.new ≡ pins.old ++ flat_map (inst_pins_at store.now) (insert_all nat_eq [] (filter_map (tested_under store.now) nodes.now))) }
+    ensures { OnOk result
+        (pins.new
+        ≡ pins.old ++ flat_map (inst_pins_at store.now)
+        (insert_all nat_eq [] (filter_map (tested_under store.now) nodes.now))) }
 {
     let insts = tested_set(alloc, store, nodes)?;
     add_insts_pins(alloc, store, pins, insts.as_slice())

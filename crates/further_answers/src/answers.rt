@@ -2,6 +2,7 @@
 
 ghost use Rattle.std.specs.Prelude.{◌≤◌};
 
+use crate::closing::closing;
 use crate::drafts::{advised, drafted};
 use crate::paths::{path_through, ranked_paths};
 use affected_cone::Analysis;
@@ -10,6 +11,7 @@ use session_engine::Further;
 use std::alloc::Global;
 use std::thread::Threads;
 use timing_defs::{Query, QueryFault, Report};
+use what_if::DraftAnswers;
 
 /// Answers the questions beyond the plain ones: paths through pins, ranked paths, drafts and advised sizes.
 #[derive(Drop)]
@@ -29,9 +31,9 @@ impl FurtherQueries {
     }
 }
 
-impl Further for FurtherQueries {
+impl DraftAnswers for FurtherQueries {
     #[tactic(auto, using(std::proofs::lemmas::Bool::and_parts))]
-    fn answer<H: Threads + Sync>(
+    fn answer_draft<H: Threads + Sync>(
         &self,
         rt: &H,
         alloc: Global,
@@ -46,10 +48,42 @@ impl Further for FurtherQueries {
             Query::Paths { pin, kind, count } => {
                 ranked_paths(alloc, &analysis.search(store), pin, *kind, *count)
             }
-            Query::WhatIf { items } => drafted(rt, alloc, store, analysis, items, self.workers),
             Query::Advise { kind, candidates } => {
                 advised(rt, alloc, store, analysis, *kind, candidates, self.workers)
             }
+            Query::Closing { query } => closing(rt, alloc, store, analysis, query, self.workers),
+            Query::WhatIf { .. }
+            | Query::Slew { .. }
+            | Query::At { .. }
+            | Query::Rat { .. }
+            | Query::Slack { .. }
+            | Query::Endpoint { .. }
+            | Query::WorstPath { .. }
+            | Query::Wns { .. }
+            | Query::Tns { .. }
+            | Query::Worst { .. } => unreachable!(),
+        }
+    }
+}
+
+impl Further for FurtherQueries {
+    #[tactic(auto, using(std::proofs::lemmas::Bool::and_parts))]
+    fn answer<H: Threads + Sync>(
+        &self,
+        rt: &H,
+        alloc: Global,
+        store: &Store,
+        analysis: &Analysis,
+        q: &Query,
+    ) -> Result<Report, QueryFault> {
+        match q {
+            Query::WhatIf { items } => {
+                drafted(rt, alloc, store, analysis, items, self.workers, self)
+            }
+            Query::Through { .. }
+            | Query::Paths { .. }
+            | Query::Advise { .. }
+            | Query::Closing { .. } => self.answer_draft(rt, alloc, store, analysis, q),
             Query::Slew { .. }
             | Query::At { .. }
             | Query::Rat { .. }

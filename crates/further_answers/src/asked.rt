@@ -13,7 +13,8 @@ use timing_defs::{Name, QueryFault};
 /// That pins are there: `UnknownPin` of the first that is not.
 pub(crate) fn pins_there(alloc: Global, store: &Store, pins: &[Name]) -> Result<(), QueryFault>
     ensures there { OnOk result (first_some (unknown_pin store.now.design) pins.now ≡ None) }
-    ensures refused { IfErr result (IsRefusal (first_some (unknown_pin store.now.design) pins.now)) }
+    ensures refused { IfErr result
+        (IsRefusal (first_some (unknown_pin store.now.design) pins.now)) }
 {
     for pin in pins {
         let _number = pin_there(alloc, store, pin)?;

@@ -5,7 +5,7 @@ ghost use Rattle.std.specs.List.{list_all};
 ghost use Rattle.timing_defs.specs.declared.reports.Report.{Drafted};
 ghost use Rattle.timing_defs.specs.declared.reports.TrialRow.{TrialRow};
 ghost use Rattle.timing_defs.specs.declared.reports.Advice.{Advice};
-ghost use Rattle.timing_defs.specs.Documents.{is_trial};
+ghost use Rattle.timing_defs.specs.Documents.{is_draft_trial};
 ghost use Rattle.timing_rules.specs.Drafts.{AreTrials};
 ghost use Rattle.timing_rules.specs.Advice.{IsAdvice};
 
@@ -17,29 +17,32 @@ use sta_units::Steps;
 use std::alloc::Global;
 use std::thread::Threads;
 use timing_defs::{Candidate, Items, Kind, QueryFault, Report, Trial};
-use what_if::trial_rows;
+use what_if::{DraftAnswers, trial_rows};
 
 /// Names the count of evaluations for an advice.
 #[derive(Drop)]
 struct Evaluated;
 
-/// What trials on a draft of the design answer.
-pub(crate) fn drafted<H: Threads + Sync>(
+/// What trials on a draft of the design answer; questions that are no plain ones by `answers`.
+pub(crate) fn drafted<H: Threads + Sync, A: DraftAnswers>(
     rt: &H,
     alloc: Global,
     store: &Store,
     analysis: &Analysis,
     trials: &Items<Trial>,
     workers: u32,
+    answers: &A,
 ) -> Result<Report, QueryFault>
     requires store { store.now ≡ analysis.now.stored }
-    requires trials { list_all is_trial trials.now ≡ true }
+    requires trials { list_all is_draft_trial trials.now ≡ true }
     requires some { 1 ≤ workers }
     requires most { workers ≤ 32 }
-    ensures told { IfOk result (λ r. (rows : List TrialRow) × AreTrials store.now.design [] trials.now rows × (r ≡ Drafted rows)) }
+    ensures told { IfOk result
+        (λ r. (rows : List TrialRow) × AreTrials store.now.design [] trials.now rows
+        × (r ≡ Drafted rows)) }
     ensures refused { IfErr result (λ fault. fault ≡ QueryFault.Memory) }
 {
-    let rows = trial_rows(rt, alloc, store, analysis, trials, workers, &NoGate)?;
+    let rows = trial_rows(rt, alloc, store, analysis, trials, workers, answers)?;
     Ok(Report::Drafted(rows))
 }
 
@@ -56,7 +59,9 @@ pub(crate) fn advised<H: Threads + Sync>(
     requires store { store.now ≡ analysis.now.stored }
     requires some { 1 ≤ workers }
     requires most { workers ≤ 32 }
-    ensures told { IfOk result (λ r. (advice : Option Advice) × IsAdvice store.now.design kind candidates.now advice × (r ≡ Report.Advised advice)) }
+    ensures told { IfOk result
+        (λ r. (advice : Option Advice) × IsAdvice store.now.design kind candidates.now advice
+        × (r ≡ Report.Advised advice)) }
     ensures refused { IfErr result (λ fault. fault ≡ QueryFault.Memory) }
 {
     let mut steps: Steps<Evaluated> = Steps::none();

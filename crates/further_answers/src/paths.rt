@@ -22,7 +22,8 @@ pub(crate) fn ranked_paths(
 ) -> Result<Report, QueryFault>
     requires { IsSearch search.now }
     ensures told { IfOk result (Told search.now.store.now.design (Query.Paths pin.now kind count)) }
-    ensures refused { IfErr result (IsRefusal (query_fault search.now.store.now.design (Query.Paths pin.now kind count))) }
+    ensures refused { IfErr result
+        (IsRefusal (query_fault search.now.store.now.design (Query.Paths pin.now kind count))) }
 {
     let Search {
         store,
@@ -45,8 +46,11 @@ pub(crate) fn path_through(
     pins: &Items<Name>,
 ) -> Result<Report, QueryFault>
     requires { IsSearch search.now }
-    ensures told { IfOk result (Told search.now.store.now.design (Query.Through pin.now kind pins.now)) }
-    ensures refused { IfErr result (IsRefusal (query_fault search.now.store.now.design (Query.Through pin.now kind pins.now))) }
+    ensures told { IfOk result
+        (Told search.now.store.now.design (Query.Through pin.now kind pins.now)) }
+    ensures refused { IfErr result
+        (IsRefusal
+        (query_fault search.now.store.now.design (Query.Through pin.now kind pins.now))) }
 {
     let Search {
         store,

@@ -30,8 +30,10 @@ struct Libraries {
 
 fn both_libraries(alloc: Global, text: &[u8]) -> Result<Libraries, Memory>
     requires text { text.now ≡ library_text }
-    ensures value { IfOk result (λ both. (both.early ≡ generated_library) × (both.late ≡ generated_library)) }
-    ensures kept { IfOk result (λ both. (is_library both.early ≡ true) × (is_library both.late ≡ true)) }
+    ensures value { IfOk result
+        (λ both. (both.early ≡ generated_library) × (both.late ≡ generated_library)) }
+    ensures kept { IfOk result
+        (λ both. (is_library both.early ≡ true) × (is_library both.late ≡ true)) }
 {
     let early = library(alloc, text)?;
     match library(alloc, text) {
@@ -55,8 +57,10 @@ fn read_netted(alloc: Global, texts: &Texts, start: u64, gates: u32) -> Result<N
     requires lib { texts.now.lib ≡ library_text }
     requires netlist { texts.now.netlist ≡ module_text (insts_of start gates) }
     requires sdc { texts.now.sdc ≡ constraints_text }
-    ensures netlist { IfOk result (λ both. (both.netlist ≡ module_of_insts (insts_of start gates)) × IsNetlist both.netlist) }
-    ensures sdc { IfOk result (λ both. (both.sdc ≡ generated_constraints) × (are_constraints both.sdc ≡ true)) }
+    ensures netlist { IfOk result
+        (λ both. (both.netlist ≡ module_of_insts (insts_of start gates)) × IsNetlist both.netlist) }
+    ensures sdc { IfOk result
+        (λ both. (both.sdc ≡ generated_constraints) × (are_constraints both.sdc ≡ true)) }
 {
     let netlist = netlist(alloc, texts.netlist.as_slice(), start, gates)?;
     match constraints(alloc, texts.lib.as_slice(), texts.sdc.as_slice()) {

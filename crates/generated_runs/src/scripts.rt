@@ -52,7 +52,8 @@ pub(crate) fn made_scripts(
 ) -> Result<Items<Script>, Memory>
     requires gates { (4 ≤ gates) × (gates ≤ 40000) }
     requires edits { edits ≤ 4000 }
-    requires texts { texts.now ≡ map (λ (script : Script). commands_text script.commands) (scripts_of start gates edits) }
+    requires texts { texts.now
+        ≡ map (λ (script : Script). commands_text script.commands) (scripts_of start gates edits) }
     ensures value { IfOk result (λ scripts. scripts ≡ scripts_of start gates edits) }
     ensures kept { IfOk result (All IsScript) }
 {

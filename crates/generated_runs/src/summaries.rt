@@ -51,7 +51,11 @@ fn push_counts(
     edits: u32,
     accepted: u64,
 ) -> Result<(), Memory>
-    ensures { OnOk result (out.new.items ≡ out.old.items ++ (codes "generated" ++ number gates ++ number edits ++ codes " accepted" ++ number accepted)) }
+    ensures { OnOk result
+        (out.new.items
+        ≡ out.old.items ++
+        (codes "generated" ++ number gates ++ number edits ++ codes " accepted" ++ number
+        accepted)) }
 {
     push(out, b"generated")?;
     push_number(alloc, out, gates as u64)?;
@@ -68,7 +72,9 @@ fn push_totals(
     wns: Option<Fs>,
     tns: Fs,
 ) -> Result<(), Memory>
-    ensures { OnOk result (out.new.items ≡ out.old.items ++ (kind.now ++ word (time_text wns) ++ word (ps_text tns.0))) }
+    ensures { OnOk result
+        (out.new.items
+        ≡ out.old.items ++ (kind.now ++ word (time_text wns) ++ word (ps_text tns.0))) }
 {
     push(out, kind)?;
     push_time(alloc, out, wns)?;

@@ -53,7 +53,8 @@ pub(crate) fn are_apart(arcs: &[WalkArc]) -> bool
 fn is_node(cone: &Cone, node: usize) -> bool
     requires starts { length cone.now.starts ≡ count_of cone.now + 1 }
     requires node { node < count_of cone.now }
-    ensures rising { IsTrue result → slice_index cone.now.starts node ≤ slice_index cone.now.starts (node + 1) }
+    ensures rising { IsTrue result
+        → slice_index cone.now.starts node ≤ slice_index cone.now.starts (node + 1) }
     ensures stored { IsTrue result → slice_index cone.now.starts (node + 1) ≤ length cone.now.arcs }
     ensures arcs { IsTrue result → All (IsArcInto cone.now node) (listed_into cone.now node) }
     ensures apart { IsTrue result → AreApart (listed_into cone.now node) }
@@ -70,10 +71,14 @@ fn is_node(cone: &Cone, node: usize) -> bool
 
 fn are_nodes(cone: &Cone) -> bool
     requires { length cone.now.starts ≡ count_of cone.now + 1 }
-    ensures rising { IsTrue result → (n : ℕ) → n < count_of cone.now → slice_index cone.now.starts n ≤ slice_index cone.now.starts (n + 1) }
-    ensures stored { IsTrue result → (n : ℕ) → n < count_of cone.now → slice_index cone.now.starts (n + 1) ≤ length cone.now.arcs }
-    ensures arcs { IsTrue result → (n : ℕ) → n < count_of cone.now → All (IsArcInto cone.now n) (listed_into cone.now n) }
-    ensures apart { IsTrue result → (n : ℕ) → n < count_of cone.now → AreApart (listed_into cone.now n) }
+    ensures rising { IsTrue result → (n : ℕ) → n < count_of cone.now
+        → slice_index cone.now.starts n ≤ slice_index cone.now.starts (n + 1) }
+    ensures stored { IsTrue result → (n : ℕ) → n < count_of cone.now
+        → slice_index cone.now.starts (n + 1) ≤ length cone.now.arcs }
+    ensures arcs { IsTrue result → (n : ℕ) → n < count_of cone.now
+        → All (IsArcInto cone.now n) (listed_into cone.now n) }
+    ensures apart { IsTrue result → (n : ℕ) → n < count_of cone.now
+        → AreApart (listed_into cone.now n) }
 {
     for node in 0..cone.count as usize {
         if !is_node(cone, node) {
@@ -85,7 +90,8 @@ fn are_nodes(cone: &Cone) -> bool
 
 fn is_rank(ranks: &[u32], node: usize) -> bool
     requires { node < length ranks.now }
-    ensures { IsTrue result → (n : ℕ) → n < node → slice_index ranks.now n ≡ slice_index ranks.now node → n ≡ node }
+    ensures { IsTrue result → (n : ℕ) → n < node → slice_index ranks.now n
+        ≡ slice_index ranks.now node → n ≡ node }
 {
     for other in 0..node {
         if ranks[other] == ranks[node] {
@@ -96,7 +102,8 @@ fn is_rank(ranks: &[u32], node: usize) -> bool
 }
 
 fn are_ranks(ranks: &[u32]) -> bool
-    ensures { IsTrue result → (a b : ℕ) → a < length ranks.now → b < length ranks.now → slice_index ranks.now a ≡ slice_index ranks.now b → a ≡ b }
+    ensures { IsTrue result → (a b : ℕ) → a < length ranks.now → b < length ranks.now
+        → slice_index ranks.now a ≡ slice_index ranks.now b → a ≡ b }
 {
     for node in 0..ranks.len() {
         if !is_rank(ranks, node) {

@@ -29,7 +29,8 @@ impl WalkOrder for ByRank<'_> {
 
     ghost rank = { λ order n. slice_index order.ranks.now n };
 
-    ghost before = { λ order launch. if nat_lt launch 4 && nat_lt (launch + 4) (length order.ranks.now) then (launch + 4) ∷ [] else [] };
+    ghost before = { λ order launch. if nat_lt launch 4 && nat_lt (launch + 4)
+        (length order.ranks.now) then (launch + 4) ∷ [] else [] };
 
     fn comes_first(&self, one: u32, other: u32) -> bool {
         self.ranks[one as usize] < self.ranks[other as usize]

@@ -32,7 +32,8 @@ fn table_named(
     items: &[Item],
     args: &[Lexeme],
 ) -> Result<Option<Table>, Memory>
-    ensures { IfOk result (λ table. table ≡ table_named form (told templates.now.trees) items.now args.now) }
+    ensures { IfOk result
+        (λ table. table ≡ table_named form (told templates.now.trees) items.now args.now) }
 {
     let Some((name, _)) = args.split_first() else {
         return Ok(None);
@@ -61,7 +62,8 @@ pub(crate) fn table_of(
     name: &[u8],
     group: &Tree,
 ) -> Result<Option<Table>, Memory>
-    ensures { IfOk result (λ table. table ≡ table_of form (told templates.now.trees) name.now group.now) }
+    ensures { IfOk result
+        (λ table. table ≡ table_of form (told templates.now.trees) name.now group.now) }
 {
     let found = groups(alloc, group.items.as_slice(), name)?;
     match last_tree(found.as_slice()) {
@@ -90,8 +92,12 @@ fn edge_tables(
     names: (&[u8], &[u8]),
     group: &Tree,
 ) -> Result<EdgeTables, Memory>
-    ensures delay { IfOk result (λ tables. tables.delay ≡ table_of (delay_form known) (told templates.now.trees) names.entry.0.now group.now) }
-    ensures slew { IfOk result (λ tables. tables.slew ≡ table_of (delay_form known) (told templates.now.trees) names.entry.1.now group.now) }
+    ensures delay { IfOk result
+        (λ tables. tables.delay
+        ≡ table_of (delay_form known) (told templates.now.trees) names.entry.0.now group.now) }
+    ensures slew { IfOk result
+        (λ tables. tables.slew
+        ≡ table_of (delay_form known) (told templates.now.trees) names.entry.1.now group.now) }
 {
     let form = Form {
         purpose: Purpose::Delay,
@@ -111,7 +117,8 @@ pub(crate) fn group_arcs(
     group: &Tree,
     timing: Timing,
 ) -> Result<Arcs, Memory>
-    ensures { IfOk result (λ arcs. arcs ≡ group_arcs known (told templates.now.trees) group.now timing) }
+    ensures { IfOk result
+        (λ arcs. arcs ≡ group_arcs known (told templates.now.trees) group.now timing) }
 {
     let sense = sense_of(alloc, group)?;
     let rise = edge_tables(
@@ -173,7 +180,10 @@ fn push_arc(
     draft: &Draft<'_>,
     from_tran: Tran,
 ) -> Result<(), Memory>
-    ensures { IfOk result (λ _. arcs.new ≡ arcs.old ++ arc_from draft.now.timing draft.now.from.now draft.now.to.now draft.now.tran draft.now.delay.now draft.now.slew.now from_tran ∷ []) }
+    ensures { IfOk result
+        (λ _. arcs.new
+        ≡ arcs.old ++ arc_from draft.now.timing draft.now.from.now draft.now.to.now draft.now.tran
+        draft.now.delay.now draft.now.slew.now from_tran ∷ []) }
 {
     arcs.push(CellArc {
         from: draft.from.again(alloc)?,
@@ -193,7 +203,11 @@ fn push_sensed(
     draft: &Draft<'_>,
     sense: Sense,
 ) -> Result<(), Memory>
-    ensures { IfOk result (λ _. arcs.new ≡ arcs.old ++ map (arc_from draft.now.timing draft.now.from.now draft.now.to.now draft.now.tran draft.now.delay.now draft.now.slew.now) (from_trans sense draft.now.tran)) }
+    ensures { IfOk result
+        (λ _. arcs.new
+        ≡ arcs.old ++ map
+        (arc_from draft.now.timing draft.now.from.now draft.now.to.now draft.now.tran
+        draft.now.delay.now draft.now.slew.now) (from_trans sense draft.now.tran)) }
 {
     match sense {
         Sense::Keeps => push_arc(alloc, arcs, draft, draft.tran),
@@ -212,7 +226,11 @@ fn push_arcs(
     draft: &Draft<'_>,
     sense: Sense,
 ) -> Result<(), Memory>
-    ensures { IfOk result (λ _. arcs.new ≡ arcs.old ++ map (arc_from draft.now.timing draft.now.from.now draft.now.to.now draft.now.tran draft.now.delay.now draft.now.slew.now) (trans_of draft.now.timing sense draft.now.tran)) }
+    ensures { IfOk result
+        (λ _. arcs.new
+        ≡ arcs.old ++ map
+        (arc_from draft.now.timing draft.now.from.now draft.now.to.now draft.now.tran
+        draft.now.delay.now draft.now.slew.now) (trans_of draft.now.timing sense draft.now.tran)) }
 {
     match draft.timing {
         Timing::Between => push_sensed(alloc, arcs, draft, sense),
@@ -229,7 +247,10 @@ fn add_rise(
     from: &Name,
     to: &Name,
 ) -> Result<(), Memory>
-    ensures { IfOk result (λ _. arcs.new ≡ arcs.old ++ arcs_to group.now.timing group.now.sense from.now to.now Tran.Rise group.now.rise_delay group.now.rise_slew) }
+    ensures { IfOk result
+        (λ _. arcs.new
+        ≡ arcs.old ++ arcs_to group.now.timing group.now.sense from.now to.now Tran.Rise
+        group.now.rise_delay group.now.rise_slew) }
 {
     let Some(delay) = &group.rise_delay else {
         return Ok(());
@@ -256,7 +277,10 @@ fn add_fall(
     from: &Name,
     to: &Name,
 ) -> Result<(), Memory>
-    ensures { IfOk result (λ _. arcs.new ≡ arcs.old ++ arcs_to group.now.timing group.now.sense from.now to.now Tran.Fall group.now.fall_delay group.now.fall_slew) }
+    ensures { IfOk result
+        (λ _. arcs.new
+        ≡ arcs.old ++ arcs_to group.now.timing group.now.sense from.now to.now Tran.Fall
+        group.now.fall_delay group.now.fall_slew) }
 {
     let Some(delay) = &group.fall_delay else {
         return Ok(());

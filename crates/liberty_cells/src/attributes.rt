@@ -143,7 +143,8 @@ pub(crate) fn check_attribute(
     name: &[u8],
     items: &[Item],
 ) -> Result<Option<Wrong>, Memory>
-    ensures { IfOk result (λ least. least ≡ least_from best (each_value code check (values name.now items.now))) }
+    ensures { IfOk result
+        (λ least. least ≡ least_from best (each_value code check (values name.now items.now))) }
 {
     let found = values(alloc, items, name)?;
     Ok(note_values(best, code, check, found.as_slice()))

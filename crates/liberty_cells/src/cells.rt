@@ -38,7 +38,10 @@ fn add_group_arcs(
     timing: Timing,
     arcs: &mut Items<CellArc>,
 ) -> Result<(), Memory>
-    ensures { IfOk result (λ _. arcs.new ≡ arcs.old ++ all_arcs (group_arcs known (told templates.now.trees) group.now timing) (names_in (related names.now group.now)) (names_in (texts_of args.now))) }
+    ensures { IfOk result
+        (λ _. arcs.new
+        ≡ arcs.old ++ all_arcs (group_arcs known (told templates.now.trees) group.now timing)
+        (names_in (related names.now group.now)) (names_in (texts_of args.now))) }
 {
     let found = related(alloc, names, group)?;
     let froms = names_in(alloc, found.as_slice())?;
@@ -58,7 +61,11 @@ fn add_group_tests(
     edge: (Kind, Tran),
     tests: &mut Items<CellTest>,
 ) -> Result<(), Memory>
-    ensures { IfOk result (λ _. tests.new ≡ tests.old ++ all_tests (group_tests known (told templates.now.trees) group.now edge.0 edge.1) (names_in (related names.now group.now)) (names_in (texts_of args.now))) }
+    ensures { IfOk result
+        (λ _. tests.new
+        ≡ tests.old ++ all_tests
+        (group_tests known (told templates.now.trees) group.now edge.0 edge.1)
+        (names_in (related names.now group.now)) (names_in (texts_of args.now))) }
 {
     let found = related(alloc, names, group)?;
     let clocks = names_in(alloc, found.as_slice())?;
@@ -77,8 +84,14 @@ fn add_group(
     group: &Tree,
     given: &mut Given,
 ) -> Result<(), Memory>
-    ensures arcs { IfOk result (λ _. given.new.arcs ≡ given.old.arcs ++ arcs_of known (told templates.now.trees) names.now (pin_told pin.now) group.now) }
-    ensures tests { IfOk result (λ _. given.new.tests ≡ given.old.tests ++ tests_of known (told templates.now.trees) names.now (pin_told pin.now) group.now) }
+    ensures arcs { IfOk result
+        (λ _. given.new.arcs
+        ≡ given.old.arcs ++ arcs_of known (told templates.now.trees) names.now (pin_told pin.now)
+        group.now) }
+    ensures tests { IfOk result
+        (λ _. given.new.tests
+        ≡ given.old.tests ++ tests_of known (told templates.now.trees) names.now (pin_told pin.now)
+        group.now) }
 {
     let args = pin.tree.args.as_slice();
     match timing_of(alloc, pin.dir, group)? {
@@ -120,8 +133,14 @@ fn add_pin_groups(
     pin: &Pin<'_>,
     given: &mut Given,
 ) -> Result<(), Memory>
-    ensures arcs { IfOk result (λ _. given.new.arcs ≡ given.old.arcs ++ pin_arcs known (told templates.now.trees) names.now (pin_told pin.now)) }
-    ensures tests { IfOk result (λ _. given.new.tests ≡ given.old.tests ++ pin_tests known (told templates.now.trees) names.now (pin_told pin.now)) }
+    ensures arcs { IfOk result
+        (λ _. given.new.arcs
+        ≡ given.old.arcs ++ pin_arcs known (told templates.now.trees) names.now
+        (pin_told pin.now)) }
+    ensures tests { IfOk result
+        (λ _. given.new.tests
+        ≡ given.old.tests ++ pin_tests known (told templates.now.trees) names.now
+        (pin_told pin.now)) }
 {
     let found = groups(alloc, pin.tree.items.as_slice(), b"timing")?;
     for group in found.as_slice() {
@@ -138,8 +157,14 @@ fn given_of(
     templates: &Templates<'_>,
     pins: &[Pin<'_>],
 ) -> Result<Given, Memory>
-    ensures arcs { IfOk result (λ given. given.arcs ≡ flat_map (pin_arcs known (told templates.now.trees) (pin_names (pins_told pins.now))) (pins_told pins.now)) }
-    ensures tests { IfOk result (λ given. given.tests ≡ flat_map (pin_tests known (told templates.now.trees) (pin_names (pins_told pins.now))) (pins_told pins.now)) }
+    ensures arcs { IfOk result
+        (λ given. given.arcs
+        ≡ flat_map (pin_arcs known (told templates.now.trees) (pin_names (pins_told pins.now)))
+        (pins_told pins.now)) }
+    ensures tests { IfOk result
+        (λ given. given.tests
+        ≡ flat_map (pin_tests known (told templates.now.trees) (pin_names (pins_told pins.now)))
+        (pins_told pins.now)) }
 {
     let names = pin_names(alloc, pins)?;
     let mut given = Given {
@@ -225,7 +250,8 @@ fn cell_with(
     pins: &[Pin<'_>],
     name: Name,
 ) -> Result<Cell, Memory>
-    ensures { IfOk result (λ cell. cell ≡ cell_with known (told templates.now.trees) (pins_told pins.now) name) }
+    ensures { IfOk result
+        (λ cell. cell ≡ cell_with known (told templates.now.trees) (pins_told pins.now) name) }
 {
     let found = cell_pins(alloc, known.cap, pins)?;
     let given = given_of(alloc, known, templates, pins)?;
@@ -239,7 +265,9 @@ fn cell_with(
 
 /// The name of a cell, where it has one.
 fn first_name(alloc: Global, args: &[Lexeme]) -> Result<Option<Name>, Memory>
-    ensures { IfOk result (λ found. MatchOption found (first_name args.now ≡ []) (λ name. first_name args.now ≡ name ∷ [])) }
+    ensures { IfOk result
+        (λ found. MatchOption found (first_name args.now ≡ [])
+        (λ name. first_name args.now ≡ name ∷ [])) }
 {
     match args.split_first() {
         None => Ok(None),
@@ -255,7 +283,8 @@ fn add_cell(
     cells: &mut Items<Cell>,
     cell: &Tree,
 ) -> Result<(), Memory>
-    ensures { IfOk result (λ _. cells.new ≡ cells.old ++ cell_in known (told templates.now.trees) cell.now) }
+    ensures { IfOk result
+        (λ _. cells.new ≡ cells.old ++ cell_in known (told templates.now.trees) cell.now) }
 {
     let Some(name) = first_name(alloc, cell.args.as_slice())? else {
         return Ok(());
@@ -273,7 +302,9 @@ pub(crate) fn library_of(
     templates: &Templates<'_>,
     cells: &[&Tree],
 ) -> Result<Library, Memory>
-    ensures { IfOk result (λ library. library.cells ≡ flat_map (cell_in known (told templates.now.trees)) (told cells.now)) }
+    ensures { IfOk result
+        (λ library. library.cells
+        ≡ flat_map (cell_in known (told templates.now.trees)) (told cells.now)) }
 {
     let mut found = Items::new(alloc);
     for cell in cells {

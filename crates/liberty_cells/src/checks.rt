@@ -62,7 +62,9 @@ fn check_table(
     templates: &Templates<'_>,
     table: &Tree,
 ) -> Result<Option<Wrong>, Memory>
-    ensures { IfOk result (λ least. least ≡ least_from best (table_faults extent form (told templates.now.trees) table.now)) }
+    ensures { IfOk result
+        (λ least. least
+        ≡ least_from best (table_faults extent form (told templates.now.trees) table.now)) }
 {
     match table.args.as_slice().split_first() {
         None => Ok(note_missing(best, Code::LibertyUnknownTemplate, extent)),
@@ -86,7 +88,10 @@ fn check_tables(
     name: &[u8],
     group: &Tree,
 ) -> Result<Option<Wrong>, Memory>
-    ensures { IfOk result (λ least. least ≡ least_from best (tables_faults extent form (told templates.now.trees) name.now group.now)) }
+    ensures { IfOk result
+        (λ least. least
+        ≡ least_from best
+        (tables_faults extent form (told templates.now.trees) name.now group.now)) }
 {
     let found = groups(alloc, group.items.as_slice(), name)?;
     let mut least = best;
@@ -106,7 +111,10 @@ fn check_delays(
     templates: &Templates<'_>,
     group: &Tree,
 ) -> Result<Option<Wrong>, Memory>
-    ensures { IfOk result (λ least. least ≡ least_from best (delay_faults extent (delay_form known) (told templates.now.trees) group.now)) }
+    ensures { IfOk result
+        (λ least. least
+        ≡ least_from best
+        (delay_faults extent (delay_form known) (told templates.now.trees) group.now)) }
 {
     let form = Form {
         purpose: Purpose::Delay,
@@ -144,7 +152,10 @@ fn check_needs(
     templates: &Templates<'_>,
     group: &Tree,
 ) -> Result<Option<Wrong>, Memory>
-    ensures { IfOk result (λ least. least ≡ least_from best (need_faults extent (test_form known) (told templates.now.trees) group.now)) }
+    ensures { IfOk result
+        (λ least. least
+        ≡ least_from best
+        (need_faults extent (test_form known) (told templates.now.trees) group.now)) }
 {
     let form = Form {
         purpose: Purpose::Constraint,
@@ -189,7 +200,9 @@ fn check_body(
     timing: Timing,
     group: &Tree,
 ) -> Result<Option<Wrong>, Memory>
-    ensures { IfOk result (λ least. least ≡ least_from best (body_faults extent known (told templates.now.trees) timing group.now)) }
+    ensures { IfOk result
+        (λ least. least
+        ≡ least_from best (body_faults extent known (told templates.now.trees) timing group.now)) }
 {
     match timing {
         Timing::Between => {
@@ -211,7 +224,11 @@ fn check_reached(
     timing: Timing,
     group: &Tree,
 ) -> Result<Option<Wrong>, Memory>
-    ensures { IfOk result (λ least. least ≡ least_from best (reached_faults basis.now.extent basis.now.known (told basis.now.templates.now.trees) names.now timing group.now)) }
+    ensures { IfOk result
+        (λ least. least
+        ≡ least_from best
+        (reached_faults basis.now.extent basis.now.known (told basis.now.templates.now.trees)
+        names.now timing group.now)) }
 {
     let found = related(alloc, names, group)?;
     if found.is_empty() {
@@ -250,7 +267,11 @@ fn check_typed(
     timing: Option<Timing>,
     group: &Tree,
 ) -> Result<Option<Wrong>, Memory>
-    ensures { IfOk result (λ least. least ≡ least_from best (typed_faults basis.now.extent basis.now.known (told basis.now.templates.now.trees) names.now group.now timing)) }
+    ensures { IfOk result
+        (λ least. least
+        ≡ least_from best
+        (typed_faults basis.now.extent basis.now.known (told basis.now.templates.now.trees)
+        names.now group.now timing)) }
 {
     match timing {
         None => Ok(best),
@@ -279,7 +300,11 @@ fn check_timing(
     dir: Dir,
     group: &Tree,
 ) -> Result<Option<Wrong>, Memory>
-    ensures { IfOk result (λ least. least ≡ least_from best (timing_faults basis.now.extent basis.now.known (told basis.now.templates.now.trees) names.now dir group.now)) }
+    ensures { IfOk result
+        (λ least. least
+        ≡ least_from best
+        (timing_faults basis.now.extent basis.now.known (told basis.now.templates.now.trees)
+        names.now dir group.now)) }
 {
     let least = check_type(alloc, best, group.items.as_slice())?;
     let timing = timing_of(alloc, dir, group)?;
@@ -296,7 +321,12 @@ fn check_timings(
     dir: Dir,
     found: &[&Tree],
 ) -> Result<Option<Wrong>, Memory>
-    ensures { IfOk result (λ least. least ≡ least_from best (flat_map (timing_faults basis.now.extent basis.now.known (told basis.now.templates.now.trees) names.now dir) (told found.now))) }
+    ensures { IfOk result
+        (λ least. least
+        ≡ least_from best
+        (flat_map
+        (timing_faults basis.now.extent basis.now.known (told basis.now.templates.now.trees)
+        names.now dir) (told found.now))) }
 {
     let mut least = best;
     for group in found {
@@ -327,7 +357,12 @@ fn check_pin_timings(
     names: &Names<'_>,
     pin: &Pin<'_>,
 ) -> Result<Option<Wrong>, Memory>
-    ensures { IfOk result (λ least. least ≡ least_from best (flat_map (timing_faults basis.now.extent basis.now.known (told basis.now.templates.now.trees) names.now pin.now.dir) (timing_groups pin.now.tree.now))) }
+    ensures { IfOk result
+        (λ least. least
+        ≡ least_from best
+        (flat_map
+        (timing_faults basis.now.extent basis.now.known (told basis.now.templates.now.trees)
+        names.now pin.now.dir) (timing_groups pin.now.tree.now))) }
 {
     let found = groups(alloc, pin.tree.items.as_slice(), b"timing")?;
     check_timings(alloc, best, basis, names, pin.dir, found.as_slice())
@@ -342,7 +377,11 @@ fn check_pin(
     names: &Names<'_>,
     pin: &Pin<'_>,
 ) -> Result<Option<Wrong>, Memory>
-    ensures { IfOk result (λ least. least ≡ least_from best (pin_faults basis.now.extent basis.now.known (told basis.now.templates.now.trees) names.now (pin_told pin.now))) }
+    ensures { IfOk result
+        (λ least. least
+        ≡ least_from best
+        (pin_faults basis.now.extent basis.now.known (told basis.now.templates.now.trees) names.now
+        (pin_told pin.now))) }
 {
     let named = check_names(best, basis.extent, pin.tree.args.as_slice());
     let load = check_pin_load(alloc, named, basis.known.cap, pin.tree.items.as_slice())?;
@@ -356,7 +395,8 @@ fn check_directions(
     best: Option<Wrong>,
     pins: &[&Tree],
 ) -> Result<Option<Wrong>, Memory>
-    ensures { IfOk result (λ least. least ≡ least_from best (flat_map direction_faults (told pins.now))) }
+    ensures { IfOk result
+        (λ least. least ≡ least_from best (flat_map direction_faults (told pins.now))) }
 {
     let mut least = best;
     for pin in pins {
@@ -376,7 +416,12 @@ fn check_each_pin(
     names: &Names<'_>,
     pins: &[Pin<'_>],
 ) -> Result<Option<Wrong>, Memory>
-    ensures { IfOk result (λ least. least ≡ least_from best (flat_map (pin_faults basis.now.extent basis.now.known (told basis.now.templates.now.trees) names.now) (pins_told pins.now))) }
+    ensures { IfOk result
+        (λ least. least
+        ≡ least_from best
+        (flat_map
+        (pin_faults basis.now.extent basis.now.known (told basis.now.templates.now.trees) names.now)
+        (pins_told pins.now))) }
 {
     let mut least = best;
     for pin in pins {
@@ -393,7 +438,11 @@ fn check_pins(
     basis: &Basis<'_, '_>,
     pins: &[Pin<'_>],
 ) -> Result<Option<Wrong>, Memory>
-    ensures { IfOk result (λ least. least ≡ least_from best (pins_faults basis.now.extent basis.now.known (told basis.now.templates.now.trees) (pins_told pins.now))) }
+    ensures { IfOk result
+        (λ least. least
+        ≡ least_from best
+        (pins_faults basis.now.extent basis.now.known (told basis.now.templates.now.trees)
+        (pins_told pins.now))) }
 {
     let doubles = check_pin_doubles(alloc, best, pins)?;
     let counted = check_pin_count(doubles, pins);
@@ -409,7 +458,11 @@ fn check_cell(
     basis: &Basis<'_, '_>,
     cell: &Tree,
 ) -> Result<Option<Wrong>, Memory>
-    ensures { IfOk result (λ least. least ≡ least_from best (cell_faults basis.now.extent basis.now.known (told basis.now.templates.now.trees) cell.now)) }
+    ensures { IfOk result
+        (λ least. least
+        ≡ least_from best
+        (cell_faults basis.now.extent basis.now.known (told basis.now.templates.now.trees)
+        cell.now)) }
 {
     let named = check_one_name(best, basis.extent, cell.args.as_slice());
     let found = groups(alloc, cell.items.as_slice(), b"pin")?;
@@ -426,7 +479,12 @@ pub(crate) fn check_cells(
     basis: &Basis<'_, '_>,
     cells: &[&Tree],
 ) -> Result<Option<Wrong>, Memory>
-    ensures { IfOk result (λ least. least ≡ least_from best (flat_map (cell_faults basis.now.extent basis.now.known (told basis.now.templates.now.trees)) (told cells.now))) }
+    ensures { IfOk result
+        (λ least. least
+        ≡ least_from best
+        (flat_map
+        (cell_faults basis.now.extent basis.now.known (told basis.now.templates.now.trees))
+        (told cells.now))) }
 {
     let mut least = best;
     for cell in cells {

@@ -26,7 +26,9 @@ fn note_double<'a>(
     names: &mut Names<'a>,
     arg: &'a Lexeme,
 ) -> Result<Option<Wrong>, Memory>
-    ensures { IfOk result (λ least. (rest : List Lexeme) → least_from least (doubles names.new rest) ≡ least_from best (doubles names.old (arg.entry.now ∷ rest))) }
+    ensures { IfOk result
+        (λ least. (rest : List Lexeme) → least_from least (doubles names.new rest)
+        ≡ least_from best (doubles names.old (arg.entry.now ∷ rest))) }
 {
     if is_new(names, arg)? {
         return Ok(best);
@@ -41,7 +43,9 @@ fn note_doubles<'a>(
     names: &mut Names<'a>,
     args: &'a [Lexeme],
 ) -> Result<Option<Wrong>, Memory>
-    ensures { IfOk result (λ least. (rest : List Lexeme) → least_from least (doubles names.new rest) ≡ least_from best (doubles names.old (args.entry.now ++ rest))) }
+    ensures { IfOk result
+        (λ least. (rest : List Lexeme) → least_from least (doubles names.new rest)
+        ≡ least_from best (doubles names.old (args.entry.now ++ rest))) }
 {
     let mut least = best;
     for arg in args {
@@ -57,7 +61,8 @@ pub(crate) fn check_pin_doubles(
     best: Option<Wrong>,
     pins: &[Pin<'_>],
 ) -> Result<Option<Wrong>, Memory>
-    ensures { IfOk result (λ least. least ≡ least_from best (doubles [] (pin_args (pins_told pins.now)))) }
+    ensures { IfOk result
+        (λ least. least ≡ least_from best (doubles [] (pin_args (pins_told pins.now)))) }
 {
     let mut names = Names::new(alloc);
     let mut least = best;
@@ -74,7 +79,9 @@ fn note_first_double<'a>(
     names: &mut Names<'a>,
     tree: &'a Tree,
 ) -> Result<Option<Wrong>, Memory>
-    ensures { IfOk result (λ least. (rest : List Lexeme) → least_from least (doubles names.new rest) ≡ least_from best (doubles names.old (first_arg tree.entry.now ++ rest))) }
+    ensures { IfOk result
+        (λ least. (rest : List Lexeme) → least_from least (doubles names.new rest)
+        ≡ least_from best (doubles names.old (first_arg tree.entry.now ++ rest))) }
 {
     match tree.args.as_slice().split_first() {
         None => Ok(best),
@@ -89,7 +96,8 @@ pub(crate) fn check_doubles(
     best: Option<Wrong>,
     trees: &[&Tree],
 ) -> Result<Option<Wrong>, Memory>
-    ensures { IfOk result (λ least. least ≡ least_from best (doubles [] (first_names (told trees.now)))) }
+    ensures { IfOk result
+        (λ least. least ≡ least_from best (doubles [] (first_names (told trees.now)))) }
 {
     let mut names = Names::new(alloc);
     let mut least = best;
@@ -139,7 +147,13 @@ pub(crate) fn check_names(best: Option<Wrong>, extent: Extent, args: &[Lexeme]) 
 #[tactic(auto, unfolding(crate::specs::Faults::too_many))]
 fn counted(seen: usize, pin: &Pin<'_>) -> Option<usize>
     requires { seen ≤ 10000 }
-    ensures { MatchOption result ((rest : List Tree) → too_many 10000 seen (pin.now.tree.now ∷ rest) ≡ at Code.LibertyTooMany pin.now.tree.now.word) (λ n. (n ≤ 10000) × ((rest : List Tree) → too_many 10000 seen (pin.now.tree.now ∷ rest) ≡ too_many 10000 n rest)) }
+    ensures { MatchOption result
+        ((rest : List Tree) → too_many 10000 seen (pin.now.tree.now ∷ rest)
+        ≡ at Code.LibertyTooMany pin.now.tree.now.word)
+        (λ n. (n ≤ 10000)
+        ×
+        ((rest : List Tree) → too_many 10000 seen (pin.now.tree.now ∷ rest)
+        ≡ too_many 10000 n rest)) }
 {
     let room = LIMIT - seen;
     let more = pin.tree.args.len();

@@ -30,7 +30,8 @@ pub(crate) fn group_tests(
     kind: Kind,
     edge: Tran,
 ) -> Result<Needs, Memory>
-    ensures { IfOk result (λ needs. needs ≡ group_tests known (told templates.now.trees) group.now kind edge) }
+    ensures { IfOk result
+        (λ needs. needs ≡ group_tests known (told templates.now.trees) group.now kind edge) }
 {
     let form = Form {
         purpose: Purpose::Constraint,
@@ -54,7 +55,8 @@ fn add_test(
     tran: Tran,
     need: &Option<Table>,
 ) -> Result<(), Memory>
-    ensures { IfOk result (λ _. tests.new ≡ tests.old ++ test_with edge.0 edge.1 clock.now pin.now tran need.now) }
+    ensures { IfOk result
+        (λ _. tests.new ≡ tests.old ++ test_with edge.0 edge.1 clock.now pin.now tran need.now) }
 {
     match need {
         None => Ok(()),
@@ -77,7 +79,8 @@ fn add_between(
     clock: &Name,
     pin: &Name,
 ) -> Result<(), Memory>
-    ensures { IfOk result (λ _. tests.new ≡ tests.old ++ tests_between needs.now pin.now clock.now) }
+    ensures { IfOk result
+        (λ _. tests.new ≡ tests.old ++ tests_between needs.now pin.now clock.now) }
 {
     let edge = (needs.kind, needs.edge);
     add_test(alloc, tests, edge, clock, pin, Tran::Rise, &needs.rise)?;

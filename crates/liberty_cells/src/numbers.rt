@@ -58,7 +58,9 @@ pub(crate) fn is_cap(unit: Option<Unit>, text: &[u8]) -> bool
 
 /// Adds a number, or 0 where it is none; whether it is one.
 fn add_number(unit: Option<Unit>, text: &[u8], found: &mut Items<i64>) -> Result<bool, Memory>
-    ensures { IfOk result (λ good. (good ≡ is_number unit text.now) × (found.new ≡ found.old ++ number_or_zero unit text.now ∷ [])) }
+    ensures { IfOk result
+        (λ good. (good ≡ is_number unit text.now)
+        × (found.new ≡ found.old ++ number_or_zero unit text.now ∷ [])) }
 {
     match number(unit, text) {
         None => {
@@ -74,7 +76,9 @@ fn add_number(unit: Option<Unit>, text: &[u8], found: &mut Items<i64>) -> Result
 
 /// Adds the numbers of a string, with 0 for what is none; whether each is one.
 fn add_numbers(unit: Option<Unit>, text: &[u8], found: &mut Items<i64>) -> Result<bool, Memory>
-    ensures { IfOk result (λ good. (good ≡ list_all (is_number unit) (numbers text.now)) × (found.new ≡ found.old ++ row unit text.now)) }
+    ensures { IfOk result
+        (λ good. (good ≡ list_all (is_number unit) (numbers text.now))
+        × (found.new ≡ found.old ++ row unit text.now)) }
 {
     let mut good = true;
     let mut words = Words::new(text, true);
@@ -91,7 +95,8 @@ pub(crate) fn add_row(
     text: &[u8],
     found: &mut Items<i64>,
 ) -> Result<bool, Memory>
-    ensures { IfOk result (λ good. (good ≡ is_row unit text.now) × (found.new ≡ found.old ++ row unit text.now)) }
+    ensures { IfOk result
+        (λ good. (good ≡ is_row unit text.now) × (found.new ≡ found.old ++ row unit text.now)) }
 {
     let good = add_numbers(unit, text, found)?;
     Ok(has_all(text) && good)
@@ -107,7 +112,9 @@ pub(crate) struct Numbers {
 /// The numbers of all strings of a list.
 #[tactic(auto, using(std::proofs::lemmas::List::drop_more))]
 pub(crate) fn flat(alloc: Global, unit: Option<Unit>, args: &[Lexeme]) -> Result<Numbers, Memory>
-    ensures { IfOk result (λ numbers. (numbers.good ≡ all_rows unit args.now) × (numbers.values ≡ flat unit args.now)) }
+    ensures { IfOk result
+        (λ numbers. (numbers.good ≡ all_rows unit args.now)
+        × (numbers.values ≡ flat unit args.now)) }
 {
     let mut good = true;
     let mut values = Items::new(alloc);

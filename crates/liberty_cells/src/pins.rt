@@ -103,7 +103,9 @@ fn is_kept(alloc: Global, cell: &Tree) -> Result<bool, Memory>
 
 /// Adds a cell where it is in the library.
 fn add_kept<'a>(alloc: Global, found: &mut Items<&'a Tree>, cell: &'a Tree) -> Result<(), Memory>
-    ensures { IfOk result (λ _. (rest : List Tree) → told found.new ++ filter is_kept rest ≡ told found.old ++ filter is_kept (cell.entry.now ∷ rest)) }
+    ensures { IfOk result
+        (λ _. (rest : List Tree) → told found.new ++ filter is_kept rest
+        ≡ told found.old ++ filter is_kept (cell.entry.now ∷ rest)) }
 {
     if is_kept(alloc, cell)? {
         return found.push(cell);
@@ -126,7 +128,8 @@ pub(crate) fn cells_of<'a>(alloc: Global, items: &'a [Item]) -> Result<Items<&'a
 
 /// Adds a pin where it is read.
 fn add_pin<'a>(alloc: Global, found: &mut Items<Pin<'a>>, tree: &'a Tree) -> Result<(), Memory>
-    ensures { IfOk result (λ _. pins_told found.new ≡ pins_told found.old ++ pin_in tree.entry.now) }
+    ensures { IfOk result
+        (λ _. pins_told found.new ≡ pins_told found.old ++ pin_in tree.entry.now) }
 {
     match dir_of(alloc, tree)? {
         None => Ok(()),
@@ -168,7 +171,9 @@ fn add_names<'a>(names: &mut Names<'a>, args: &'a [Lexeme]) -> Result<(), Memory
 /// Adds the names of a pin.
 #[tactic(auto, using(crate::proofs::PinsLemmas::names_append))]
 fn add_pin_names<'a>(names: &mut Names<'a>, pin: &Pin<'a>) -> Result<(), Memory>
-    ensures { IfOk result (λ _. (rest : List Lexeme) → names_on names.new rest ≡ names_on names.old (pin.entry.now.tree.now.args ++ rest)) }
+    ensures { IfOk result
+        (λ _. (rest : List Lexeme) → names_on names.new rest
+        ≡ names_on names.old (pin.entry.now.tree.now.args ++ rest)) }
 {
     add_names(names, pin.tree.args.as_slice())
 }

@@ -34,7 +34,8 @@ struct Parts<'a> {
 
 fn parts_of<'a>(alloc: Global, whole: bool, items: &'a [Item]) -> Result<Parts<'a>, Memory>
     ensures known { IfOk result (λ parts. parts.known ≡ known whole items.entry.now) }
-    ensures templates { IfOk result (λ parts. told parts.templates.trees ≡ templates_of items.entry.now) }
+    ensures templates { IfOk result
+        (λ parts. told parts.templates.trees ≡ templates_of items.entry.now) }
     ensures cells { IfOk result (λ parts. told parts.cells ≡ cells_of items.entry.now) }
 {
     let trees = groups(alloc, items, b"lu_table_template")?;
@@ -53,7 +54,11 @@ fn check_groups(
     extent: Extent,
     parts: &Parts<'_>,
 ) -> Result<Option<Wrong>, Memory>
-    ensures { IfOk result (λ least. least ≡ least_from best (group_faults extent parts.now.known (told parts.now.templates.trees) (told parts.now.cells))) }
+    ensures { IfOk result
+        (λ least. least
+        ≡ least_from best
+        (group_faults extent parts.now.known (told parts.now.templates.trees)
+        (told parts.now.cells))) }
 {
     let basis = Basis {
         extent,
@@ -81,9 +86,11 @@ fn check_statements<'a>(
     extent: Extent,
     items: &'a [Item],
 ) -> Result<Checked<'a>, Memory>
-    ensures least { IfOk result (λ found. found.least ≡ least_from best (statement_faults extent items.entry.now)) }
+    ensures least { IfOk result
+        (λ found. found.least ≡ least_from best (statement_faults extent items.entry.now)) }
     ensures known { IfOk result (λ found. found.parts.known ≡ known extent.whole items.entry.now) }
-    ensures templates { IfOk result (λ found. told found.parts.templates.trees ≡ templates_of items.entry.now) }
+    ensures templates { IfOk result
+        (λ found. told found.parts.templates.trees ≡ templates_of items.entry.now) }
     ensures cells { IfOk result (λ found. told found.parts.cells ≡ cells_of items.entry.now) }
 {
     let header = check_header(alloc, best, extent, items)?;
@@ -95,7 +102,12 @@ fn check_statements<'a>(
 /// The parts of a whole text without a fault.
 #[tactic(auto, using(sta_text::proofs::FaultsLemmas::least_none))]
 fn faultless<'a>(alloc: Global, size: usize, items: &'a [Item]) -> Result<Parts<'a>, ReadFault>
-    ensures { MatchResult result (λ parts. (statement_faults (record { size = size; whole = true }) items.entry.now ≡ []) × (parts.known ≡ known true items.entry.now) × (told parts.templates.trees ≡ templates_of items.entry.now) × (told parts.cells ≡ cells_of items.entry.now)) (λ e. Fails e (statement_faults (record { size = size; whole = true }) items.entry.now)) }
+    ensures { MatchResult result
+        (λ parts. (statement_faults (record { size = size; whole = true }) items.entry.now ≡ [])
+        × (parts.known ≡ known true items.entry.now)
+        × (told parts.templates.trees ≡ templates_of items.entry.now)
+        × (told parts.cells ≡ cells_of items.entry.now))
+        (λ e. Fails e (statement_faults (record { size = size; whole = true }) items.entry.now)) }
 {
     let found = check_statements(alloc, None, Extent { size, whole: true }, items)?;
     match found.least {
@@ -107,7 +119,8 @@ fn faultless<'a>(alloc: Global, size: usize, items: &'a [Item]) -> Result<Parts<
 /// The least fault, where one is known before the others.
 #[tactic(auto, using(crate::proofs::ReaderLemmas::stands_still))]
 fn known_least(least: Option<Wrong>, wrong: Wrong) -> Wrong
-    ensures { (others : List Wrong) → least ≡ least_from (Some wrong) others → least_from None (wrong ∷ others) ≡ Some result }
+    ensures { (others : List Wrong) → least ≡ least_from (Some wrong) others
+        → least_from None (wrong ∷ others) ≡ Some result }
 {
     least.unwrap_or(wrong)
 }
@@ -115,7 +128,9 @@ fn known_least(least: Option<Wrong>, wrong: Wrong) -> Wrong
 /// The least fault of a text that the grammar does not accept, with this fault and these statements
 /// before it.
 fn broken(alloc: Global, size: usize, items: &[Item], wrong: Wrong) -> Result<Wrong, Memory>
-    ensures { IfOk result (λ least. least_from None (wrong ∷ statement_faults (record { size = size; whole = false }) items.now) ≡ Some least) }
+    ensures { IfOk result
+        (λ least. least_from None
+        (wrong ∷ statement_faults (record { size = size; whole = false }) items.now) ≡ Some least) }
 {
     let extent = Extent { size, whole: false };
     let found = check_statements(alloc, Some(wrong), extent, items)?;
@@ -124,7 +139,8 @@ fn broken(alloc: Global, size: usize, items: &[Item], wrong: Wrong) -> Result<Wr
 
 /// The fault of a text that the grammar does not accept.
 fn broken_fault(alloc: Global, size: usize, items: &[Item], wrong: Wrong) -> ReadFault
-    ensures { Fails result (wrong ∷ statement_faults (record { size = size; whole = false }) items.now) }
+    ensures { Fails result
+        (wrong ∷ statement_faults (record { size = size; whole = false }) items.now) }
 {
     match broken(alloc, size, items, wrong) {
         Ok(least) => least.told(),
@@ -134,7 +150,10 @@ fn broken_fault(alloc: Global, size: usize, items: &[Item], wrong: Wrong) -> Rea
 
 /// The library of a whole text.
 fn whole_library(alloc: Global, size: usize, items: &[Item]) -> Result<Library, ReadFault>
-    ensures { MatchResult result (λ library. (statement_faults (record { size = size; whole = true }) items.now ≡ []) × (library ≡ library_of true items.now)) (λ e. Fails e (statement_faults (record { size = size; whole = true }) items.now)) }
+    ensures { MatchResult result
+        (λ library. (statement_faults (record { size = size; whole = true }) items.now ≡ [])
+        × (library ≡ library_of true items.now))
+        (λ e. Fails e (statement_faults (record { size = size; whole = true }) items.now)) }
 {
     let parts = faultless(alloc, size, items)?;
     Ok(library_of(alloc, parts.known, &parts.templates, parts.cells.as_slice())?)
@@ -148,7 +167,10 @@ fn unit_or_one(unit: Option<Unit>) -> Unit
 
 /// The units of a whole text.
 fn whole_units(alloc: Global, size: usize, items: &[Item]) -> Result<Units, ReadFault>
-    ensures { MatchResult result (λ units. (statement_faults (record { size = size; whole = true }) items.now ≡ []) × (units ≡ units_of (known true items.now))) (λ e. Fails e (statement_faults (record { size = size; whole = true }) items.now)) }
+    ensures { MatchResult result
+        (λ units. (statement_faults (record { size = size; whole = true }) items.now ≡ [])
+        × (units ≡ units_of (known true items.now)))
+        (λ e. Fails e (statement_faults (record { size = size; whole = true }) items.now)) }
 {
     let parts = faultless(alloc, size, items)?;
     Ok(Units {
@@ -159,7 +181,9 @@ fn whole_units(alloc: Global, size: usize, items: &[Item]) -> Result<Units, Read
 
 /// The library of a text, or its least fault.
 fn library_of_bytes(alloc: Global, bytes: &[u8]) -> Result<Library, ReadFault>
-    ensures { MatchResult result (λ library. (faults_of bytes.now ≡ []) × (library ≡ library_of_text bytes.now)) (λ e. Fails e (faults_of bytes.now)) }
+    ensures { MatchResult result
+        (λ library. (faults_of bytes.now ≡ []) × (library ≡ library_of_text bytes.now))
+        (λ e. Fails e (faults_of bytes.now)) }
 {
     match read(alloc, bytes)? {
         Reading::Whole(tree) => whole_library(alloc, bytes.len(), tree.items.as_slice()),
@@ -197,7 +221,9 @@ fn library_of_bytes(alloc: Global, bytes: &[u8]) -> Result<Library, ReadFault>
 /// What is missing counts only where the grammar accepts the whole text. Want of memory may come at
 /// any time. It reads the bytes once, in linear time.
 pub fn read_library(alloc: Global, bytes: &[u8]) -> Result<Library, ReadFault>
-    ensures value { MatchResult result (λ library. (faults_of bytes.now ≡ []) × (library ≡ library_of_text bytes.now)) (λ e. Fails e (faults_of bytes.now)) }
+    ensures value { MatchResult result
+        (λ library. (faults_of bytes.now ≡ []) × (library ≡ library_of_text bytes.now))
+        (λ e. Fails e (faults_of bytes.now)) }
     ensures kept { IfOk result (λ library. is_library library ≡ true) }
 {
     library_of_bytes(alloc, bytes)
@@ -209,7 +235,9 @@ pub fn read_library(alloc: Global, bytes: &[u8]) -> Result<Library, ReadFault>
 ///
 /// Those of [`read_library`].
 pub fn units(alloc: Global, bytes: &[u8]) -> Result<Units, ReadFault>
-    ensures { MatchResult result (λ units. (faults_of bytes.now ≡ []) × (units ≡ units_of_text bytes.now)) (λ e. Fails e (faults_of bytes.now)) }
+    ensures { MatchResult result
+        (λ units. (faults_of bytes.now ≡ []) × (units ≡ units_of_text bytes.now))
+        (λ e. Fails e (faults_of bytes.now)) }
 {
     match read(alloc, bytes)? {
         Reading::Whole(tree) => whole_units(alloc, bytes.len(), tree.items.as_slice()),

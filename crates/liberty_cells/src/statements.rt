@@ -18,7 +18,8 @@ fn is_called(word: &Lexeme, name: &[u8]) -> bool
 
 /// Adds the item where it is a group of this name.
 fn add_group<'a>(found: &mut Items<&'a Tree>, item: &'a Item, name: &[u8]) -> Result<(), Memory>
-    ensures { IfOk result (λ _. told found.new ≡ told found.old ++ group_in name.now (out-Item item.entry.now)) }
+    ensures { IfOk result
+        (λ _. told found.new ≡ told found.old ++ group_in name.now (out-Item item.entry.now)) }
 {
     match item {
         Item::Group(tree) => {
@@ -49,7 +50,8 @@ pub(crate) fn groups<'a>(
 
 /// Adds the item's list of arguments where it is a complex attribute of this name.
 fn add_list<'a>(found: &mut Items<&'a [Lexeme]>, item: &'a Item, name: &[u8]) -> Result<(), Memory>
-    ensures { IfOk result (λ _. told found.new ≡ told found.old ++ list_in name.now (out-Item item.entry.now)) }
+    ensures { IfOk result
+        (λ _. told found.new ≡ told found.old ++ list_in name.now (out-Item item.entry.now)) }
 {
     match item {
         Item::Complex { word, args } => {
@@ -80,7 +82,8 @@ pub(crate) fn lists<'a>(
 
 /// Adds the item's value where it is a simple attribute of this name.
 fn add_value<'a>(found: &mut Items<&'a [Lexeme]>, item: &'a Item, name: &[u8]) -> Result<(), Memory>
-    ensures { IfOk result (λ _. told found.new ≡ told found.old ++ value_in name.now (out-Item item.entry.now)) }
+    ensures { IfOk result
+        (λ _. told found.new ≡ told found.old ++ value_in name.now (out-Item item.entry.now)) }
 {
     match item {
         Item::Simple { word, value } => {
@@ -142,7 +145,8 @@ pub(crate) fn text_of<'a>(
     items: &'a [Item],
     name: &[u8],
 ) -> Result<Option<&'a [u8]>, Memory>
-    ensures { IfOk result (λ text. option_map (λ t. t.now) text ≡ text_of name.now items.entry.now) }
+    ensures { IfOk result
+        (λ text. option_map (λ t. t.now) text ≡ text_of name.now items.entry.now) }
 {
     let found = values(alloc, items, name)?;
     match last(found.as_slice()) {

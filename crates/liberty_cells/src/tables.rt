@@ -34,14 +34,18 @@ fn is_rising(index: &[i64]) -> bool
 }
 
 fn is_index(numbers: &Numbers) -> bool
-    ensures { result ≡ (numbers.now.good && nat_le 1 (length numbers.now.values) && nat_le (length numbers.now.values) 64) }
+    ensures { result
+        ≡
+        (numbers.now.good && nat_le 1 (length numbers.now.values) && nat_le
+        (length numbers.now.values) 64) }
 {
     numbers.good && 1 <= numbers.values.len() && numbers.values.len() <= 64
 }
 
 /// Whether an index of this form rises strictly, where its unit is known.
 fn rises(unit: Option<Unit>, numbers: &Numbers) -> bool
-    ensures { (args : List Lexeme) → numbers.now.good ≡ all_rows unit args → numbers.now.values ≡ flat unit args → result ≡ rises unit args }
+    ensures { (args : List Lexeme) → numbers.now.good ≡ all_rows unit args → numbers.now.values
+        ≡ flat unit args → result ≡ rises unit args }
 {
     match unit {
         None => true,
@@ -82,7 +86,10 @@ fn next_index(
     args: &[Lexeme],
     before: Index,
 ) -> Result<Index, Memory>
-    ensures { IfOk result (λ index. (index.fits ≡ (before.fits && is_index unit args.now)) × (index.rises ≡ (before.rises && rises unit args.now)) × (index.values ≡ flat unit args.now)) }
+    ensures { IfOk result
+        (λ index. (index.fits ≡ (before.fits && is_index unit args.now))
+        × (index.rises ≡ (before.rises && rises unit args.now))
+        × (index.values ≡ flat unit args.now)) }
 {
     let numbers = flat(alloc, unit, args)?;
     Ok(Index {
@@ -100,7 +107,8 @@ fn read_values(
     count: usize,
     found: &[&[Lexeme]],
 ) -> Result<Numbers, Memory>
-    ensures good { IfOk result (λ numbers. numbers.good ≡ stand_all (has_values unit count) (told found.now)) }
+    ensures good { IfOk result
+        (λ numbers. numbers.good ≡ stand_all (has_values unit count) (told found.now)) }
     ensures values { IfOk result (λ numbers. numbers.values ≡ last_flat unit [] (told found.now)) }
 {
     let mut good = !found.is_empty();
@@ -128,7 +136,9 @@ fn push_row(
     arg: &Lexeme,
     rows: &mut Items<Items<i64>>,
 ) -> Result<bool, Memory>
-    ensures { IfOk result (λ good. (good ≡ is_row_of unit columns arg.now) × (rows.new ≡ rows.old ++ row unit arg.now.text ∷ [])) }
+    ensures { IfOk result
+        (λ good. (good ≡ is_row_of unit columns arg.now)
+        × (rows.new ≡ rows.old ++ row unit arg.now.text ∷ [])) }
 {
     let mut values = Items::new(alloc);
     let good = add_row(unit, arg.text.as_slice(), &mut values)?;
@@ -145,7 +155,9 @@ fn rows_of(
     columns: usize,
     args: &[Lexeme],
 ) -> Result<Rows, Memory>
-    ensures { IfOk result (λ found. (found.good ≡ list_all (is_row_of unit columns) args.now) × (found.rows ≡ rows_of unit args.now)) }
+    ensures { IfOk result
+        (λ found. (found.good ≡ list_all (is_row_of unit columns) args.now)
+        × (found.rows ≡ rows_of unit args.now)) }
 {
     let mut good = true;
     let mut rows = Items::new(alloc);
@@ -166,7 +178,8 @@ fn read_rows(
     columns: usize,
     found: &[&[Lexeme]],
 ) -> Result<Rows, Memory>
-    ensures good { IfOk result (λ read. read.good ≡ stand_all (has_rows unit count columns) (told found.now)) }
+    ensures good { IfOk result
+        (λ read. read.good ≡ stand_all (has_rows unit count columns) (told found.now)) }
     ensures rows { IfOk result (λ read. read.rows ≡ last_rows unit [] (told found.now)) }
 {
     let mut good = !found.is_empty();
@@ -304,7 +317,8 @@ fn table_of_one(
     first: &[&[Lexeme]],
     found: &[&[Lexeme]],
 ) -> Result<Result<Table, Code>, Memory>
-    ensures { IfOk result (λ table. table ≡ table_of_one form side (told first.now) (told found.now)) }
+    ensures { IfOk result
+        (λ table. table ≡ table_of_one form side (told first.now) (told found.now)) }
 {
     let index = read_index(alloc, unit_of(form, side), first)?;
     let numbers = read_values(alloc, form.known.time, index.values.len(), found)?;
@@ -321,7 +335,9 @@ fn table_of_two(
     second: &[&[Lexeme]],
     found: &[&[Lexeme]],
 ) -> Result<Result<Table, Code>, Memory>
-    ensures { IfOk result (λ table. table ≡ table_of_two form sides.0 sides.1 (told first.now) (told second.now) (told found.now)) }
+    ensures { IfOk result
+        (λ table. table
+        ≡ table_of_two form sides.0 sides.1 (told first.now) (told second.now) (told found.now)) }
 {
     let one = read_index(alloc, unit_of(form, sides.0), first)?;
     let two = read_index(alloc, unit_of(form, sides.1), second)?;
@@ -344,7 +360,8 @@ fn index_lists<'a>(
     table: &'a [Item],
     template: &'a [Item],
 ) -> Result<Items<&'a [Lexeme]>, Memory>
-    ensures { IfOk result (λ found. told found ≡ index name.now table.entry.now template.entry.now) }
+    ensures { IfOk result
+        (λ found. told found ≡ index name.now table.entry.now template.entry.now) }
 {
     let own = lists(alloc, table, name)?;
     if own.is_empty() {
@@ -361,7 +378,10 @@ fn table_at(
     indexes: (&[&[Lexeme]], &[&[Lexeme]]),
     found: &[&[Lexeme]],
 ) -> Result<Result<Table, Code>, Memory>
-    ensures { IfOk result (λ table. table ≡ table_at form axes (told indexes.entry.0.now) (told indexes.entry.1.now) (told found.now)) }
+    ensures { IfOk result
+        (λ table. table
+        ≡ table_at form axes (told indexes.entry.0.now) (told indexes.entry.1.now)
+        (told found.now)) }
 {
     match axes {
         Axes::One(side) => table_of_one(alloc, form, side, indexes.0, found),

@@ -17,7 +17,9 @@ use timing_defs::{Code, Item, Items, Table, Tree};
 
 /// Sets the place of a name, where it has none yet.
 fn set_first<'a>(places: &mut Places<'a>, name: &'a [u8], at: usize) -> Result<(), Memory>
-    ensures { IfOk result (λ _. (q : List ℕ) (other : Option ℕ) → place_or (said places.new q) other ≡ place_or (said places.old q) (if bytes_eq q name.entry.now then Some at else other)) }
+    ensures { IfOk result
+        (λ _. (q : List ℕ) (other : Option ℕ) → place_or (said places.new q) other
+        ≡ place_or (said places.old q) (if bytes_eq q name.entry.now then Some at else other)) }
 {
     match places.find(name) {
         Some(_) => Ok(()),
@@ -31,7 +33,10 @@ fn set_first<'a>(places: &mut Places<'a>, name: &'a [u8], at: usize) -> Result<(
 /// Adds the place of a template, where it is the first of its name.
 #[tactic(auto, unfolding(crate::specs::Tables::place_of))]
 fn add_place<'a>(places: &mut Places<'a>, tree: &'a Tree, at: usize) -> Result<(), Memory>
-    ensures { IfOk result (λ _. (q : List ℕ) (rest : List Tree) → place_or (said places.new q) (place_of (at + 1) q rest) ≡ place_or (said places.old q) (place_of at q (tree.entry.now ∷ rest))) }
+    ensures { IfOk result
+        (λ _. (q : List ℕ) (rest : List Tree)
+        → place_or (said places.new q) (place_of (at + 1) q rest)
+        ≡ place_or (said places.old q) (place_of at q (tree.entry.now ∷ rest))) }
 {
     match tree.args.as_slice().split_first() {
         None => Ok(()),
@@ -111,7 +116,8 @@ pub(crate) fn read_table(
     name: &[u8],
     table: &[Item],
 ) -> Result<Option<Result<Table, Code>>, Memory>
-    ensures { IfOk result (λ read. read ≡ read_table form (told templates.now.trees) name.now table.now) }
+    ensures { IfOk result
+        (λ read. read ≡ read_table form (told templates.now.trees) name.now table.now) }
 {
     if name == b"scalar".as_slice() {
         return Ok(Some(scalar_in(alloc, form, table)?));

@@ -106,7 +106,8 @@ fn add_standing<'a>(
     text: &'a [u8],
     found: &mut Items<&'a [u8]>,
 ) -> Result<(), Memory>
-    ensures { IfOk result (λ _. told found.new ≡ told found.old ++ filter (stands names.now) (words text.entry.now)) }
+    ensures { IfOk result
+        (λ _. told found.new ≡ told found.old ++ filter (stands names.now) (words text.entry.now)) }
 {
     let mut words = Words::new(text, false);
     while let Some(word) = words.next() {
@@ -156,7 +157,9 @@ pub(crate) fn sense_of(alloc: Global, group: &Tree) -> Result<Sense, Memory>
 
 /// Adds a text where it is a name.
 fn add_name(alloc: Global, found: &mut Items<Name>, text: &[u8]) -> Result<(), Memory>
-    ensures { IfOk result (λ _. (rest : List (List ℕ)) → found.new ++ names_in rest ≡ found.old ++ names_in (text.now ∷ rest)) }
+    ensures { IfOk result
+        (λ _. (rest : List (List ℕ)) → found.new ++ names_in rest
+        ≡ found.old ++ names_in (text.now ∷ rest)) }
 {
     match Name::from_bytes(alloc, text)? {
         None => Ok(()),

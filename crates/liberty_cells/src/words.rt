@@ -53,7 +53,8 @@ fn after_space<'a>(commas: bool, text: &'a [u8]) -> &'a [u8]
 /// The first word of a text and what follows it; none where the text has no word.
 #[tactic(auto, using(crate::proofs::WordsLemmas::no_word, crate::proofs::WordsLemmas::first_word))]
 fn first_word<'a>(commas: bool, text: &'a [u8]) -> Option<(&'a [u8], &'a [u8])>
-    ensures { MatchOption result (words_on commas [] text.entry.now ≡ []) (λ p. words_on commas [] text.entry.now ≡ p.0.now ∷ words_on commas [] p.1.now) }
+    ensures { MatchOption result (words_on commas [] text.entry.now ≡ [])
+        (λ p. words_on commas [] text.entry.now ≡ p.0.now ∷ words_on commas [] p.1.now) }
 {
     let start = after_space(commas, text);
     match start.split_first() {
@@ -88,7 +89,8 @@ impl<'a> Words<'a> {
 
     /// Takes the next word; none where none is left.
     pub(crate) fn next(&mut self) -> Option<&'a [u8]>
-        ensures { MatchOption result ((self.old ≡ []) × (self.new ≡ [])) (λ word. self.old ≡ word.now ∷ self.new) }
+        ensures { MatchOption result ((self.old ≡ []) × (self.new ≡ []))
+            (λ word. self.old ≡ word.now ∷ self.new) }
     {
         match first_word(self.commas, self.text) {
             None => None,

@@ -27,7 +27,15 @@ pub(crate) fn group_items(
     out: &mut Items<Item>,
 ) -> Result<(), Stop>
     requires { depth ≤ 64 }
-    ensures { MatchResult result (λ _. (length cursor.new ≤ length cursor.old) × ((word : Lexeme) (args : List Lexeme) (fs : List Frame) → length fs + 1 ≡ depth → grow size (frame word args out.old ∷ fs) body cursor.old ≡ ending size (frame word args out.new) fs cursor.new)) (λ e. (word : Lexeme) (args : List Lexeme) (fs : List Frame) → length fs + 1 ≡ depth → Stops e (frame word args out.new ∷ fs) (grow size (frame word args out.old ∷ fs) body cursor.old)) }
+    ensures { MatchResult result
+        (λ _. (length cursor.new ≤ length cursor.old)
+        ×
+        ((word : Lexeme) (args : List Lexeme) (fs : List Frame) → length fs + 1 ≡ depth
+        → grow size (frame word args out.old ∷ fs) body cursor.old
+        ≡ ending size (frame word args out.new) fs cursor.new))
+        (λ e. (word : Lexeme) (args : List Lexeme) (fs : List Frame) → length fs + 1 ≡ depth
+        → Stops e (frame word args out.new ∷ fs)
+        (grow size (frame word args out.old ∷ fs) body cursor.old)) }
 {
     let mut pending = None;
     'each: loop {
@@ -59,7 +67,14 @@ fn group_item<'a>(
     requires depth { depth ≤ 64 }
     requires fresh { is_skip (tok_of token) ≡ false }
     requires inner { is_mark (tok_of token) 125 ≡ false }
-    ensures { MatchResult result (λ v. (length (left v.1 cursor.new) ≤ length cursor.old) × ((f : Frame) (fs : List Frame) → length fs + 1 ≡ depth → grow size (f ∷ fs) body (tok_of token.entry ∷ cursor.old) ≡ grow size (add f v.0 ∷ fs) body (left v.1 cursor.new))) (λ e. (f : Frame) (fs : List Frame) → length fs + 1 ≡ depth → Stops e (f ∷ fs) (grow size (f ∷ fs) body (tok_of token.entry ∷ cursor.old))) }
+    ensures { MatchResult result
+        (λ v. (length (left v.1 cursor.new) ≤ length cursor.old)
+        ×
+        ((f : Frame) (fs : List Frame) → length fs + 1 ≡ depth
+        → grow size (f ∷ fs) body (tok_of token.entry ∷ cursor.old)
+        ≡ grow size (add f v.0 ∷ fs) body (left v.1 cursor.new)))
+        (λ e. (f : Frame) (fs : List Frame) → length fs + 1 ≡ depth
+        → Stops e (f ∷ fs) (grow size (f ∷ fs) body (tok_of token.entry ∷ cursor.old))) }
 {
     if !is_lexeme(token) {
         return Err(Stop::Fault(unfit(size, true, true, token)));
@@ -88,7 +103,13 @@ fn group(
     args: Items<Lexeme>,
 ) -> Result<Item, Stop>
     requires { depth ≤ 64 }
-    ensures { MatchResult result (λ item. (length cursor.new ≤ length cursor.old) × ((f : Frame) (fs : List Frame) → length fs + 1 ≡ depth → opening size (f ∷ fs) word args cursor.old ≡ grow size (add f item ∷ fs) body cursor.new)) (λ e. (f : Frame) (fs : List Frame) → length fs + 1 ≡ depth → Stops e (f ∷ fs) (opening size (f ∷ fs) word args cursor.old)) }
+    ensures { MatchResult result
+        (λ item. (length cursor.new ≤ length cursor.old)
+        ×
+        ((f : Frame) (fs : List Frame) → length fs + 1 ≡ depth
+        → opening size (f ∷ fs) word args cursor.old ≡ grow size (add f item ∷ fs) body cursor.new))
+        (λ e. (f : Frame) (fs : List Frame) → length fs + 1 ≡ depth
+        → Stops e (f ∷ fs) (opening size (f ∷ fs) word args cursor.old)) }
 {
     if depth == 64 {
         return Err(Stop::Fault(wrong(Code::LibertyBadToken, word.offset as usize)));

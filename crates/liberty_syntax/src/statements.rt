@@ -18,7 +18,14 @@ use timing_defs::{Code, Item, Items, Lexeme};
 /// Takes what follows a statement's name: whether a list begins, or a value.
 #[tactic(auto, unfolding(crate::specs::Grammar::grow))]
 pub(crate) fn after_name(cursor: &mut Cursor<'_>, size: usize, within: bool) -> Result<bool, Stop>
-    ensures { MatchResult result (λ list. (length cursor.new < length cursor.old) × (within ≡ false → list ≡ true) × ((fs : List Frame) (word : Lexeme) → is_inside fs ≡ within → grow size fs (named word) cursor.old ≡ grow size fs (if list then listed word [] false true else valued word []) cursor.new)) (λ e. (fs : List Frame) (word : Lexeme) → is_inside fs ≡ within → Stops e fs (grow size fs (named word) cursor.old)) }
+    ensures { MatchResult result
+        (λ list. (length cursor.new < length cursor.old) × (within ≡ false → list ≡ true)
+        ×
+        ((fs : List Frame) (word : Lexeme) → is_inside fs ≡ within
+        → grow size fs (named word) cursor.old
+        ≡ grow size fs (if list then listed word [] false true else valued word []) cursor.new))
+        (λ e. (fs : List Frame) (word : Lexeme) → is_inside fs ≡ within
+        → Stops e fs (grow size fs (named word) cursor.old)) }
 {
     'each: loop {
         let Some(token) = cursor.next() else {
@@ -44,7 +51,14 @@ pub(crate) fn arguments(
     size: usize,
     within: bool,
 ) -> Result<Items<Lexeme>, Stop>
-    ensures { MatchResult result (λ args. (length cursor.new < length cursor.old) × ((fs : List Frame) (word : Lexeme) → is_inside fs ≡ within → grow size fs (listed word [] false true) cursor.old ≡ grow size fs (closed word args false) cursor.new)) (λ e. (fs : List Frame) (word : Lexeme) → is_inside fs ≡ within → Stops e fs (grow size fs (listed word [] false true) cursor.old)) }
+    ensures { MatchResult result
+        (λ args. (length cursor.new < length cursor.old)
+        ×
+        ((fs : List Frame) (word : Lexeme) → is_inside fs ≡ within
+        → grow size fs (listed word [] false true) cursor.old
+        ≡ grow size fs (closed word args false) cursor.new))
+        (λ e. (fs : List Frame) (word : Lexeme) → is_inside fs ≡ within
+        → Stops e fs (grow size fs (listed word [] false true) cursor.old)) }
 {
     let mut args = Items::new(alloc);
     let mut more = false;
@@ -71,7 +85,14 @@ pub(crate) fn arguments(
 /// Takes what follows a list of arguments in a group.
 #[tactic(auto, unfolding(crate::specs::Grammar::grow))]
 fn after_list<'a>(cursor: &mut Cursor<'a>, size: usize) -> Result<Tail<'a>, Stop>
-    ensures { MatchResult result (λ tail. (length (left_behind tail cursor.new) ≤ length cursor.old) × ((f : Frame) (fs : List Frame) (word : Lexeme) (args : List Lexeme) → Follows size f fs word args tail cursor.new (grow size (f ∷ fs) (closed word args false) cursor.old))) (λ e. (f : Frame) (fs : List Frame) (word : Lexeme) (args : List Lexeme) → Stops e (f ∷ fs) (grow size (f ∷ fs) (closed word args false) cursor.old)) }
+    ensures { MatchResult result
+        (λ tail. (length (left_behind tail cursor.new) ≤ length cursor.old)
+        ×
+        ((f : Frame) (fs : List Frame) (word : Lexeme) (args : List Lexeme)
+        → Follows size f fs word args tail cursor.new
+        (grow size (f ∷ fs) (closed word args false) cursor.old)))
+        (λ e. (f : Frame) (fs : List Frame) (word : Lexeme) (args : List Lexeme)
+        → Stops e (f ∷ fs) (grow size (f ∷ fs) (closed word args false) cursor.old)) }
 {
     let mut ended = false;
     'each: loop {
@@ -100,7 +121,14 @@ fn value<'a>(
     cursor: &mut Cursor<'a>,
     size: usize,
 ) -> Result<(Items<Lexeme>, Token<'a>), Stop>
-    ensures { MatchResult result (λ v. (length (tok_of v.1 ∷ cursor.new) ≤ length cursor.old) × ((f : Frame) (fs : List Frame) (word : Lexeme) → grow size (f ∷ fs) (valued word []) cursor.old ≡ grow size (add f (Simple word v.0) ∷ fs) body (tok_of v.1 ∷ cursor.new))) (λ e. (f : Frame) (fs : List Frame) (word : Lexeme) → Stops e (f ∷ fs) (grow size (f ∷ fs) (valued word []) cursor.old)) }
+    ensures { MatchResult result
+        (λ v. (length (tok_of v.1 ∷ cursor.new) ≤ length cursor.old)
+        ×
+        ((f : Frame) (fs : List Frame) (word : Lexeme)
+        → grow size (f ∷ fs) (valued word []) cursor.old
+        ≡ grow size (add f (Simple word v.0) ∷ fs) body (tok_of v.1 ∷ cursor.new)))
+        (λ e. (f : Frame) (fs : List Frame) (word : Lexeme)
+        → Stops e (f ∷ fs) (grow size (f ∷ fs) (valued word []) cursor.old)) }
 {
     let mut value = Items::new(alloc);
     'each: loop {
@@ -126,7 +154,13 @@ fn with_list<'a>(
     size: usize,
     word: Lexeme,
 ) -> Result<Statement<'a>, Stop>
-    ensures { MatchResult result (λ s. (length (left_after s cursor.new) ≤ length cursor.old) × ((f : Frame) (fs : List Frame) → Says size f fs s cursor.new (grow size (f ∷ fs) (listed word [] false true) cursor.old))) (λ e. (f : Frame) (fs : List Frame) → Stops e (f ∷ fs) (grow size (f ∷ fs) (listed word [] false true) cursor.old)) }
+    ensures { MatchResult result
+        (λ s. (length (left_after s cursor.new) ≤ length cursor.old)
+        ×
+        ((f : Frame) (fs : List Frame)
+        → Says size f fs s cursor.new (grow size (f ∷ fs) (listed word [] false true) cursor.old)))
+        (λ e. (f : Frame) (fs : List Frame)
+        → Stops e (f ∷ fs) (grow size (f ∷ fs) (listed word [] false true) cursor.old)) }
 {
     let args = arguments(alloc, cursor, size, true)?;
     match after_list(cursor, size)? {
@@ -145,7 +179,13 @@ fn with_value<'a>(
     size: usize,
     word: Lexeme,
 ) -> Result<Statement<'a>, Stop>
-    ensures { MatchResult result (λ s. (length (left_after s cursor.new) ≤ length cursor.old) × ((f : Frame) (fs : List Frame) → Says size f fs s cursor.new (grow size (f ∷ fs) (valued word []) cursor.old))) (λ e. (f : Frame) (fs : List Frame) → Stops e (f ∷ fs) (grow size (f ∷ fs) (valued word []) cursor.old)) }
+    ensures { MatchResult result
+        (λ s. (length (left_after s cursor.new) ≤ length cursor.old)
+        ×
+        ((f : Frame) (fs : List Frame)
+        → Says size f fs s cursor.new (grow size (f ∷ fs) (valued word []) cursor.old)))
+        (λ e. (f : Frame) (fs : List Frame)
+        → Stops e (f ∷ fs) (grow size (f ∷ fs) (valued word []) cursor.old)) }
 {
     let (value, token) = value(alloc, cursor, size)?;
     Ok(Statement::Attribute {
@@ -161,7 +201,13 @@ pub(crate) fn statement<'a>(
     size: usize,
     word: Lexeme,
 ) -> Result<Statement<'a>, Stop>
-    ensures { MatchResult result (λ s. (length (left_after s cursor.new) ≤ length cursor.old) × ((f : Frame) (fs : List Frame) → Says size f fs s cursor.new (grow size (f ∷ fs) (named word) cursor.old))) (λ e. (f : Frame) (fs : List Frame) → Stops e (f ∷ fs) (grow size (f ∷ fs) (named word) cursor.old)) }
+    ensures { MatchResult result
+        (λ s. (length (left_after s cursor.new) ≤ length cursor.old)
+        ×
+        ((f : Frame) (fs : List Frame)
+        → Says size f fs s cursor.new (grow size (f ∷ fs) (named word) cursor.old)))
+        (λ e. (f : Frame) (fs : List Frame)
+        → Stops e (f ∷ fs) (grow size (f ∷ fs) (named word) cursor.old)) }
 {
     if after_name(cursor, size, true)? {
         with_list(alloc, cursor, size, word)

@@ -19,7 +19,9 @@ use timing_defs::{Items, Lexeme, ReadFault, Style, Tree};
 /// Takes the name of the text's group.
 #[tactic(auto, unfolding(crate::specs::Grammar::grow))]
 fn library_word(alloc: Global, cursor: &mut Cursor<'_>, size: usize) -> Result<Lexeme, Stop>
-    ensures { MatchResult result (λ word. grow size [] body cursor.old ≡ grow size [] (named word) cursor.new) (λ e. Stops e [] (grow size [] body cursor.old)) }
+    ensures { MatchResult result
+        (λ word. grow size [] body cursor.old ≡ grow size [] (named word) cursor.new)
+        (λ e. Stops e [] (grow size [] body cursor.old)) }
 {
     'each: loop {
         let Some(token) = cursor.next() else {
@@ -41,7 +43,12 @@ fn library_word(alloc: Global, cursor: &mut Cursor<'_>, size: usize) -> Result<L
 /// Takes the begin of the text's group, behind its list of arguments.
 #[tactic(auto, unfolding(crate::specs::Grammar::grow))]
 fn library_begin(cursor: &mut Cursor<'_>, size: usize) -> Result<(), Stop>
-    ensures { MatchResult result (λ _. (word : Lexeme) (args : List Lexeme) → grow size [] (closed word args false) cursor.old ≡ grow size (frame word args [] ∷ []) body cursor.new) (λ e. (word : Lexeme) (args : List Lexeme) → Stops e [] (grow size [] (closed word args false) cursor.old)) }
+    ensures { MatchResult result
+        (λ _. (word : Lexeme) (args : List Lexeme)
+        → grow size [] (closed word args false) cursor.old
+        ≡ grow size (frame word args [] ∷ []) body cursor.new)
+        (λ e. (word : Lexeme) (args : List Lexeme)
+        → Stops e [] (grow size [] (closed word args false) cursor.old)) }
 {
     'each: loop {
         let Some(token) = cursor.next() else {
@@ -62,7 +69,9 @@ fn head(
     cursor: &mut Cursor<'_>,
     size: usize,
 ) -> Result<(Lexeme, Items<Lexeme>), Stop>
-    ensures { MatchResult result (λ v. grow size [] body cursor.old ≡ grow size (frame v.0 v.1 [] ∷ []) body cursor.new) (λ e. Stops e [] (grow size [] body cursor.old)) }
+    ensures { MatchResult result
+        (λ v. grow size [] body cursor.old ≡ grow size (frame v.0 v.1 [] ∷ []) body cursor.new)
+        (λ e. Stops e [] (grow size [] body cursor.old)) }
 {
     let word = library_word(alloc, cursor, size)?;
     if !after_name(cursor, size, false)? {
@@ -76,7 +85,9 @@ fn head(
 /// Takes what follows the text's group, which is nothing but semicolons and line ends.
 #[tactic(auto, unfolding(crate::specs::Grammar::grow))]
 fn rest(cursor: &mut Cursor<'_>, size: usize) -> Result<(), Wrong>
-    ensures { MatchResult result (λ _. (tree : Tree) → grow size [] (behind tree) cursor.old ≡ Whole tree) (λ w. (tree : Tree) → grow size [] (behind tree) cursor.old ≡ Broken tree.items w) }
+    ensures { MatchResult result
+        (λ _. (tree : Tree) → grow size [] (behind tree) cursor.old ≡ Whole tree)
+        (λ w. (tree : Tree) → grow size [] (behind tree) cursor.old ≡ Broken tree.items w) }
 {
     'each: loop {
         let Some(token) = cursor.next() else {
@@ -96,7 +107,8 @@ fn library(
     word: Lexeme,
     args: Items<Lexeme>,
 ) -> Result<Reading, Memory>
-    ensures { IfOk result (λ reading. reading ≡ grow size (frame word args [] ∷ []) body cursor.old) }
+    ensures { IfOk result
+        (λ reading. reading ≡ grow size (frame word args [] ∷ []) body cursor.old) }
 {
     let mut items = Items::new(alloc);
     match group_items(alloc, cursor, size, 1, &mut items) {
@@ -134,7 +146,8 @@ pub fn read(alloc: Global, bytes: &[u8]) -> Result<Reading, Memory>
 /// grammar does not allow, a text that is not one `library` group, a group within 64 others (placed
 /// at its name), or `include_file`. `L3`: a byte outside strings and comments that no token may have.
 pub fn read_tree(alloc: Global, bytes: &[u8]) -> Result<Tree, ReadFault>
-    ensures { MatchResult result (λ tree. reading_of bytes.now ≡ Whole tree) (λ fault. Tells fault (reading_of bytes.now)) }
+    ensures { MatchResult result (λ tree. reading_of bytes.now ≡ Whole tree)
+        (λ fault. Tells fault (reading_of bytes.now)) }
 {
     match read(alloc, bytes)? {
         Reading::Whole(tree) => Ok(tree),

@@ -102,7 +102,8 @@ fn inside(text: &[u8]) -> &[u8]
 /// it belong to one.
 #[tactic(auto, unfolding(crate::specs::Grammar::joined), using(crate::proofs::GrammarLemmas::join_skip, crate::proofs::GrammarLemmas::join_keep, crate::proofs::GrammarLemmas::join_over))]
 fn join_byte(text: &mut Items<u8>, skip: usize, byte: u8, rest: &[u8]) -> Result<usize, Memory>
-    ensures { IfOk result (λ left. text.new ++ joined left rest.now ≡ text.old ++ joined skip (byte ∷ rest.now)) }
+    ensures { IfOk result
+        (λ left. text.new ++ joined left rest.now ≡ text.old ++ joined skip (byte ∷ rest.now)) }
 {
     if 0 < skip {
         return Ok(skip - 1);
@@ -208,7 +209,8 @@ pub(crate) fn take_next<'a>(
     pending: Option<Token<'a>>,
     cursor: &mut Cursor<'a>,
 ) -> Option<Token<'a>>
-    ensures { MatchOption result ((left pending.entry cursor.old ≡ []) × (cursor.new ≡ [])) (λ t. left pending.entry cursor.old ≡ tok_of t ∷ cursor.new) }
+    ensures { MatchOption result ((left pending.entry cursor.old ≡ []) × (cursor.new ≡ []))
+        (λ t. left pending.entry cursor.old ≡ tok_of t ∷ cursor.new) }
 {
     match pending {
         Some(token) => Some(token),

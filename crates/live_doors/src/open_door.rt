@@ -68,7 +68,8 @@ fn line_of<B: BufRead, W>(
 /// written.
 fn written_to<B, W: Write>(streams: &mut Option<Streams<B, W>>, piece: &[u8]) -> Result<(), usize>
     ensures whole { OnOk result (IsGiven (given W.contents) streams.old streams.new piece.now) }
-    ensures partly { IfErr result (IsGivenPart (given W.contents) streams.old streams.new piece.now) }
+    ensures partly { IfErr result
+        (IsGivenPart (given W.contents) streams.old streams.new piece.now) }
     ensures bound { IfErr result (λ count. count ≤ length piece.now) }
 {
     match streams {
@@ -91,7 +92,8 @@ impl<B: BufRead + Drop, W: Write + Drop> Door for OpenDoor<B, W> {
         ensures none { OnErr result (deeds self.new.history ≡ deeds self.old.history) }
         ensures cause { IfErr result (λ lost. HasCause lost self.old.faults self.new.faults) }
         // which bytes of the input it is, where they are known
-        ensures bytes { IfOk result (TakesLine (coming B.remaining) self.old.streams self.new.streams) }
+        ensures bytes { IfOk result
+            (TakesLine (coming B.remaining) self.old.streams self.new.streams) }
     {
         match line_of(alloc, &mut self.streams) {
             Ok(None) => Ok(None),

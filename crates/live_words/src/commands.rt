@@ -15,7 +15,8 @@ fn with_word<'a>(
     command: Command<'a>,
     id: &'a str,
 ) -> Result<Command<'a>, AllocError>
-    ensures { IfOk result (λ made. app_of made ≡ with_rule (app_of command.entry) (positional id.entry.now)) }
+    ensures { IfOk result
+        (λ made. app_of made ≡ with_rule (app_of command.entry) (positional id.entry.now)) }
 {
     command.arg(Arg::new(alloc, id).required(true))
 }
@@ -27,7 +28,9 @@ fn with_option<'a>(
     id: &'a str,
     name: &'a str,
 ) -> Result<Command<'a>, AllocError>
-    ensures { IfOk result (λ made. app_of made ≡ with_rule (app_of command.entry) (optional id.entry.now name.entry.now)) }
+    ensures { IfOk result
+        (λ made. app_of made
+        ≡ with_rule (app_of command.entry) (optional id.entry.now name.entry.now)) }
 {
     command.arg(Arg::new(alloc, id).long(name))
 }
@@ -38,7 +41,8 @@ fn with_names<'a>(
     command: Command<'a>,
     id: &'a str,
 ) -> Result<Command<'a>, AllocError>
-    ensures { IfOk result (λ made. app_of made ≡ with_rule (app_of command.entry) (repeated id.entry.now)) }
+    ensures { IfOk result
+        (λ made. app_of made ≡ with_rule (app_of command.entry) (repeated id.entry.now)) }
 {
     command.arg(Arg::new(alloc, id).num_args(1usize..))
 }

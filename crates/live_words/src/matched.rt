@@ -64,8 +64,13 @@ fn paired_behind<'a>(
     pairs: Vec<Pair<'a>>,
     names: &[&'a str],
 ) -> Result<Option<Vec<Pair<'a>>>, AllocError>
-    ensures pairs { IfOk result (λ found. option_map (λ all. map pair_words all.items) found ≡ pairs_behind (map pair_words pairs.entry.items) (map (λ s. s.now) names.now)) }
-    ensures count { IfOk result (λ found. IfSome found (λ all. length all.items + length all.items ≤ length pairs.entry.items + length pairs.entry.items + length names.now)) }
+    ensures pairs { IfOk result
+        (λ found. option_map (λ all. map pair_words all.items) found
+        ≡ pairs_behind (map pair_words pairs.entry.items) (map (λ s. s.now) names.now)) }
+    ensures count { IfOk result
+        (λ found. IfSome found
+        (λ all. length all.items + length all.items ≤ length pairs.entry.items + length
+        pairs.entry.items + length names.now)) }
 {
     match names {
         [] => Ok(Some(pairs)),
@@ -86,8 +91,12 @@ fn paired_behind<'a>(
 
 /// Names in turns as pairs; none where one is left over.
 fn paired<'a>(alloc: Global, names: &[&'a str]) -> Result<Option<Vec<Pair<'a>>>, AllocError>
-    ensures pairs { IfOk result (λ found. option_map (λ pairs. map pair_words pairs.items) found ≡ pairs_of (map (λ s. s.now) names.now)) }
-    ensures count { IfOk result (λ found. IfSome found (λ pairs. length pairs.items + length pairs.items ≤ length names.now)) }
+    ensures pairs { IfOk result
+        (λ found. option_map (λ pairs. map pair_words pairs.items) found
+        ≡ pairs_of (map (λ s. s.now) names.now)) }
+    ensures count { IfOk result
+        (λ found. IfSome found
+        (λ pairs. length pairs.items + length pairs.items ≤ length names.now)) }
 {
     paired_behind(Vec::new(alloc), names)
 }
@@ -95,7 +104,9 @@ fn paired<'a>(alloc: Global, names: &[&'a str]) -> Result<Option<Vec<Pair<'a>>>,
 /// Names as pairs, where they are at most 16.
 #[tactic(auto, using(crate::proofs::ByRows::lengths))]
 fn few<'a>(alloc: Global, names: &[&'a str]) -> Result<Option<Vec<Pair<'a>>>, AllocError>
-    ensures pairs { IfOk result (λ found. option_map (λ pairs. map pair_words pairs.items) found ≡ few_pairs (map (λ s. s.now) names.now)) }
+    ensures pairs { IfOk result
+        (λ found. option_map (λ pairs. map pair_words pairs.items) found
+        ≡ few_pairs (map (λ s. s.now) names.now)) }
     ensures count { IfOk result (λ found. IfSome found (λ pairs. length pairs.items ≤ 16)) }
 {
     if names.len() <= 32 {
@@ -108,7 +119,9 @@ fn few<'a>(alloc: Global, names: &[&'a str]) -> Result<Option<Vec<Pair<'a>>>, Al
 /// The inputs and outputs, up to 16 pairs.
 #[tactic(auto, using(crate::proofs::ByRows::by_rows))]
 fn pairs<'a>(alloc: Global, matches: &ArgMatches<'a>) -> Result<Option<Vec<Pair<'a>>>, AllocError>
-    ensures pairs { IfOk result (λ found. option_map (λ pairs. map pair_words pairs.items) found ≡ pairs_in (rows_of (found_of matches.now))) }
+    ensures pairs { IfOk result
+        (λ found. option_map (λ pairs. map pair_words pairs.items) found
+        ≡ pairs_in (rows_of (found_of matches.now))) }
     ensures count { IfOk result (λ found. IfSome found (λ pairs. length pairs.items ≤ 16)) }
 {
     match matches.get_strs("NAME") {
@@ -122,7 +135,8 @@ pub(crate) fn live_of<'a>(
     alloc: Global,
     matches: &ArgMatches<'a>,
 ) -> Result<Option<LiveWords<'a>>, AllocError>
-    ensures asked { IfOk result (λ found. option_map asked_words found ≡ live_in (rows_of (found_of matches.now))) }
+    ensures asked { IfOk result
+        (λ found. option_map asked_words found ≡ live_in (rows_of (found_of matches.now))) }
     ensures ranges { IfOk result (λ found. IfSome found IsInRange) }
 {
     match (names_of(matches), workers_of(matches)) {

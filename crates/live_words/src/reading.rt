@@ -22,7 +22,9 @@ fn asked_by<'a>(
     name: &str,
     matches: &ArgMatches<'a>,
 ) -> Result<Option<LiveWords<'a>>, AllocError>
-    ensures asked { IfOk result (λ found. option_map asked_words found ≡ asked_in (name.now, rows_of (found_of matches.now))) }
+    ensures asked { IfOk result
+        (λ found. option_map asked_words found
+        ≡ asked_in (name.now, rows_of (found_of matches.now))) }
     ensures ranges { IfOk result (λ found. IfSome found IsInRange) }
 {
     match name {
@@ -36,7 +38,9 @@ fn asked_of<'a>(
     alloc: Global,
     matches: &ArgMatches<'a>,
 ) -> Result<Option<LiveWords<'a>>, AllocError>
-    ensures asked { IfOk result (λ found. option_map asked_words found ≡ option_and_then asked_in (subcommand_rows_of matches.now)) }
+    ensures asked { IfOk result
+        (λ found. option_map asked_words found
+        ≡ option_and_then asked_in (subcommand_rows_of matches.now)) }
     ensures ranges { IfOk result (λ found. IfSome found IsInRange) }
 {
     match matches.subcommand() {
@@ -57,7 +61,8 @@ pub fn read_live_words<'a>(
     alloc: Global,
     words: &'a [String],
 ) -> Result<Option<LiveWords<'a>>, Memory>
-    ensures asked { IfOk result (λ found. option_map asked_words found ≡ words_of (map string_bytes words.entry.now)) }
+    ensures asked { IfOk result
+        (λ found. option_map asked_words found ≡ words_of (map string_bytes words.entry.now)) }
     ensures ranges { IfOk result (λ found. IfSome found IsInRange) }
 {
     let command = lizdrog(alloc)?;

@@ -59,7 +59,11 @@ impl Store {
     fn with_pin_on(self, alloc: Global, word: &Name, net: &Name) -> Result<Store, Memory>
         requires word { is_pin_word self.pins word.now ≡ true }
         requires net { is_listed self.design.nets net.now ≡ true }
-        ensures { IfOk result (λ after. after ≡ with_insts self (on_inst (before_last word.now) (with_conns (connected (after_last word.now) net.now)) self.design.insts)) }
+        ensures { IfOk result
+            (λ after. after
+            ≡ with_insts self
+            (on_inst (before_last word.now) (with_conns (connected (after_last word.now) net.now))
+            self.design.insts)) }
     {
         let pin = self.pin_there(word);
         let to = self.known_net(net);
@@ -72,7 +76,8 @@ impl Store {
     fn with_sinks_on(self, alloc: Global, sinks: &[Name], net: &Name) -> Result<Store, Memory>
         requires words { list_all (is_pin_word self.pins) sinks.now ≡ true }
         requires net { is_listed self.design.nets net.now ≡ true }
-        ensures { IfOk result (λ after. after ≡ with_insts self (moved_sinks net.now sinks.now self.design.insts)) }
+        ensures { IfOk result
+            (λ after. after ≡ with_insts self (moved_sinks net.now sinks.now self.design.insts)) }
     {
         match sinks {
             [] => Ok(self),
@@ -88,7 +93,9 @@ impl Store {
     /// The name of the pin of a direction of an instance of a buffer's cell.
     fn buffer_pin(&self, alloc: Global, inst: &Name, cell: &Name, dir: Dir) -> Result<Name, Memory>
         requires { option_map_or is_buffer (cell_for self.now.design cell.now) false ≡ true }
-        ensures { IfOk result (λ name. (c : Cell) → cell_for self.now.design cell.now ≡ Some c → name ≡ inst.now ++ 58 ∷ first_pin dir c) }
+        ensures { IfOk result
+            (λ name. (c : Cell) → cell_for self.now.design cell.now ≡ Some c → name
+            ≡ inst.now ++ 58 ∷ first_pin dir c) }
     {
         let Some(cell) = usable_cell(self, cell) else {
             unreachable!();
@@ -100,8 +107,12 @@ impl Store {
     /// The names of the pins of an instance of a buffer's cell.
     fn buffer_ends(&self, alloc: Global, inst: &Name, cell: &Name) -> Result<BufferEnds, Memory>
         requires { option_map_or is_buffer (cell_for self.now.design cell.now) false ≡ true }
-        ensures input { IfOk result (λ ends. (c : Cell) → cell_for self.now.design cell.now ≡ Some c → ends.input ≡ inst.now ++ 58 ∷ first_pin Input c) }
-        ensures output { IfOk result (λ ends. (c : Cell) → cell_for self.now.design cell.now ≡ Some c → ends.output ≡ inst.now ++ 58 ∷ first_pin Output c) }
+        ensures input { IfOk result
+            (λ ends. (c : Cell) → cell_for self.now.design cell.now ≡ Some c → ends.input
+            ≡ inst.now ++ 58 ∷ first_pin Input c) }
+        ensures output { IfOk result
+            (λ ends. (c : Cell) → cell_for self.now.design cell.now ≡ Some c → ends.output
+            ≡ inst.now ++ 58 ∷ first_pin Output c) }
     {
         let input = self.buffer_pin(alloc, inst, cell, Dir::Input)?;
         let output = self.buffer_pin(alloc, inst, cell, Dir::Output)?;
@@ -124,9 +135,16 @@ impl Store {
         requires net { is_listed self.design.nets net.now ≡ true }
         requires fresh { is_listed self.design.nets fresh.now ≡ true }
         requires follows { FollowsAll base.now self }
-        requires input { (c : Cell) → cell_for self.design cell.now ≡ Some c → ends.now.input ≡ inst.now ++ 58 ∷ first_pin Input c }
-        requires output { (c : Cell) → cell_for self.design cell.now ≡ Some c → ends.now.output ≡ inst.now ++ 58 ∷ first_pin Output c }
-        ensures design { IfOk result (λ after. after.design ≡ record self.design { insts = self.design.insts ++ buffer_inst self.design net.now inst.now fresh.now cell.now ∷ [] }) }
+        requires input { (c : Cell) → cell_for self.design cell.now ≡ Some c → ends.now.input
+            ≡ inst.now ++ 58 ∷ first_pin Input c }
+        requires output { (c : Cell) → cell_for self.design cell.now ≡ Some c → ends.now.output
+            ≡ inst.now ++ 58 ∷ first_pin Output c }
+        ensures design { IfOk result
+            (λ after. after.design
+            ≡ record self.design {
+              insts = self.design.insts ++ buffer_inst self.design net.now inst.now fresh.now
+                  cell.now ∷ [];
+            }) }
         ensures follows { IfOk result (λ after. FollowsAll base.now after) }
     {
         self.laws();
@@ -152,7 +170,12 @@ impl Store {
         requires net { is_listed self.design.nets net.now ≡ true }
         requires fresh { is_listed self.design.nets fresh.now ≡ true }
         requires follows { FollowsAll base.now self }
-        ensures design { IfOk result (λ after. after.design ≡ record self.design { insts = self.design.insts ++ buffer_inst self.design net.now inst.now fresh.now cell.now ∷ [] }) }
+        ensures design { IfOk result
+            (λ after. after.design
+            ≡ record self.design {
+              insts = self.design.insts ++ buffer_inst self.design net.now inst.now fresh.now
+                  cell.now ∷ [];
+            }) }
         ensures follows { IfOk result (λ after. FollowsAll base.now after) }
     {
         match self.buffer_ends(alloc, inst, cell) {
@@ -175,9 +198,13 @@ impl Store {
         cell: &Name,
         sinks: &[Name],
     ) -> Result<Store, Memory>
-        requires faults { first_fault (edit_faults self.design (InsertBuffer net.now inst.now fresh.now cell.now sinks.now)) ≡ None }
+        requires faults { first_fault
+            (edit_faults self.design (InsertBuffer net.now inst.now fresh.now cell.now sinks.now))
+            ≡ None }
         requires follows { FollowsAll base.now self }
-        ensures design { IfOk result (λ after. after.design ≡ changed self.design (InsertBuffer net.now inst.now fresh.now cell.now sinks.now)) }
+        ensures design { IfOk result
+            (λ after. after.design
+            ≡ changed self.design (InsertBuffer net.now inst.now fresh.now cell.now sinks.now)) }
         ensures follows { IfOk result (λ after. FollowsAll base.now after) }
     {
         self.laws();

@@ -59,7 +59,8 @@ fn add_cell_names(
     inst: &Inst,
     cell: &Cell,
 ) -> Result<(), Memory>
-    ensures { OnOk result (names.new ≡ names.old ++ map (λ pin. name_of (cell_pin inst.now pin)) cell.now.pins) }
+    ensures { OnOk result
+        (names.new ≡ names.old ++ map (λ pin. name_of (cell_pin inst.now pin)) cell.now.pins) }
 {
     for pin in cell.pins.as_slice() {
         names.push(full_name(alloc, &inst.name, &pin.name)?)?;
@@ -122,7 +123,8 @@ fn conn_net<'a>(inst: &'a Inst, own: &Name) -> Option<&'a Name>
 
 /// The number of that net.
 fn conn_number(names: &Names, inst: &Inst, own: &Name) -> Option<u32>
-    ensures { result ≡ option_and_then (number_of names.now.nets) (conn_net inst.now.conns own.now) }
+    ensures { result
+        ≡ option_and_then (number_of names.now.nets) (conn_net inst.now.conns own.now) }
 {
     let net = conn_net(inst, own)?;
     names.nets.number(net)
@@ -135,7 +137,10 @@ fn add_cell_rows(
     inst: &Inst,
     cell: &Cell,
 ) -> Result<(), Memory>
-    ensures { OnOk result (rows.new ≡ rows.old ++ map (λ pin. row_of names.now.insts names.now.nets (cell_pin inst.now pin)) cell.now.pins) }
+    ensures { OnOk result
+        (rows.new
+        ≡ rows.old ++ map (λ pin. row_of names.now.insts names.now.nets (cell_pin inst.now pin))
+        cell.now.pins) }
 {
     let owner = names.insts.number(&inst.name);
     for pin in cell.pins.as_slice() {
@@ -156,7 +161,10 @@ fn add_inst_rows(
     cells: &Cells,
     inst: &Inst,
 ) -> Result<(), Memory>
-    ensures { OnOk result (rows.new ≡ rows.old ++ of_inst_pins (row_of names.now.insts names.now.nets) cells.now.cells inst.now) }
+    ensures { OnOk result
+        (rows.new
+        ≡ rows.old ++ of_inst_pins (row_of names.now.insts names.now.nets) cells.now.cells
+        inst.now) }
 {
     match cells.cell(&inst.cell) {
         Some(cell) => add_cell_rows(rows, names, inst, cell),
@@ -165,7 +173,9 @@ fn add_inst_rows(
 }
 
 fn port_rows(alloc: Global, names: &Names, ports: &[Port]) -> Result<CowTable<PinRow>, Memory>
-    ensures { IfOk result (λ rows. rows ≡ map (λ port. row_of names.now.insts names.now.nets (port_pin port)) ports.now) }
+    ensures { IfOk result
+        (λ rows. rows
+        ≡ map (λ port. row_of names.now.insts names.now.nets (port_pin port)) ports.now) }
 {
     let mut rows = CowTable::new(alloc);
     for port in ports {
@@ -186,7 +196,10 @@ fn pin_rows(
     names: &Names,
     insts: &[Inst],
 ) -> Result<CowTable<PinRow>, Memory>
-    ensures { IfOk result (λ rows. rows ≡ of_pins (row_of names.now.insts names.now.nets) frame.now.ports frame.now.late.cells insts.now) }
+    ensures { IfOk result
+        (λ rows. rows
+        ≡ of_pins (row_of names.now.insts names.now.nets) frame.now.ports frame.now.late.cells
+        insts.now) }
 {
     let mut rows = port_rows(alloc, names, frame.ports.as_slice())?;
     for inst in insts {
@@ -285,7 +298,8 @@ fn inst_rows(
 
 /// Adds the number of the net of some parasitics.
 fn add_rc_number(numbers: &mut Items<u32>, nets: &Numbering, rc: &NetRc) -> Result<(), Memory>
-    ensures { OnOk result (numbers.new ≡ numbers.old ++ filter_map (λ rc. number_of nets.now rc.net) (rc.now ∷ [])) }
+    ensures { OnOk result
+        (numbers.new ≡ numbers.old ++ filter_map (λ rc. number_of nets.now rc.net) (rc.now ∷ [])) }
 {
     match nets.number(&rc.net) {
         Some(net) => numbers.push(net),
@@ -295,7 +309,8 @@ fn add_rc_number(numbers: &mut Items<u32>, nets: &Numbering, rc: &NetRc) -> Resu
 
 /// The numbers of the nets that have parasitics, in their order.
 fn rc_numbers(alloc: Global, nets: &Numbering, rcs: &[NetRc]) -> Result<Items<u32>, Memory>
-    ensures { IfOk result (λ numbers. numbers ≡ filter_map (λ rc. number_of nets.now rc.net) rcs.now) }
+    ensures { IfOk result
+        (λ numbers. numbers ≡ filter_map (λ rc. number_of nets.now rc.net) rcs.now) }
 {
     let mut numbers = Items::new(alloc);
     for rc in rcs {
@@ -392,8 +407,10 @@ pub(crate) fn frame_of(
 
 /// The numbers of pins.
 fn pin_numbers(alloc: Global, frame: &Frame, insts: &[Inst]) -> Result<Numbering, Memory>
-    requires { are_distinct (of_pins name_of frame.now.ports frame.now.late.cells insts.now) ≡ true }
-    ensures { IfOk result (λ made. made ≡ map Some (of_pins name_of frame.now.ports frame.now.late.cells insts.now)) }
+    requires { are_distinct (of_pins name_of frame.now.ports frame.now.late.cells insts.now)
+        ≡ true }
+    ensures { IfOk result
+        (λ made. made ≡ map Some (of_pins name_of frame.now.ports frame.now.late.cells insts.now)) }
 {
     let words = pin_names(alloc, frame.ports.as_slice(), &frame.late, insts)?;
     numbered(alloc, words)
@@ -426,10 +443,14 @@ pub(crate) fn names_of(
 ) -> Result<Names, Memory>
     requires nets { are_distinct nets.now ≡ true }
     requires insts { are_distinct (map (λ inst. inst.name) insts.now) ≡ true }
-    requires pins { are_distinct (of_pins name_of frame.now.ports frame.now.late.cells insts.now) ≡ true }
-    ensures insts { IfOk result (λ names. names.insts ≡ map Some (map (λ inst. inst.name) insts.now)) }
+    requires pins { are_distinct (of_pins name_of frame.now.ports frame.now.late.cells insts.now)
+        ≡ true }
+    ensures insts { IfOk result
+        (λ names. names.insts ≡ map Some (map (λ inst. inst.name) insts.now)) }
     ensures nets { IfOk result (λ names. names.nets ≡ map Some nets.now) }
-    ensures pins { IfOk result (λ names. names.pins ≡ map Some (of_pins name_of frame.now.ports frame.now.late.cells insts.now)) }
+    ensures pins { IfOk result
+        (λ names. names.pins
+        ≡ map Some (of_pins name_of frame.now.ports frame.now.late.cells insts.now)) }
 {
     let pins = pin_numbers(alloc, frame, insts.as_slice())?;
     match inst_numbers(alloc, insts.as_slice()) {
@@ -467,8 +488,14 @@ fn both_pin_rows(
     names: &Names,
     insts: &[Inst],
 ) -> Result<PinRows, Memory>
-    requires pins { length names.now.pins ≡ length (of_pins (row_of names.now.insts names.now.nets) frame.now.ports frame.now.late.cells insts.now) }
-    ensures pins { IfOk result (λ rows. rows.pins ≡ of_pins (row_of names.now.insts names.now.nets) frame.now.ports frame.now.late.cells insts.now) }
+    requires pins { length names.now.pins
+        ≡ length
+        (of_pins (row_of names.now.insts names.now.nets) frame.now.ports frame.now.late.cells
+        insts.now) }
+    ensures pins { IfOk result
+        (λ rows. rows.pins
+        ≡ of_pins (row_of names.now.insts names.now.nets) frame.now.ports frame.now.late.cells
+        insts.now) }
     ensures net_len { IfOk result (λ rows. length rows.net_pins ≡ length names.now.nets) }
     ensures net_pins { IfOk result (λ rows. AreNetPins rows.pins (length rows.pins) rows.net_pins) }
 {
@@ -531,10 +558,16 @@ pub(crate) fn rows_of(
     rcs: Items<NetRc>,
 ) -> Result<Rows, Memory>
     requires rcs { are_distinct (map (λ rc. rc.net) rcs) ≡ true }
-    requires pins { length names.now.pins ≡ length (of_pins (row_of names.now.insts names.now.nets) frame.now.ports frame.now.late.cells insts) }
+    requires pins { length names.now.pins
+        ≡ length
+        (of_pins (row_of names.now.insts names.now.nets) frame.now.ports frame.now.late.cells
+        insts) }
     ensures insts { IfOk result (λ rows. rows.insts ≡ map Some insts) }
     ensures rcs { IfOk result (λ rows. AreRcRows names.now.nets rcs rows.rcs) }
-    ensures pins { IfOk result (λ rows. rows.pins ≡ of_pins (row_of names.now.insts names.now.nets) frame.now.ports frame.now.late.cells insts) }
+    ensures pins { IfOk result
+        (λ rows. rows.pins
+        ≡ of_pins (row_of names.now.insts names.now.nets) frame.now.ports frame.now.late.cells
+        insts) }
     ensures net_len { IfOk result (λ rows. length rows.net_pins ≡ length names.now.nets) }
     ensures net_pins { IfOk result (λ rows. AreNetPins rows.pins (length rows.pins) rows.net_pins) }
 {
@@ -561,7 +594,8 @@ pub(crate) fn orders_of(alloc: Global, names: &Names, rcs: &Items<NetRc>) -> Res
     requires { are_distinct (map (λ rc. rc.net) rcs.now) ≡ true }
     ensures insts { IfOk result (λ orders. orders.insts ≡ first_numbers (length names.now.insts)) }
     ensures nets { IfOk result (λ orders. orders.nets ≡ first_numbers (length names.now.nets)) }
-    ensures rcs { IfOk result (λ orders. orders.rcs ≡ filter_map (λ rc. number_of names.now.nets rc.net) rcs.now) }
+    ensures rcs { IfOk result
+        (λ orders. orders.rcs ≡ filter_map (λ rc. number_of names.now.nets rc.net) rcs.now) }
 {
     let insts = first_roll(alloc, names.insts.bound())?;
     let nets = first_roll(alloc, names.nets.bound())?;

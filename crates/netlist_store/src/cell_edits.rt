@@ -47,11 +47,19 @@ fn put_other_cell(
     requires follows { Follows base.now names }
     requires filled { IsFilled names rows.old }
     ensures numbers { IfOk result (λ after. AreNumbers after) }
-    ensures rows { IfOk result (λ after. (q : List ℕ) → row_named after rows.new q ≡ option_or (row_among other.row.name (inst_row nets.now other.row inst) other.new q) (if list_any (is_lost other.row.name other.new q) other.old then None else row_named names rows.old q)) }
-    ensures kept { IfOk result (λ after. (q : List ℕ) (n : ℕ) → list_any (is_lost other.row.name other.new q) other.old ≡ false → number_of names q ≡ Some n → number_of after q ≡ Some n) }
+    ensures rows { IfOk result
+        (λ after. (q : List ℕ) → row_named after rows.new q
+        ≡ option_or (row_among other.row.name (inst_row nets.now other.row inst) other.new q)
+        (if list_any (is_lost other.row.name other.new q) other.old then None else row_named names
+        rows.old q)) }
+    ensures kept { IfOk result
+        (λ after. (q : List ℕ) (n : ℕ) → list_any (is_lost other.row.name other.new q) other.old
+        ≡ false → number_of names q ≡ Some n → number_of after q ≡ Some n) }
     ensures follows { IfOk result (λ after. Follows base.now after) }
     ensures filled { IfOk result (λ after. IsFilled after rows.new) }
-    ensures put { IfOk result (λ after. (n : ℕ) → at insts.new n ≡ (if nat_eq inst n then Some other.row else at insts.old n)) }
+    ensures put { IfOk result
+        (λ after. (n : ℕ) → at insts.new n
+        ≡ (if nat_eq inst n then Some other.row else at insts.old n)) }
 {
     let OtherCell {
         row,
@@ -88,7 +96,9 @@ impl Store {
     /// An instance with another cell.
     fn with_other_cell(&self, alloc: Global, inst: u32, cell: &Name) -> Result<Inst, Memory>
         requires { is_number self.now.insts inst ≡ true }
-        ensures { IfOk result (λ made. (i : Inst) → inst_numbered self.now inst ≡ Some i → made ≡ record { name = i.name; cell = cell.now; conns = i.conns }) }
+        ensures { IfOk result
+            (λ made. (i : Inst) → inst_numbered self.now inst ≡ Some i → made
+            ≡ record { name = i.name; cell = cell.now; conns = i.conns }) }
     {
         let inst = self.inst_at(inst);
         let name = inst.name.copied(alloc)?;
@@ -101,9 +111,15 @@ impl Store {
     fn other_cell(&self, alloc: Global, inst: u32, cell: &Name) -> Result<OtherCell, Memory>
         requires inst { is_number self.now.insts inst ≡ true }
         requires cell { is_some (cell_named self.now.design.late.cells cell.now) ≡ true }
-        ensures row { IfOk result (λ other. (i : Inst) → inst_numbered self.now inst ≡ Some i → other.row ≡ record { name = i.name; cell = cell.now; conns = i.conns }) }
-        ensures old { IfOk result (λ other. other.old ≡ cell_pins (option_and_then (cell_of self.now.design Late) (inst_numbered self.now inst))) }
-        ensures new { IfOk result (λ other. other.new ≡ cell_pins (cell_named self.now.design.late.cells cell.now)) }
+        ensures row { IfOk result
+            (λ other. (i : Inst) → inst_numbered self.now inst ≡ Some i → other.row
+            ≡ record { name = i.name; cell = cell.now; conns = i.conns }) }
+        ensures old { IfOk result
+            (λ other. other.old
+            ≡ cell_pins
+            (option_and_then (cell_of self.now.design Late) (inst_numbered self.now inst))) }
+        ensures new { IfOk result
+            (λ other. other.new ≡ cell_pins (cell_named self.now.design.late.cells cell.now)) }
     {
         let row = self.with_other_cell(alloc, inst, cell)?;
         let old = self.pins_of_inst(alloc, inst)?;
@@ -123,7 +139,8 @@ impl Store {
         requires number { number_of self.insts name.now ≡ Some inst }
         requires faults { first_fault (edit_faults self.design (Repower name.now cell.now)) ≡ None }
         requires pins { Follows base.now.pins self.pins }
-        ensures design { IfOk result (λ after. after.design ≡ changed self.design (Repower name.now cell.now)) }
+        ensures design { IfOk result
+            (λ after. after.design ≡ changed self.design (Repower name.now cell.now)) }
         ensures insts { IfOk result (λ after. after.insts ≡ self.insts) }
         ensures nets { IfOk result (λ after. after.nets ≡ self.nets) }
         ensures pins { IfOk result (λ after. Follows base.now.pins after.pins) }

@@ -37,7 +37,10 @@ fn add_place(
     cell: &Cell,
     place: u32,
 ) -> Result<(), Memory>
-    ensures { OnOk result ((name : List ℕ) → place_under places.new.entries name ≡ option_or (place_under places.old.entries name) (if bytes_eq cell.now.name name then Some place else None)) }
+    ensures { OnOk result
+        ((name : List ℕ) → place_under places.new.entries name
+        ≡ option_or (place_under places.old.entries name)
+        (if bytes_eq cell.now.name name then Some place else None)) }
 {
     if places.contains_key(&cell.name) {
         return Ok(());

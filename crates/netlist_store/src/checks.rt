@@ -98,7 +98,8 @@ pub(crate) fn check_fits(
     cell: &Cell,
 ) -> Result<(), Fault>
     requires { cell_for store.now.design cell_name.now ≡ Some cell.now }
-    ensures checked { IsChecked result (unless (fits_cell store.now.design name.now cell_name.now) (PinsDiffer name.now)) }
+    ensures checked { IsChecked result
+        (unless (fits_cell store.now.design name.now cell_name.now) (PinsDiffer name.now)) }
 {
     let Some(inst) = store.inst_named(name) else {
         return Ok(());
@@ -122,7 +123,9 @@ pub(crate) fn check_buffer(alloc: Global, inst: &Name, cell: &Cell) -> Result<()
 
 /// Refuses an instance that has a pin on a net.
 pub(crate) fn check_open(store: &Store, alloc: Global, name: &Name) -> Result<(), Fault>
-    ensures checked { IsChecked result (unless (option_map_or is_open (inst_named store.now.design.insts name.now) true) (InUse name.now)) }
+    ensures checked { IsChecked result
+        (unless (option_map_or is_open (inst_named store.now.design.insts name.now) true)
+        (InUse name.now)) }
 {
     match store.inst_named(name) {
         Some(inst) if !is_open(inst) => Err(Fault::InUse(name.copied(alloc)?)),
@@ -133,7 +136,8 @@ pub(crate) fn check_open(store: &Store, alloc: Global, name: &Name) -> Result<()
 /// Refuses a net that a port or a connection joins.
 pub(crate) fn check_unused(store: &Store, alloc: Global, name: &Name, net: u32) -> Result<(), Fault>
     requires { number_of store.now.nets name.now ≡ Some net }
-    ensures { IsChecked result (unless (not (net_in_use store.now.design name.now)) (InUse name.now)) }
+    ensures { IsChecked result
+        (unless (not (net_in_use store.now.design name.now)) (InUse name.now)) }
 {
     if store.has_pins(name, net) {
         return Err(Fault::InUse(name.copied(alloc)?));

@@ -17,7 +17,11 @@ fn has_conn(conns: &[Conn], pin: &Name) -> bool
 
 /// A connection, on the net where it is the pin's.
 fn conn_on(alloc: Global, conn: &Conn, pin: &Name, net: &Name) -> Result<Conn, Memory>
-    ensures { IfOk result (λ made. made ≡ (if is_conn_of pin.now conn.now then record { pin = conn.now.pin; net = Some net.now } else conn.now)) }
+    ensures { IfOk result
+        (λ made. made
+        ≡
+        (if is_conn_of pin.now conn.now then record { pin = conn.now.pin; net = Some net.now } else
+        conn.now)) }
 {
     if conn.pin != *pin {
         return conn.again(alloc);
@@ -30,7 +34,11 @@ fn conn_on(alloc: Global, conn: &Conn, pin: &Name, net: &Name) -> Result<Conn, M
 /// The connections, with the pin's own one on the net.
 #[tactic(auto, using(std::proofs::lemmas::List::drop_more))]
 fn written(alloc: Global, conns: &[Conn], pin: &Name, net: &Name) -> Result<Items<Conn>, Memory>
-    ensures { IfOk result (λ made. made ≡ map (λ conn. if is_conn_of pin.now conn then record { pin = conn.pin; net = Some net.now } else conn) conns.now) }
+    ensures { IfOk result
+        (λ made. made
+        ≡ map
+        (λ conn. if is_conn_of pin.now conn then record { pin = conn.pin; net = Some net.now } else
+        conn) conns.now) }
 {
     let mut made = Items::new(alloc);
     for conn in conns {
@@ -41,7 +49,8 @@ fn written(alloc: Global, conns: &[Conn], pin: &Name, net: &Name) -> Result<Item
 
 /// Adds a connection.
 fn push_conn(made: &mut Items<Conn>, alloc: Global, pin: &Name, net: &Name) -> Result<(), Memory>
-    ensures { OnOk result (made.new ≡ made.old ++ record { pin = pin.now; net = Some net.now } ∷ []) }
+    ensures { OnOk result
+        (made.new ≡ made.old ++ record { pin = pin.now; net = Some net.now } ∷ []) }
 {
     let pin = pin.copied(alloc)?;
     let net = Some(net.copied(alloc)?);
@@ -50,7 +59,8 @@ fn push_conn(made: &mut Items<Conn>, alloc: Global, pin: &Name, net: &Name) -> R
 
 /// The connections with one more.
 fn pushed(alloc: Global, conns: &Items<Conn>, pin: &Name, net: &Name) -> Result<Items<Conn>, Memory>
-    ensures { IfOk result (λ made. made ≡ conns.now ++ record { pin = pin.now; net = Some net.now } ∷ []) }
+    ensures { IfOk result
+        (λ made. made ≡ conns.now ++ record { pin = pin.now; net = Some net.now } ∷ []) }
 {
     let mut made = conns.again(alloc)?;
     push_conn(&mut made, alloc, pin, net)?;
@@ -75,7 +85,8 @@ pub(crate) fn connected(
 
 /// Adds a connection that is not the pin's.
 fn push_other(made: &mut Items<Conn>, alloc: Global, conn: &Conn, pin: &Name) -> Result<(), Memory>
-    ensures { OnOk result (made.new ≡ made.old ++ filter (λ conn. not (is_conn_of pin.now conn)) (conn.now ∷ [])) }
+    ensures { OnOk result
+        (made.new ≡ made.old ++ filter (λ conn. not (is_conn_of pin.now conn)) (conn.now ∷ [])) }
 {
     if conn.pin == *pin {
         return Ok(());
@@ -85,7 +96,8 @@ fn push_other(made: &mut Items<Conn>, alloc: Global, conn: &Conn, pin: &Name) ->
 
 /// The connections as a pin leaves its net: without its own one.
 pub(crate) fn unconnected(alloc: Global, conns: &[Conn], pin: &Name) -> Result<Items<Conn>, Memory>
-    ensures { IfOk result (λ made. made ≡ filter (λ conn. not (is_conn_of pin.now conn)) conns.now) }
+    ensures { IfOk result
+        (λ made. made ≡ filter (λ conn. not (is_conn_of pin.now conn)) conns.now) }
 {
     let mut made = Items::new(alloc);
     for conn in conns {

@@ -78,7 +78,10 @@ impl Store {
     /// The first fault of an edit. What the edit touches is added where it has none.
     fn checked(&self, alloc: Global, touched: &mut Touched, change: &Edit) -> Result<(), Fault>
         ensures checked { IsChecked result (first_fault (edit_faults self.now.design change.now)) }
-        ensures touched { OnOk result ((edits : List Edit) → touched_with touched.new (changed self.now.design change.now) edits ≡ touched_with touched.old self.now.design (change.now ∷ edits)) }
+        ensures touched { OnOk result
+            ((edits : List Edit)
+            → touched_with touched.new (changed self.now.design change.now) edits
+            ≡ touched_with touched.old self.now.design (change.now ∷ edits)) }
     {
         check_edit(self, alloc, change)?;
         touched.touch(alloc, self, change)?;
@@ -97,7 +100,9 @@ impl Store {
         requires follows { FollowsAll base.now self }
         ensures edited { IsEdited result (edit self.design change.now) }
         ensures follows { IfOk result (λ after. FollowsAll base.now after) }
-        ensures touched { IfOk result (λ after. (edits : List Edit) → touched_with touched.new after.design edits ≡ touched_with touched.old self.design (change.now ∷ edits)) }
+        ensures touched { IfOk result
+            (λ after. (edits : List Edit) → touched_with touched.new after.design edits
+            ≡ touched_with touched.old self.design (change.now ∷ edits)) }
     {
         match self.checked(alloc, touched, change) {
             Ok(()) => {
@@ -117,8 +122,10 @@ impl Store {
         requires eco { is_eco eco.now ≡ true }
         requires sized { IsSized self.now.design }
         ensures design { IfOk result (λ made. edited self.now.design eco.now ≡ Ok made.0.design) }
-        ensures insts { IfOk result (λ made. made.1.insts ≡ (touched_list self.now.design eco.now.edits).insts) }
-        ensures nets { IfOk result (λ made. made.1.nets ≡ (touched_list self.now.design eco.now.edits).nets) }
+        ensures insts { IfOk result
+            (λ made. made.1.insts ≡ (touched_list self.now.design eco.now.edits).insts) }
+        ensures nets { IfOk result
+            (λ made. made.1.nets ≡ (touched_list self.now.design eco.now.edits).nets) }
         ensures numbers { IfOk result (λ made. KeepsNumbers self.now made.0) }
         ensures fault { IfErr result (λ fault. IsRefused self.now.design eco.now fault) }
     {
@@ -140,10 +147,14 @@ impl Store {
         requires eco { is_eco eco.now ≡ true }
         requires sized { IsSized self.now.design }
         ensures design { IfOk result (λ made. edited self.now.design eco.now ≡ Ok made.0.design) }
-        ensures insts { IfOk result (λ made. made.1.insts ≡ (touched_list self.now.design eco.now.edits).insts) }
-        ensures nets { IfOk result (λ made. made.1.nets ≡ (touched_list self.now.design eco.now.edits).nets) }
+        ensures insts { IfOk result
+            (λ made. made.1.insts ≡ (touched_list self.now.design eco.now.edits).insts) }
+        ensures nets { IfOk result
+            (λ made. made.1.nets ≡ (touched_list self.now.design eco.now.edits).nets) }
         ensures numbers { IfOk result (λ made. KeepsNumbers self.now made.0) }
-        ensures applied { IfOk result (λ made. IsApplied self.now eco.now made.0 (record { insts = made.1.insts; nets = made.1.nets })) }
+        ensures applied { IfOk result
+            (λ made. IsApplied self.now eco.now made.0
+            (record { insts = made.1.insts; nets = made.1.nets })) }
         ensures fault { IfErr result (λ fault. IsRefused self.now.design eco.now fault) }
     {
         self.laws();

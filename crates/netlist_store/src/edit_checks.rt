@@ -23,7 +23,8 @@ use timing_defs::{Cell, Edit, Fault, Name};
 
 /// A resize: E1, E3, E6.
 fn check_repower(store: &Store, alloc: Global, inst: &Name, cell: &Name) -> Result<(), Fault>
-    ensures { IsChecked result (first_fault (edit_faults store.now.design (Repower inst.now cell.now))) }
+    ensures { IsChecked result
+        (first_fault (edit_faults store.now.design (Repower inst.now cell.now))) }
 {
     needed_inst(store, alloc, inst)?;
     let found = needed_cell(store, alloc, cell)?;
@@ -32,7 +33,8 @@ fn check_repower(store: &Store, alloc: Global, inst: &Name, cell: &Name) -> Resu
 
 /// A new gate: E3, E5.
 fn check_insert_gate(store: &Store, alloc: Global, inst: &Name, cell: &Name) -> Result<(), Fault>
-    ensures { IsChecked result (first_fault (edit_faults store.now.design (InsertGate inst.now cell.now))) }
+    ensures { IsChecked result
+        (first_fault (edit_faults store.now.design (InsertGate inst.now cell.now))) }
 {
     needed_cell(store, alloc, cell)?;
     check_free_inst(store, alloc, inst)
@@ -64,7 +66,8 @@ fn check_remove_net(store: &Store, alloc: Global, net: &Name) -> Result<(), Faul
 
 /// A pin that joins a net: E1, E2, E4, E7.
 fn check_connect(store: &Store, alloc: Global, pin: &Name, to: &Name) -> Result<(), Fault>
-    ensures { IsChecked result (first_fault (edit_faults store.now.design (Connect pin.now to.now))) }
+    ensures { IsChecked result
+        (first_fault (edit_faults store.now.design (Connect pin.now to.now))) }
 {
     check_pin_inst(store, alloc, pin)?;
     needed_net(store, alloc, to)?;
@@ -93,7 +96,11 @@ fn check_buffer_added(
     sinks: &[Name],
 ) -> Result<(), Fault>
     requires { list_all has_colon sinks.now ≡ true }
-    ensures { IsChecked result (first_fault (free_inst store.now.design inst.now ∷ free_net store.now.design fresh.now ∷ unless (is_buffer cell.now) (PinsDiffer inst.now) ∷ sink_faults store.now.design net.now [] sinks.now)) }
+    ensures { IsChecked result
+        (first_fault
+        (free_inst store.now.design inst.now ∷ free_net store.now.design fresh.now ∷ unless
+        (is_buffer cell.now) (PinsDiffer inst.now) ∷ sink_faults store.now.design net.now []
+        sinks.now)) }
 {
     check_free_inst(store, alloc, inst)?;
     check_free_net(store, alloc, fresh)?;
@@ -111,7 +118,11 @@ fn check_buffer_sinks(
     cell: &Cell,
     sinks: &[Name],
 ) -> Result<(), Fault>
-    ensures { IsChecked result (first_fault (map (need_sink store.now.design) sinks.now ++ free_inst store.now.design inst.now ∷ free_net store.now.design fresh.now ∷ unless (is_buffer cell.now) (PinsDiffer inst.now) ∷ sink_faults store.now.design net.now [] sinks.now)) }
+    ensures { IsChecked result
+        (first_fault
+        (map (need_sink store.now.design) sinks.now ++ free_inst store.now.design inst.now ∷
+        free_net store.now.design fresh.now ∷ unless (is_buffer cell.now) (PinsDiffer inst.now) ∷
+        sink_faults store.now.design net.now [] sinks.now)) }
 {
     check_sinks(store, alloc, sinks)?;
     check_buffer_added(store, alloc, net, inst, fresh, cell, sinks)
@@ -127,7 +138,10 @@ fn check_insert_buffer(
     cell: &Name,
     sinks: &[Name],
 ) -> Result<(), Fault>
-    ensures { IsChecked result (first_fault (edit_faults store.now.design (InsertBuffer net.now inst.now fresh.now cell.now sinks.now))) }
+    ensures { IsChecked result
+        (first_fault
+        (edit_faults store.now.design
+        (InsertBuffer net.now inst.now fresh.now cell.now sinks.now))) }
 {
     check_pin_insts(store, alloc, sinks)?;
     needed_net(store, alloc, net)?;

@@ -58,7 +58,8 @@ impl Store {
     /// A net's parasitics are dropped.
     fn drop_rc(self, net: &Name) -> Result<Store, Memory>
         requires { is_listed self.design.nets net.now ≡ true }
-        ensures { IfOk result (λ after. after ≡ with_rcs self (without_rc net.now self.design.rcs)) }
+        ensures { IfOk result
+            (λ after. after ≡ with_rcs self (without_rc net.now self.design.rcs)) }
     {
         let number = self.known_net(net);
         self.without_rc(net, number)
@@ -68,7 +69,9 @@ impl Store {
     fn with_other_rc(self, alloc: Global, net: &Name, rc: &Option<NetRc>) -> Result<Store, Memory>
         requires edit { is_edit (SetParasitics net.now rc.now) ≡ true }
         requires listed { is_listed self.design.nets net.now ≡ true }
-        ensures { IfOk result (λ after. after ≡ with_design self (changed self.design (SetParasitics net.now rc.now))) }
+        ensures { IfOk result
+            (λ after. after
+            ≡ with_design self (changed self.design (SetParasitics net.now rc.now))) }
     {
         match rc {
             Some(rc) => self.replace_rc(alloc, net, rc),
@@ -85,9 +88,11 @@ impl Store {
         rc: &Option<NetRc>,
     ) -> Result<Store, Memory>
         requires edit { is_edit (SetParasitics net.now rc.now) ≡ true }
-        requires faults { first_fault (edit_faults self.design (SetParasitics net.now rc.now)) ≡ None }
+        requires faults { first_fault (edit_faults self.design (SetParasitics net.now rc.now))
+            ≡ None }
         requires follows { FollowsAll base.now self }
-        ensures design { IfOk result (λ after. after.design ≡ changed self.design (SetParasitics net.now rc.now)) }
+        ensures design { IfOk result
+            (λ after. after.design ≡ changed self.design (SetParasitics net.now rc.now)) }
         ensures follows { IfOk result (λ after. FollowsAll base.now after) }
     {
         let _ = base;
@@ -99,7 +104,8 @@ impl Store {
     fn insert_net(self, alloc: Global, base: &Store, net: &Name) -> Result<Store, Memory>
         requires faults { first_fault (edit_faults self.design (InsertNet net.now)) ≡ None }
         requires follows { FollowsAll base.now self }
-        ensures design { IfOk result (λ after. after.design ≡ changed self.design (InsertNet net.now)) }
+        ensures design { IfOk result
+            (λ after. after.design ≡ changed self.design (InsertNet net.now)) }
         ensures follows { IfOk result (λ after. FollowsAll base.now after) }
     {
         self.laws();
@@ -111,7 +117,8 @@ impl Store {
     fn remove_net(self, base: &Store, net: &Name) -> Result<Store, Memory>
         requires faults { first_fault (edit_faults self.design (RemoveNet net.now)) ≡ None }
         requires follows { FollowsAll base.now self }
-        ensures design { IfOk result (λ after. after.design ≡ changed self.design (RemoveNet net.now)) }
+        ensures design { IfOk result
+            (λ after. after.design ≡ changed self.design (RemoveNet net.now)) }
         ensures follows { IfOk result (λ after. FollowsAll base.now after) }
     {
         self.laws();
@@ -127,7 +134,8 @@ impl Store {
     fn connect(self, alloc: Global, base: &Store, pin: &Name, net: &Name) -> Result<Store, Memory>
         requires faults { first_fault (edit_faults self.design (Connect pin.now net.now)) ≡ None }
         requires follows { FollowsAll base.now self }
-        ensures design { IfOk result (λ after. after.design ≡ changed self.design (Connect pin.now net.now)) }
+        ensures design { IfOk result
+            (λ after. after.design ≡ changed self.design (Connect pin.now net.now)) }
         ensures follows { IfOk result (λ after. FollowsAll base.now after) }
     {
         self.laws();
@@ -161,7 +169,8 @@ impl Store {
     fn disconnect(self, alloc: Global, base: &Store, pin: &Name) -> Result<Store, Memory>
         requires faults { first_fault (edit_faults self.design (Disconnect pin.now)) ≡ None }
         requires follows { FollowsAll base.now self }
-        ensures design { IfOk result (λ after. after.design ≡ changed self.design (Disconnect pin.now)) }
+        ensures design { IfOk result
+            (λ after. after.design ≡ changed self.design (Disconnect pin.now)) }
         ensures follows { IfOk result (λ after. FollowsAll base.now after) }
     {
         self.laws();
@@ -203,7 +212,8 @@ impl Store {
     ) -> Result<Store, Memory>
         requires faults { first_fault (edit_faults self.design (Repower inst.now cell.now)) ≡ None }
         requires follows { FollowsAll base.now self }
-        ensures design { IfOk result (λ after. after.design ≡ changed self.design (Repower inst.now cell.now)) }
+        ensures design { IfOk result
+            (λ after. after.design ≡ changed self.design (Repower inst.now cell.now)) }
         ensures follows { IfOk result (λ after. FollowsAll base.now after) }
     {
         let number = self.known_inst(inst);
@@ -219,9 +229,11 @@ impl Store {
         inst: &Name,
         cell: &Name,
     ) -> Result<Store, Memory>
-        requires faults { first_fault (edit_faults self.design (InsertGate inst.now cell.now)) ≡ None }
+        requires faults { first_fault (edit_faults self.design (InsertGate inst.now cell.now))
+            ≡ None }
         requires follows { FollowsAll base.now self }
-        ensures design { IfOk result (λ after. after.design ≡ changed self.design (InsertGate inst.now cell.now)) }
+        ensures design { IfOk result
+            (λ after. after.design ≡ changed self.design (InsertGate inst.now cell.now)) }
         ensures follows { IfOk result (λ after. FollowsAll base.now after) }
     {
         self.laws();
@@ -233,7 +245,8 @@ impl Store {
     fn remove_gate(self, alloc: Global, base: &Store, inst: &Name) -> Result<Store, Memory>
         requires faults { first_fault (edit_faults self.design (RemoveGate inst.now)) ≡ None }
         requires follows { FollowsAll base.now self }
-        ensures design { IfOk result (λ after. after.design ≡ changed self.design (RemoveGate inst.now)) }
+        ensures design { IfOk result
+            (λ after. after.design ≡ changed self.design (RemoveGate inst.now)) }
         ensures follows { IfOk result (λ after. FollowsAll base.now after) }
     {
         let _ = base;

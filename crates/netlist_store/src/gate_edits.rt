@@ -27,7 +27,8 @@ pub(crate) fn put_inst(
     number: u32,
     inst: Inst,
 ) -> Result<(), Memory>
-    ensures { OnOk result ((n : ℕ) → at rows.new n ≡ (if nat_eq number n then Some inst else at rows.old n)) }
+    ensures { OnOk result
+        ((n : ℕ) → at rows.new n ≡ (if nat_eq number n then Some inst else at rows.old n)) }
 {
     let held = Held::of(alloc, InstRow::of(frame, inst))?;
     set_row(rows, number, Some(held))
@@ -49,12 +50,17 @@ impl Names {
         requires distinct { are_distinct (map (λ p. p.name) cell_pins.now) ≡ true }
         requires pins { Follows base.now.pins self.pins }
         requires filled { IsFilled self.pins rows.old }
-        ensures added { IfOk result (λ made. made.0.insts ≡ with_name self.insts made.1 inst.now.name) }
+        ensures added { IfOk result
+            (λ made. made.0.insts ≡ with_name self.insts made.1 inst.now.name) }
         ensures gap { IfOk result (λ made. name_at self.insts made.1 ≡ None) }
         ensures within { IfOk result (λ made. made.1 ≤ length self.insts) }
         ensures insts { IfOk result (λ made. AreKept base.now.insts made.0.insts) }
         ensures nets { IfOk result (λ made. made.0.nets ≡ self.nets) }
-        ensures rows { IfOk result (λ made. (q : List ℕ) → row_named made.0.pins rows.new q ≡ option_or (row_among inst.now.name (inst_row self.nets inst.now made.1) cell_pins.now q) (row_named self.pins rows.old q)) }
+        ensures rows { IfOk result
+            (λ made. (q : List ℕ) → row_named made.0.pins rows.new q
+            ≡ option_or
+            (row_among inst.now.name (inst_row self.nets inst.now made.1) cell_pins.now q)
+            (row_named self.pins rows.old q)) }
         ensures kept { IfOk result (λ made. KeepsNames self.pins made.0.pins) }
         ensures pins { IfOk result (λ made. Follows base.now.pins made.0.pins) }
         ensures filled { IfOk result (λ made. IsFilled made.0.pins rows.new) }
@@ -119,8 +125,11 @@ fn put_gate(
     gate: Inst,
 ) -> Result<Orders, Memory>
     requires { list_any (nat_eq number) orders.insts ≡ false }
-    ensures orders { IfOk result (λ after. after ≡ record orders { insts = orders.insts ++ number ∷ [] }) }
-    ensures rows { IfOk result (λ after. (n : ℕ) → at rows.new n ≡ (if nat_eq number n then Some gate else at rows.old n)) }
+    ensures orders { IfOk result
+        (λ after. after ≡ record orders { insts = orders.insts ++ number ∷ [] }) }
+    ensures rows { IfOk result
+        (λ after. (n : ℕ) → at rows.new n
+        ≡ (if nat_eq number n then Some gate else at rows.old n)) }
 {
     match put_inst(rows, alloc, frame, number, gate) {
         Ok(()) => orders.with_inst(number),
@@ -145,7 +154,8 @@ impl Store {
     /// The pins of a cell of the late library, which has it.
     pub(crate) fn pins_of_cell(&self, alloc: Global, cell: &Name) -> Result<Items<CellPin>, Memory>
         requires { is_some (cell_named self.now.design.late.cells cell.now) ≡ true }
-        ensures { IfOk result (λ pins. pins ≡ cell_pins (cell_named self.now.design.late.cells cell.now)) }
+        ensures { IfOk result
+            (λ pins. pins ≡ cell_pins (cell_named self.now.design.late.cells cell.now)) }
     {
         match self.late_cell(cell) {
             Some(cell) => cell.pins.again(alloc),
@@ -161,8 +171,10 @@ impl Store {
         cell: &Name,
     ) -> Result<(Inst, Items<CellPin>), Memory>
         requires { is_some (cell_named self.now.design.late.cells cell.now) ≡ true }
-        ensures gate { IfOk result (λ made. made.0 ≡ record { name = inst.now; cell = cell.now; conns = [] }) }
-        ensures pins { IfOk result (λ made. made.1 ≡ cell_pins (cell_named self.now.design.late.cells cell.now)) }
+        ensures gate { IfOk result
+            (λ made. made.0 ≡ record { name = inst.now; cell = cell.now; conns = [] }) }
+        ensures pins { IfOk result
+            (λ made. made.1 ≡ cell_pins (cell_named self.now.design.late.cells cell.now)) }
     {
         let gate = open_inst(alloc, inst, cell)?;
         let pins = self.pins_of_cell(alloc, cell)?;
@@ -181,7 +193,12 @@ impl Store {
         requires fresh { number_of self.insts inst.now ≡ None }
         requires insts { Follows base.now.insts self.insts }
         requires pins { Follows base.now.pins self.pins }
-        ensures design { IfOk result (λ after. after.design ≡ record self.design { insts = self.design.insts ++ record { name = inst.now; cell = cell.now; conns = [] } ∷ [] }) }
+        ensures design { IfOk result
+            (λ after. after.design
+            ≡ record self.design {
+              insts = self.design.insts ++ record { name = inst.now; cell = cell.now; conns = [] } ∷
+                  [];
+            }) }
         ensures nets { IfOk result (λ after. after.nets ≡ self.nets) }
         ensures insts { IfOk result (λ after. Follows base.now.insts after.insts) }
         ensures pins { IfOk result (λ after. Follows base.now.pins after.pins) }

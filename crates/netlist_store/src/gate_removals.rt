@@ -25,7 +25,9 @@ impl Orders {
     /// The orders without an instance.
     fn without_inst(self, inst: u32) -> Result<Orders, Memory>
         requires { list_any (nat_eq inst) self.insts ≡ true }
-        ensures { IfOk result (λ after. after ≡ record self { insts = filter (λ n. not (nat_eq inst n)) self.insts }) }
+        ensures { IfOk result
+            (λ after. after
+            ≡ record self { insts = filter (λ n. not (nat_eq inst n)) self.insts }) }
     {
         let Orders { insts, nets, rcs } = self;
         match insts.without(inst) {
@@ -46,8 +48,11 @@ fn take_gate(
     inst: u32,
 ) -> Result<Orders, Memory>
     requires { list_any (nat_eq inst) orders.insts ≡ true }
-    ensures orders { IfOk result (λ after. after ≡ record orders { insts = filter (λ n. not (nat_eq inst n)) orders.insts }) }
-    ensures rows { IfOk result (λ after. (n : ℕ) → at rows.new n ≡ (if nat_eq inst n then None else at rows.old n)) }
+    ensures orders { IfOk result
+        (λ after. after
+        ≡ record orders { insts = filter (λ n. not (nat_eq inst n)) orders.insts }) }
+    ensures rows { IfOk result
+        (λ after. (n : ℕ) → at rows.new n ≡ (if nat_eq inst n then None else at rows.old n)) }
 {
     match set_row(rows, inst, None) {
         Ok(()) => orders.without_inst(inst),
@@ -70,7 +75,11 @@ impl Names {
         requires { is_number self.insts inst ≡ true }
         ensures insts { IfOk result (λ after. after.insts ≡ set self.insts inst None) }
         ensures nets { IfOk result (λ after. after.nets ≡ self.nets) }
-        ensures pins { IfOk result (λ after. (q : List ℕ) → number_of after.pins q ≡ (if list_any (is_lost name.now [] q) cell_pins.now then None else number_of self.pins q)) }
+        ensures pins { IfOk result
+            (λ after. (q : List ℕ) → number_of after.pins q
+            ≡
+            (if list_any (is_lost name.now [] q) cell_pins.now then None else number_of self.pins
+            q)) }
         ensures longer { IfOk result (λ after. length self.pins ≤ length after.pins) }
     {
         let Names { insts, nets, pins } = self;
@@ -96,7 +105,10 @@ impl Store {
     /// The pins of the cell of an instance, in the late library.
     pub(crate) fn pins_of_inst(&self, alloc: Global, inst: u32) -> Result<Items<CellPin>, Memory>
         requires { is_number self.now.insts inst ≡ true }
-        ensures { IfOk result (λ pins. pins ≡ cell_pins (option_and_then (cell_of self.now.design Late) (inst_numbered self.now inst))) }
+        ensures { IfOk result
+            (λ pins. pins
+            ≡ cell_pins
+            (option_and_then (cell_of self.now.design Late) (inst_numbered self.now inst))) }
     {
         self.cell_at(inst, Split::Late).pins.again(alloc)
     }
@@ -104,8 +116,12 @@ impl Store {
     /// The store without a gate whose pins are all open.
     pub(crate) fn without_gate(self, alloc: Global, name: &Name, inst: u32) -> Result<Store, Memory>
         requires number { number_of self.insts name.now ≡ Some inst }
-        requires opened { option_map_or is_open (inst_named self.design.insts name.now) true ≡ true }
-        ensures design { IfOk result (λ after. after.design ≡ record self.design { insts = filter (λ i. not (bytes_eq i.name name.now)) self.design.insts }) }
+        requires opened { option_map_or is_open (inst_named self.design.insts name.now) true
+            ≡ true }
+        ensures design { IfOk result
+            (λ after. after.design
+            ≡ record self.design
+            { insts = filter (λ i. not (bytes_eq i.name name.now)) self.design.insts }) }
         ensures nets { IfOk result (λ after. after.nets ≡ self.nets) }
         ensures insts { IfOk result (λ after. IsPart after.insts self.insts) }
         ensures pins { IfOk result (λ after. IsPart after.pins self.pins) }

@@ -54,11 +54,20 @@ fn move_rows(
     to: Option<u32>,
 ) -> Result<(), Memory>
     requires { pin < length rows.old.pins }
-    ensures insts { OnOk result ((k : ℕ) → at rows.new.insts k ≡ (if nat_eq inst k then Some row else at rows.old.insts k)) }
+    ensures insts { OnOk result
+        ((k : ℕ) → at rows.new.insts k
+        ≡ (if nat_eq inst k then Some row else at rows.old.insts k)) }
     ensures rcs { OnOk result (rows.new.rcs ≡ rows.old.rcs) }
-    ensures pin { OnOk result ((r : PinRow) → slice_get rows.old.pins pin ≡ Some r → slice_get rows.new.pins pin ≡ Some (record { owner = r.owner; net = to; dir = r.dir })) }
-    ensures pins { OnOk result ((k : ℕ) (r : PinRow) → k ≢ pin → slice_get rows.old.pins k ≡ Some r → slice_get rows.new.pins k ≡ Some r) }
-    ensures nets { OnOk result ((r : PinRow) → slice_get rows.old.pins pin ≡ Some r → (k : ℕ) (xs : List ℕ) → slice_get rows.old.net_pins k ≡ Some xs → slice_get rows.new.net_pins k ≡ Some (joined_list to pin k (left_list r.net pin k xs))) }
+    ensures pin { OnOk result
+        ((r : PinRow) → slice_get rows.old.pins pin ≡ Some r → slice_get rows.new.pins pin
+        ≡ Some (record { owner = r.owner; net = to; dir = r.dir })) }
+    ensures pins { OnOk result
+        ((k : ℕ) (r : PinRow) → k ≢ pin → slice_get rows.old.pins k ≡ Some r
+        → slice_get rows.new.pins k ≡ Some r) }
+    ensures nets { OnOk result
+        ((r : PinRow) → slice_get rows.old.pins pin ≡ Some r → (k : ℕ) (xs : List ℕ)
+        → slice_get rows.old.net_pins k ≡ Some xs → slice_get rows.new.net_pins k
+        ≡ Some (joined_list to pin k (left_list r.net pin k xs))) }
 {
     put_inst(&mut rows.insts, alloc, frame, inst, row)?;
     let PinRow { owner, net, dir } = *rows.pins.get(pin as usize);
@@ -103,7 +112,9 @@ impl Store {
     /// An instance with other connections.
     fn with_other_conns(&self, alloc: Global, inst: u32, conns: Items<Conn>) -> Result<Inst, Memory>
         requires { is_number self.now.insts inst ≡ true }
-        ensures { IfOk result (λ made. (i : Inst) → inst_numbered self.now inst ≡ Some i → made ≡ record { name = i.name; cell = i.cell; conns = conns }) }
+        ensures { IfOk result
+            (λ made. (i : Inst) → inst_numbered self.now inst ≡ Some i → made
+            ≡ record { name = i.name; cell = i.cell; conns = conns }) }
     {
         let inst = self.inst_at(inst);
         let name = inst.name.copied(alloc)?;
@@ -124,7 +135,14 @@ impl Store {
         requires colon { has_colon word.now ≡ true }
         requires pin { number_of self.now.pins word.now ≡ Some pin }
         requires inst { number_of self.now.insts (before_last word.now) ≡ Some owner }
-        ensures { IfOk result (λ row. (i : Inst) → inst_numbered self.now owner ≡ Some i → row ≡ record { name = i.name; cell = i.cell; conns = connected (after_last word.now) net.now inst.now.conns }) }
+        ensures { IfOk result
+            (λ row. (i : Inst) → inst_numbered self.now owner ≡ Some i → row
+            ≡ record {
+              name = i.name;
+              cell = i.cell;
+              conns = connected (after_last word.now) net.now
+                  inst.now.conns;
+            }) }
     {
         let own = self.own_name(alloc, word, pin, owner)?;
         let conns = connected(alloc, &inst.conns, &own, net)?;
@@ -143,7 +161,14 @@ impl Store {
         requires colon { has_colon word.now ≡ true }
         requires pin { number_of self.now.pins word.now ≡ Some pin }
         requires inst { number_of self.now.insts (before_last word.now) ≡ Some owner }
-        ensures { IfOk result (λ row. (i : Inst) → inst_numbered self.now owner ≡ Some i → row ≡ record { name = i.name; cell = i.cell; conns = filter (λ conn. not (is_conn_of (after_last word.now) conn)) inst.now.conns }) }
+        ensures { IfOk result
+            (λ row. (i : Inst) → inst_numbered self.now owner ≡ Some i → row
+            ≡ record {
+              name = i.name;
+              cell = i.cell;
+              conns = filter
+                  (λ conn. not (is_conn_of (after_last word.now) conn)) inst.now.conns;
+            }) }
     {
         let own = self.own_name(alloc, word, pin, owner)?;
         let conns = unconnected(alloc, inst.conns.as_slice(), &own)?;
@@ -162,7 +187,11 @@ impl Store {
         requires colon { has_colon word.now ≡ true }
         requires pin { number_of self.pins word.now ≡ Some pin }
         requires net { number_of self.nets net.now ≡ Some to }
-        ensures { IfOk result (λ after. after ≡ with_insts self (on_inst (before_last word.now) (with_conns (connected (after_last word.now) net.now)) self.design.insts)) }
+        ensures { IfOk result
+            (λ after. after
+            ≡ with_insts self
+            (on_inst (before_last word.now) (with_conns (connected (after_last word.now) net.now))
+            self.design.insts)) }
     {
         let owner = self.owner_there(word, pin);
         let inst = self.inst_at(owner);
@@ -201,7 +230,12 @@ impl Store {
     pub(crate) fn with_leave(self, alloc: Global, word: &Name, pin: u32) -> Result<Store, Memory>
         requires colon { has_colon word.now ≡ true }
         requires pin { number_of self.pins word.now ≡ Some pin }
-        ensures { IfOk result (λ after. after ≡ with_insts self (on_inst (before_last word.now) (with_conns (filter (λ conn. not (is_conn_of (after_last word.now) conn)))) self.design.insts)) }
+        ensures { IfOk result
+            (λ after. after
+            ≡ with_insts self
+            (on_inst (before_last word.now)
+            (with_conns (filter (λ conn. not (is_conn_of (after_last word.now) conn))))
+            self.design.insts)) }
     {
         let owner = self.owner_there(word, pin);
         let inst = self.inst_at(owner);

@@ -11,7 +11,8 @@ use timing_defs::{Eco, Edit};
 
 /// What an edit makes of the store's design is linked; the call does nothing.
 pub(crate) fn edit_law(store: &Store, change: &Edit)
-    ensures linked { is_edit change.now ≡ true → (d : Design) → edit store.now.design change.now ≡ Ok d → IsLinked d }
+    ensures linked { is_edit change.now ≡ true → (d : Design) → edit store.now.design change.now
+        ≡ Ok d → IsLinked d }
 {
     store.laws();
     let _ = change;
@@ -19,7 +20,8 @@ pub(crate) fn edit_law(store: &Store, change: &Edit)
 
 /// What all edits of an ECO make of the store's design is linked; the call does nothing.
 pub(crate) fn eco_law(store: &Store, eco: &Eco)
-    ensures linked { is_eco eco.now ≡ true → (d : Design) → edited store.now.design eco.now ≡ Ok d → IsLinked d }
+    ensures linked { is_eco eco.now ≡ true → (d : Design) → edited store.now.design eco.now ≡ Ok d
+        → IsLinked d }
 {
     store.laws();
     let _ = eco;

@@ -68,7 +68,9 @@ fn pairs_without(
     name: &Name,
     pairs: &[(Held<Name>, u32)],
 ) -> Result<Items<(Held<Name>, u32)>, Memory>
-    ensures { IfOk result (λ rest. (q : List ℕ) → lookup (bytes_eq q) rest ≡ cond (bytes_eq name.now q) None (lookup (bytes_eq q) pairs.now)) }
+    ensures { IfOk result
+        (λ rest. (q : List ℕ) → lookup (bytes_eq q) rest
+        ≡ cond (bytes_eq name.now q) None (lookup (bytes_eq q) pairs.now)) }
 {
     let mut rest = Items::new(alloc);
     for (other, its) in pairs {
@@ -104,7 +106,9 @@ impl Shard {
     /// The shard with another number for a name.
     fn with(&self, alloc: Global, name: Held<Name>, number: u32) -> Result<Shard, Memory>
         requires { is_name name ≡ true }
-        ensures { IfOk result (λ shard. (q : List ℕ) → lookup (bytes_eq q) shard ≡ cond (bytes_eq name q) (Some number) (lookup (bytes_eq q) self.now)) }
+        ensures { IfOk result
+            (λ shard. (q : List ℕ) → lookup (bytes_eq q) shard
+            ≡ cond (bytes_eq name q) (Some number) (lookup (bytes_eq q) self.now)) }
     {
         let numbers = pairs_behind(alloc, name, number, self.numbers.as_slice())?;
         Ok(Shard { numbers })
@@ -112,7 +116,9 @@ impl Shard {
 
     /// The shard without a name.
     fn without(&self, alloc: Global, name: &Name) -> Result<Shard, Memory>
-        ensures { IfOk result (λ shard. (q : List ℕ) → lookup (bytes_eq q) shard ≡ cond (bytes_eq name.now q) None (lookup (bytes_eq q) self.now)) }
+        ensures { IfOk result
+            (λ shard. (q : List ℕ) → lookup (bytes_eq q) shard
+            ≡ cond (bytes_eq name.now q) None (lookup (bytes_eq q) self.now)) }
     {
         let numbers = pairs_without(alloc, name, self.numbers.as_slice())?;
         Ok(Shard { numbers })
@@ -200,7 +206,9 @@ impl NameMap {
 
     /// Gives a name a number.
     pub(crate) fn put(&mut self, name: Held<Name>, number: u32) -> Result<(), Memory>
-        ensures ok { OnOk result ((q : List ℕ) → number_under self.new q ≡ cond (bytes_eq name q) (Some number) (number_under self.old q)) }
+        ensures ok { OnOk result
+            ((q : List ℕ) → number_under self.new q
+            ≡ cond (bytes_eq name q) (Some number) (number_under self.old q)) }
         ensures err { OnErr result (self.new ≡ self.old) }
     {
         let place = shard_of(name.get().as_bytes());
@@ -210,7 +218,9 @@ impl NameMap {
 
     /// Takes a name out.
     pub(crate) fn remove(&mut self, name: &Name) -> Result<(), Memory>
-        ensures ok { OnOk result ((q : List ℕ) → number_under self.new q ≡ cond (bytes_eq name.now q) None (number_under self.old q)) }
+        ensures ok { OnOk result
+            ((q : List ℕ) → number_under self.new q
+            ≡ cond (bytes_eq name.now q) None (number_under self.old q)) }
         ensures err { OnErr result (self.new ≡ self.old) }
     {
         let place = shard_of(name.as_bytes());

@@ -21,7 +21,8 @@ impl Names {
     fn with_net_name(self, base: &Names, name: Name) -> Result<(Names, u32), Memory>
         requires fresh { number_of self.nets name ≡ None }
         requires follows { Follows base.now.nets self.nets }
-        ensures added { IfOk result (λ made. made.0 ≡ record self { nets = with_name self.nets made.1 name }) }
+        ensures added { IfOk result
+            (λ made. made.0 ≡ record self { nets = with_name self.nets made.1 name }) }
         ensures gap { IfOk result (λ made. name_at self.nets made.1 ≡ None) }
         ensures within { IfOk result (λ made. made.1 ≤ length self.nets) }
         ensures kept { IfOk result (λ made. AreKept base.now.nets made.0.nets) }
@@ -77,7 +78,8 @@ impl Orders {
     /// The orders without a net.
     fn without_net_place(self, net: u32) -> Result<Orders, Memory>
         requires { list_any (nat_eq net) self.nets ≡ true }
-        ensures { IfOk result (λ after. after ≡ record self { nets = filter (λ n. not (nat_eq net n)) self.nets }) }
+        ensures { IfOk result
+            (λ after. after ≡ record self { nets = filter (λ n. not (nat_eq net n)) self.nets }) }
     {
         let Orders { insts, nets, rcs } = self;
         match nets.without(net) {
@@ -94,7 +96,9 @@ impl Orders {
 /// Writes the row of a net that has no pins.
 fn put_bare(rows: &mut CowTable<Held<Items<u32>>>, alloc: Global, net: u32) -> Result<(), Memory>
     ensures here { OnOk result (slice_get rows.new net ≡ Some []) }
-    ensures kept { OnOk result ((n : ℕ) (pins : List ℕ) → n ≢ net → slice_get rows.old n ≡ Some pins → slice_get rows.new n ≡ Some pins) }
+    ensures kept { OnOk result
+        ((n : ℕ) (pins : List ℕ) → n ≢ net → slice_get rows.old n ≡ Some pins → slice_get rows.new n
+        ≡ Some pins) }
 {
     let empty = Held::of(alloc, Items::new(alloc))?;
     put_row(rows, alloc, net, empty)
@@ -108,9 +112,12 @@ fn put_net(
     net: u32,
 ) -> Result<Orders, Memory>
     requires { list_any (nat_eq net) orders.nets ≡ false }
-    ensures orders { IfOk result (λ after. after ≡ record orders { nets = orders.nets ++ net ∷ [] }) }
+    ensures orders { IfOk result
+        (λ after. after ≡ record orders { nets = orders.nets ++ net ∷ [] }) }
     ensures here { IfOk result (λ after. slice_get rows.new net ≡ Some []) }
-    ensures kept { IfOk result (λ after. (n : ℕ) (pins : List ℕ) → n ≢ net → slice_get rows.old n ≡ Some pins → slice_get rows.new n ≡ Some pins) }
+    ensures kept { IfOk result
+        (λ after. (n : ℕ) (pins : List ℕ) → n ≢ net → slice_get rows.old n ≡ Some pins
+        → slice_get rows.new n ≡ Some pins) }
 {
     match put_bare(rows, alloc, net) {
         Ok(()) => orders.with_net_last(net),
@@ -126,7 +133,8 @@ impl Store {
     pub(crate) fn with_net(self, alloc: Global, base: &Store, name: &Name) -> Result<Store, Memory>
         requires fresh { number_of self.nets name.now ≡ None }
         requires follows { Follows base.now.nets self.nets }
-        ensures changed { IfOk result (λ after. after ≡ with_nets self (self.design.nets ++ name.now ∷ []) after.nets) }
+        ensures changed { IfOk result
+            (λ after. after ≡ with_nets self (self.design.nets ++ name.now ∷ []) after.nets) }
         ensures follows { IfOk result (λ after. Follows base.now.nets after.nets) }
     {
         match name.copied(alloc) {
@@ -172,7 +180,10 @@ impl Store {
         requires number { number_of self.nets name.now ≡ Some net }
         requires unused { net_in_use self.design name.now ≡ false }
         requires bare { rc_of self.design name.now ≡ None }
-        ensures { IfOk result (λ after. after ≡ with_nets self (filter (λ n. not (bytes_eq n name.now)) self.design.nets) (set self.nets net None)) }
+        ensures { IfOk result
+            (λ after. after
+            ≡ with_nets self (filter (λ n. not (bytes_eq n name.now)) self.design.nets)
+            (set self.nets net None)) }
     {
         let _ = name;
         let Store {

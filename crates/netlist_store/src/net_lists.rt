@@ -36,7 +36,9 @@ pub(crate) fn join_net(
     to: Option<u32>,
     pin: u32,
 ) -> Result<(), Memory>
-    ensures { OnOk result ((k : ℕ) (pins : List ℕ) → slice_get lists.old k ≡ Some pins → slice_get lists.new k ≡ Some (joined_list to pin k pins)) }
+    ensures { OnOk result
+        ((k : ℕ) (pins : List ℕ) → slice_get lists.old k ≡ Some pins → slice_get lists.new k
+        ≡ Some (joined_list to pin k pins)) }
 {
     let Some(net) = to else {
         return Ok(());
@@ -56,7 +58,9 @@ pub(crate) fn leave_net(
     from: Option<u32>,
     pin: u32,
 ) -> Result<(), Memory>
-    ensures { OnOk result ((k : ℕ) (pins : List ℕ) → slice_get lists.old k ≡ Some pins → slice_get lists.new k ≡ Some (left_list from pin k pins)) }
+    ensures { OnOk result
+        ((k : ℕ) (pins : List ℕ) → slice_get lists.old k ≡ Some pins → slice_get lists.new k
+        ≡ Some (left_list from pin k pins)) }
 {
     let Some(net) = from else {
         return Ok(());

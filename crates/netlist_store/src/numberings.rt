@@ -102,7 +102,8 @@ impl Model for Numbering {
 
     ghost view = { λ n. map slot_name n.slots };
 
-    ghost invariant = { λ n. Agrees (number_under n.numbers) (map slot_name n.slots) × (length n.slots < 2 ^ 31) };
+    ghost invariant = { λ n. Agrees (number_under n.numbers) (map slot_name n.slots)
+        × (length n.slots < 2 ^ 31) };
 }
 
 impl Numbering {
@@ -444,7 +445,9 @@ fn push_name(
     number: u32,
 ) -> Result<(), Memory>
     ensures slots { OnOk result (slots.new ≡ slots.old ++ Named name ∷ []) }
-    ensures numbers { OnOk result ((q : List ℕ) → number_under numbers.new q ≡ cond (bytes_eq name q) (Some number) (number_under numbers.old q)) }
+    ensures numbers { OnOk result
+        ((q : List ℕ) → number_under numbers.new q
+        ≡ cond (bytes_eq name q) (Some number) (number_under numbers.old q)) }
 {
     let name = Held::of(alloc, name)?;
     numbers.put(name.share()?, number)?;
@@ -460,8 +463,11 @@ fn put_name(
     number: u32,
 ) -> Result<(), Memory>
     requires { number ≤ length slots.old }
-    ensures slots { OnOk result (map slot_name slots.new ≡ with_name (map slot_name slots.old) number name) }
-    ensures numbers { OnOk result ((q : List ℕ) → number_under numbers.new q ≡ cond (bytes_eq name q) (Some number) (number_under numbers.old q)) }
+    ensures slots { OnOk result
+        (map slot_name slots.new ≡ with_name (map slot_name slots.old) number name) }
+    ensures numbers { OnOk result
+        ((q : List ℕ) → number_under numbers.new q
+        ≡ cond (bytes_eq name q) (Some number) (number_under numbers.old q)) }
 {
     let name = Held::of(alloc, name)?;
     numbers.put(name.share()?, number)?;
@@ -478,7 +484,9 @@ fn take_name(
 ) -> Result<(), Memory>
     requires { number < length slots.old }
     ensures slots { OnOk result (slots.new ≡ set slots.old number Waiting) }
-    ensures numbers { OnOk result ((q : List ℕ) → number_under numbers.new q ≡ cond (bytes_eq name.now q) None (number_under numbers.old q)) }
+    ensures numbers { OnOk result
+        ((q : List ℕ) → number_under numbers.new q
+        ≡ cond (bytes_eq name.now q) None (number_under numbers.old q)) }
 {
     numbers.remove(name)?;
     slots.set(number as usize, Slot::Waiting)?;
@@ -488,7 +496,8 @@ fn take_name(
 /// Writes a name at a number, which is one of the slots or the next one.
 fn put_slot(slots: &mut CowTable<Slot>, number: u32, name: Held<Name>) -> Result<(), Memory>
     requires { number ≤ length slots.old }
-    ensures { OnOk result (map slot_name slots.new ≡ with_name (map slot_name slots.old) number name) }
+    ensures { OnOk result
+        (map slot_name slots.new ≡ with_name (map slot_name slots.old) number name) }
 {
     if (number as usize) < slots.len() {
         slots.set(number as usize, Slot::Named(name))

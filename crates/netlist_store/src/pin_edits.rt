@@ -38,7 +38,11 @@ fn put_inst_pin(
 ) -> Result<Numbering, Memory>
     requires follows { Follows base.now names }
     requires filled { IsFilled names rows.old }
-    ensures rows { IfOk result (λ after. (q : List ℕ) → row_named after rows.new q ≡ (if bytes_eq q (inst.now.name ++ 58 ∷ pin.now.name) then Some (inst_row nets.now inst.now owner pin.now) else row_named names rows.old q)) }
+    ensures rows { IfOk result
+        (λ after. (q : List ℕ) → row_named after rows.new q
+        ≡
+        (if bytes_eq q (inst.now.name ++ 58 ∷ pin.now.name) then Some
+        (inst_row nets.now inst.now owner pin.now) else row_named names rows.old q)) }
     ensures kept { IfOk result (λ after. KeepsNames names after) }
     ensures follows { IfOk result (λ after. Follows base.now after) }
     ensures filled { IfOk result (λ after. IsFilled after rows.new) }
@@ -73,7 +77,10 @@ pub(crate) fn put_inst_pins(
     requires distinct { are_distinct (map (λ p. p.name) pins.now) ≡ true }
     requires follows { Follows base.now names }
     requires filled { IsFilled names rows.old }
-    ensures rows { IfOk result (λ after. (q : List ℕ) → row_named after rows.new q ≡ option_or (row_among inst.now.name (inst_row nets.now inst.now owner) pins.now q) (row_named names rows.old q)) }
+    ensures rows { IfOk result
+        (λ after. (q : List ℕ) → row_named after rows.new q
+        ≡ option_or (row_among inst.now.name (inst_row nets.now inst.now owner) pins.now q)
+        (row_named names rows.old q)) }
     ensures kept { IfOk result (λ after. KeepsNames names after) }
     ensures follows { IfOk result (λ after. Follows base.now after) }
     ensures filled { IfOk result (λ after. IsFilled after rows.new) }
@@ -88,7 +95,9 @@ pub(crate) fn put_inst_pins(
 /// The numbering without a name.
 fn without_name(names: Numbering, name: &Name, number: u32) -> Result<Numbering, Memory>
     requires { number_of names name.now ≡ Some number }
-    ensures gone { IfOk result (λ after. (q : List ℕ) → number_of after q ≡ (if bytes_eq q name.now then None else number_of names q)) }
+    ensures gone { IfOk result
+        (λ after. (q : List ℕ) → number_of after q
+        ≡ (if bytes_eq q name.now then None else number_of names q)) }
     ensures longer { IfOk result (λ after. length names ≤ length after) }
 {
     names.laws();
@@ -105,7 +114,9 @@ fn without_pin(
     inst: &Name,
     pin: &Name,
 ) -> Result<Numbering, Memory>
-    ensures gone { IfOk result (λ after. (q : List ℕ) → number_of after q ≡ (if bytes_eq q (inst.now ++ 58 ∷ pin.now) then None else number_of names q)) }
+    ensures gone { IfOk result
+        (λ after. (q : List ℕ) → number_of after q
+        ≡ (if bytes_eq q (inst.now ++ 58 ∷ pin.now) then None else number_of names q)) }
     ensures longer { IfOk result (λ after. length names ≤ length after) }
 {
     match full_name(alloc, inst, pin) {
@@ -135,7 +146,9 @@ fn without_lost_pin(
     pin: &CellPin,
     stay: &[CellPin],
 ) -> Result<Numbering, Memory>
-    ensures gone { IfOk result (λ after. (q : List ℕ) → number_of after q ≡ (if is_lost inst.now stay.now q pin.now then None else number_of names q)) }
+    ensures gone { IfOk result
+        (λ after. (q : List ℕ) → number_of after q
+        ≡ (if is_lost inst.now stay.now q pin.now then None else number_of names q)) }
     ensures longer { IfOk result (λ after. length names ≤ length after) }
 {
     if has_pin(stay, &pin.name) {
@@ -152,7 +165,9 @@ pub(crate) fn without_lost_pins(
     pins: &[CellPin],
     stay: &[CellPin],
 ) -> Result<Numbering, Memory>
-    ensures gone { IfOk result (λ after. (q : List ℕ) → number_of after q ≡ (if list_any (is_lost inst.now stay.now q) pins.now then None else number_of names q)) }
+    ensures gone { IfOk result
+        (λ after. (q : List ℕ) → number_of after q
+        ≡ (if list_any (is_lost inst.now stay.now q) pins.now then None else number_of names q)) }
     ensures longer { IfOk result (λ after. length names ≤ length after) }
 {
     let mut after = names;
@@ -178,8 +193,14 @@ pub(crate) fn put_other_pins(
     requires distinct { are_distinct (map (λ p. p.name) new.now) ≡ true }
     requires follows { Follows base.now names }
     requires filled { IsFilled names rows.old }
-    ensures rows { IfOk result (λ after. (q : List ℕ) → row_named after rows.new q ≡ option_or (row_among inst.now.name (inst_row nets.now inst.now owner) new.now q) (if list_any (is_lost inst.now.name new.now q) old.now then None else row_named names rows.old q)) }
-    ensures kept { IfOk result (λ after. (q : List ℕ) (n : ℕ) → list_any (is_lost inst.now.name new.now q) old.now ≡ false → number_of names q ≡ Some n → number_of after q ≡ Some n) }
+    ensures rows { IfOk result
+        (λ after. (q : List ℕ) → row_named after rows.new q
+        ≡ option_or (row_among inst.now.name (inst_row nets.now inst.now owner) new.now q)
+        (if list_any (is_lost inst.now.name new.now q) old.now then None else row_named names
+        rows.old q)) }
+    ensures kept { IfOk result
+        (λ after. (q : List ℕ) (n : ℕ) → list_any (is_lost inst.now.name new.now q) old.now ≡ false
+        → number_of names q ≡ Some n → number_of after q ≡ Some n) }
     ensures follows { IfOk result (λ after. Follows base.now after) }
     ensures filled { IfOk result (λ after. IsFilled after rows.new) }
 {

@@ -25,7 +25,9 @@ fn add_pin(
     requires new { number_of names name ≡ None }
     requires follows { Follows base.now names }
     requires filled { IsFilled names rows.old }
-    ensures rows { IfOk result (λ after. (q : List ℕ) → row_named after rows.new q ≡ (if bytes_eq q name then Some row else row_named names rows.old q)) }
+    ensures rows { IfOk result
+        (λ after. (q : List ℕ) → row_named after rows.new q
+        ≡ (if bytes_eq q name then Some row else row_named names rows.old q)) }
     ensures kept { IfOk result (λ after. KeepsNames names after) }
     ensures follows { IfOk result (λ after. Follows base.now after) }
     ensures filled { IfOk result (λ after. IsFilled after rows.new) }
@@ -49,7 +51,9 @@ fn change_pin(
 ) -> Result<(), Memory>
     requires known { number_of names.now name.now ≡ Some number }
     requires filled { IsFilled names.now rows.old }
-    ensures rows { OnOk result ((q : List ℕ) → row_named names.now rows.new q ≡ (if bytes_eq q name.now then Some row else row_named names.now rows.old q)) }
+    ensures rows { OnOk result
+        ((q : List ℕ) → row_named names.now rows.new q
+        ≡ (if bytes_eq q name.now then Some row else row_named names.now rows.old q)) }
     ensures filled { OnOk result (IsFilled names.now rows.new) }
 {
     names.laws();
@@ -69,7 +73,9 @@ pub(crate) fn put_pin(
 ) -> Result<Numbering, Memory>
     requires follows { Follows base.now names }
     requires filled { IsFilled names rows.old }
-    ensures rows { IfOk result (λ after. (q : List ℕ) → row_named after rows.new q ≡ (if bytes_eq q name then Some row else row_named names rows.old q)) }
+    ensures rows { IfOk result
+        (λ after. (q : List ℕ) → row_named after rows.new q
+        ≡ (if bytes_eq q name then Some row else row_named names rows.old q)) }
     ensures kept { IfOk result (λ after. KeepsNames names after) }
     ensures follows { IfOk result (λ after. Follows base.now after) }
     ensures filled { IfOk result (λ after. IsFilled after rows.new) }

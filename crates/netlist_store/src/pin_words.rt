@@ -95,7 +95,8 @@ pub(crate) fn check_sink(store: &Store, alloc: Global, word: &Name) -> Result<()
 /// Refuses a pin that is on a net.
 pub(crate) fn check_unconnected(store: &Store, alloc: Global, word: &Name) -> Result<(), Fault>
     requires { has_colon word.now ≡ true }
-    ensures checked { IsChecked result (unless (is_none (word_net store.now.design word.now)) (AlreadyConnected word.now)) }
+    ensures checked { IsChecked result
+        (unless (is_none (word_net store.now.design word.now)) (AlreadyConnected word.now)) }
 {
     match word_net(store, alloc, word)? {
         Some(_) => Err(Fault::AlreadyConnected(word.copied(alloc)?)),
@@ -110,7 +111,8 @@ pub(crate) fn needed_net_of<'a>(
     word: &Name,
 ) -> Result<&'a Name, Fault>
     requires { has_colon word.now ≡ true }
-    ensures checked { IsChecked result (unless (is_some (word_net store.now.design word.now)) (NotConnected word.now)) }
+    ensures checked { IsChecked result
+        (unless (is_some (word_net store.now.design word.now)) (NotConnected word.now)) }
     ensures net { IfOk result (λ net. word_net store.now.design word.now ≡ Some net.now) }
 {
     match word_net(store, alloc, word)? {
@@ -150,7 +152,8 @@ pub(crate) fn check_pin_inst(store: &Store, alloc: Global, word: &Name) -> Resul
 
 /// Refuses the first pin word that names an instance which is not there.
 pub(crate) fn check_pin_insts(store: &Store, alloc: Global, words: &[Name]) -> Result<(), Fault>
-    ensures checked { IsChecked result (first_fault (map (need_pin_inst store.now.design) words.now)) }
+    ensures checked { IsChecked result
+        (first_fault (map (need_pin_inst store.now.design) words.now)) }
 {
     for word in words {
         check_pin_inst(store, alloc, word)?;

@@ -20,7 +20,8 @@ impl Orders {
     /// The orders without the parasitics of a net.
     fn without_rc(self, net: u32) -> Result<Orders, Memory>
         requires { list_any (nat_eq net) self.rcs ≡ true }
-        ensures { IfOk result (λ after. after ≡ record self { rcs = filter (λ n. not (nat_eq net n)) self.rcs }) }
+        ensures { IfOk result
+            (λ after. after ≡ record self { rcs = filter (λ n. not (nat_eq net n)) self.rcs }) }
     {
         let Orders { insts, nets, rcs } = self;
         match rcs.without(net) {
@@ -36,7 +37,9 @@ impl Orders {
     /// The orders with the parasitics of a net; as the last ones, where it has none yet.
     fn with_rc_place(self, known: bool, net: u32) -> Result<Orders, Memory>
         requires { list_any (nat_eq net) self.rcs ≡ known }
-        ensures { IfOk result (λ after. after ≡ record self { rcs = (if known then self.rcs else self.rcs ++ net ∷ []) }) }
+        ensures { IfOk result
+            (λ after. after
+            ≡ record self { rcs = (if known then self.rcs else self.rcs ++ net ∷ []) }) }
     {
         if known {
             return Ok(self);
@@ -60,7 +63,8 @@ fn put_rc(
     rc: NetRc,
     net: u32,
 ) -> Result<(), Memory>
-    ensures { OnOk result ((n : ℕ) → at rows.new n ≡ (if nat_eq net n then Some rc else at rows.old n)) }
+    ensures { OnOk result
+        ((n : ℕ) → at rows.new n ≡ (if nat_eq net n then Some rc else at rows.old n)) }
 {
     let held = Held::of(alloc, rc)?;
     set_row(rows, net, Some(held))
@@ -70,7 +74,8 @@ impl Store {
     /// The store without the parasitics of a net.
     pub(crate) fn without_rc(self, name: &Name, net: u32) -> Result<Store, Memory>
         requires { number_of self.nets name.now ≡ Some net }
-        ensures { IfOk result (λ after. after ≡ with_rcs self (without_rc name.now self.design.rcs)) }
+        ensures { IfOk result
+            (λ after. after ≡ with_rcs self (without_rc name.now self.design.rcs)) }
     {
         let _ = name;
         if row_at(&self.rows.rcs, net).is_none() {

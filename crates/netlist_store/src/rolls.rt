@@ -106,7 +106,8 @@ pub(crate) fn roll_of(alloc: Global, numbers: &[u32]) -> Result<Roll, Memory>
 /// As many places as there are numbers up to this one.
 fn widened(places: CowTable<u32>, number: u32) -> Result<CowTable<u32>, Memory>
     ensures within { IfOk result (λ after. number < length after) }
-    ensures kept { IfOk result (λ after. (n p : ℕ) → slice_get places n ≡ Some p → slice_get after n ≡ Some p) }
+    ensures kept { IfOk result
+        (λ after. (n p : ℕ) → slice_get places n ≡ Some p → slice_get after n ≡ Some p) }
 {
     let mut after = places;
     for _i in after.len()..number as usize + 1 {

@@ -25,7 +25,8 @@ pub(crate) fn set_row<T: Drop>(
     number: u32,
     row: Option<Held<T>>,
 ) -> Result<(), Memory>
-    ensures { OnOk result ((n : ℕ) → at rows.new n ≡ (if nat_eq number n then row else at rows.old n)) }
+    ensures { OnOk result
+        ((n : ℕ) → at rows.new n ≡ (if nat_eq number n then row else at rows.old n)) }
 {
     widen(rows, number)?;
     rows.set(number as usize, row)
@@ -55,7 +56,9 @@ pub(crate) fn put_row<T: Again + Drop>(
     row: T,
 ) -> Result<(), Memory>
     ensures here { OnOk result (slice_get rows.new number ≡ Some row) }
-    ensures kept { OnOk result ((n : ℕ) (r : T) → n ≢ number → slice_get rows.old n ≡ Some r → slice_get rows.new n ≡ Some r) }
+    ensures kept { OnOk result
+        ((n : ℕ) (r : T) → n ≢ number → slice_get rows.old n ≡ Some r → slice_get rows.new n
+        ≡ Some r) }
 {
     widen_with(rows, alloc, number, &row)?;
     rows.set(number as usize, row)

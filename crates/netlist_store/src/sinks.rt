@@ -19,7 +19,8 @@ use timing_defs::{Fault, Name};
 /// Whether the pin of a word that has a colon is on a net.
 fn is_on(store: &Store, alloc: Global, net: &Name, word: &Name) -> Result<bool, Memory>
     requires { has_colon word.now ≡ true }
-    ensures { IfOk result (λ on. on ≡ option_map_or (bytes_eq net.now) (word_net store.now.design word.now) false) }
+    ensures { IfOk result
+        (λ on. on ≡ option_map_or (bytes_eq net.now) (word_net store.now.design word.now) false) }
 {
     match word_net(store, alloc, word)? {
         Some(found) => Ok(net == found),
@@ -30,7 +31,8 @@ fn is_on(store: &Store, alloc: Global, net: &Name, word: &Name) -> Result<bool, 
 /// Adds a name to a set; whether it was not there.
 fn add_new(seen: &mut IndexSet<Name>, name: Name) -> Result<bool, Memory>
     ensures new { IfOk result (λ new. new ≡ not (is_listed seen.old.keys name)) }
-    ensures keys { OnOk result (is_listed seen.old.keys name ≡ false → seen.new.keys ≡ seen.old.keys ++ name ∷ []) }
+    ensures keys { OnOk result
+        (is_listed seen.old.keys name ≡ false → seen.new.keys ≡ seen.old.keys ++ name ∷ []) }
 {
     match seen.insert(name) {
         Ok(new) => Ok(new),
@@ -47,7 +49,10 @@ fn check_sink_on(
     sink: &Name,
 ) -> Result<(), Fault>
     requires { has_colon sink.now ≡ true }
-    ensures checked { IsChecked result (unless (option_map_or (bytes_eq net.now) (word_net store.now.design sink.now) false && not (is_listed seen.old.keys sink.now)) (NotConnected sink.now)) }
+    ensures checked { IsChecked result
+        (unless
+        (option_map_or (bytes_eq net.now) (word_net store.now.design sink.now) false && not
+        (is_listed seen.old.keys sink.now)) (NotConnected sink.now)) }
     ensures seen { OnOk result (seen.new.keys ≡ seen.old.keys ++ sink.now ∷ []) }
 {
     if is_on(store, alloc, net, sink)? && add_new(seen, sink.copied(alloc)?)? {

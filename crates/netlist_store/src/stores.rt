@@ -41,7 +41,8 @@ impl Model for Store {
 
     ghost view = { λ s. stored_in s.frame s.names s.rows s.orders };
 
-    ghost invariant = { λ s. AreTables (stored_in s.frame s.names s.rows s.orders) s.rows s.orders };
+    ghost invariant = { λ s. AreTables (stored_in s.frame s.names s.rows s.orders) s.rows
+        s.orders };
 }
 
 /// The lists of a design, of which tables are made.
@@ -75,14 +76,34 @@ impl Store {
         orders: Orders,
         lists: Lists,
     ) -> Result<Store, Memory>
-        requires linked { IsLinked (record { early = frame.early; late = frame.late; ports = frame.ports; nets = lists.nets; insts = lists.insts; constraints = frame.constraints; rcs = lists.rcs }) }
+        requires linked { IsLinked
+            (record {
+              early = frame.early;
+              late = frame.late;
+              ports = frame.ports;
+              nets = lists.nets;
+              insts = lists.insts;
+              constraints = frame.constraints;
+              rcs = lists.rcs;
+            }) }
         requires insts { names.insts ≡ map Some (map (λ inst. inst.name) lists.insts) }
         requires nets { names.nets ≡ map Some lists.nets }
-        requires pins { names.pins ≡ map Some (of_pins name_of frame.ports frame.late.cells lists.insts) }
+        requires pins { names.pins
+            ≡ map Some (of_pins name_of frame.ports frame.late.cells lists.insts) }
         requires inst_order { orders.insts ≡ first_numbers (length names.insts) }
         requires net_order { orders.nets ≡ first_numbers (length names.nets) }
         requires rc_order { orders.rcs ≡ filter_map (λ rc. number_of names.nets rc.net) lists.rcs }
-        ensures { IfOk result (λ store. store.design ≡ record { early = frame.early; late = frame.late; ports = frame.ports; nets = lists.nets; insts = lists.insts; constraints = frame.constraints; rcs = lists.rcs }) }
+        ensures { IfOk result
+            (λ store. store.design
+            ≡ record {
+              early = frame.early;
+              late = frame.late;
+              ports = frame.ports;
+              nets = lists.nets;
+              insts = lists.insts;
+              constraints = frame.constraints;
+              rcs = lists.rcs;
+            }) }
     {
         names.laws();
         let Lists { nets, insts, rcs } = lists;
@@ -113,11 +134,31 @@ impl Store {
 
     /// The store of a frame, names and lists that are of one linked design.
     fn of_names(alloc: Global, frame: Frame, names: Names, lists: Lists) -> Result<Store, Memory>
-        requires linked { IsLinked (record { early = frame.early; late = frame.late; ports = frame.ports; nets = lists.nets; insts = lists.insts; constraints = frame.constraints; rcs = lists.rcs }) }
+        requires linked { IsLinked
+            (record {
+              early = frame.early;
+              late = frame.late;
+              ports = frame.ports;
+              nets = lists.nets;
+              insts = lists.insts;
+              constraints = frame.constraints;
+              rcs = lists.rcs;
+            }) }
         requires insts { names.insts ≡ map Some (map (λ inst. inst.name) lists.insts) }
         requires nets { names.nets ≡ map Some lists.nets }
-        requires pins { names.pins ≡ map Some (of_pins name_of frame.ports frame.late.cells lists.insts) }
-        ensures { IfOk result (λ store. store.design ≡ record { early = frame.early; late = frame.late; ports = frame.ports; nets = lists.nets; insts = lists.insts; constraints = frame.constraints; rcs = lists.rcs }) }
+        requires pins { names.pins
+            ≡ map Some (of_pins name_of frame.ports frame.late.cells lists.insts) }
+        ensures { IfOk result
+            (λ store. store.design
+            ≡ record {
+              early = frame.early;
+              late = frame.late;
+              ports = frame.ports;
+              nets = lists.nets;
+              insts = lists.insts;
+              constraints = frame.constraints;
+              rcs = lists.rcs;
+            }) }
     {
         match orders_of(alloc, &names, &lists.rcs) {
             Ok(orders) => Store::of_orders(alloc, frame, names, orders, lists),
@@ -132,8 +173,27 @@ impl Store {
 
     /// The store of a frame and of lists that are of one linked design.
     fn of_lists(alloc: Global, frame: Frame, lists: Lists) -> Result<Store, Memory>
-        requires { IsLinked (record { early = frame.early; late = frame.late; ports = frame.ports; nets = lists.nets; insts = lists.insts; constraints = frame.constraints; rcs = lists.rcs }) }
-        ensures { IfOk result (λ store. store.design ≡ record { early = frame.early; late = frame.late; ports = frame.ports; nets = lists.nets; insts = lists.insts; constraints = frame.constraints; rcs = lists.rcs }) }
+        requires { IsLinked
+            (record {
+              early = frame.early;
+              late = frame.late;
+              ports = frame.ports;
+              nets = lists.nets;
+              insts = lists.insts;
+              constraints = frame.constraints;
+              rcs = lists.rcs;
+            }) }
+        ensures { IfOk result
+            (λ store. store.design
+            ≡ record {
+              early = frame.early;
+              late = frame.late;
+              ports = frame.ports;
+              nets = lists.nets;
+              insts = lists.insts;
+              constraints = frame.constraints;
+              rcs = lists.rcs;
+            }) }
     {
         match names_of(alloc, &frame, &lists.nets, &lists.insts) {
             Ok(names) => Store::of_names(alloc, frame, names, lists),
@@ -250,7 +310,8 @@ impl Store {
     pub fn net_of(&self, pin: u32) -> Option<u32>
         requires { is_number self.now.pins pin ≡ true }
         ensures value { result ≡ net_number self.now pin }
-        ensures none { is_some result ≡ is_some (option_and_then net_of (pin_numbered self.now pin)) }
+        ensures none { is_some result
+            ≡ is_some (option_and_then net_of (pin_numbered self.now pin)) }
         ensures net { IfSome result (λ net. is_number self.now.nets net ≡ true) }
     {
         self.pin_row(pin).net
@@ -313,13 +374,21 @@ impl Store {
     /// The cell of an instance in the library of a split.
     pub fn cell_at(&self, inst: u32, split: Split) -> &Cell
         requires { is_number self.now.insts inst ≡ true }
-        ensures { option_and_then (cell_of self.now.design split) (inst_numbered self.now inst) ≡ Some result.now }
+        ensures { option_and_then (cell_of self.now.design split) (inst_numbered self.now inst)
+            ≡ Some result.now }
     {
         let row = self.inst_row(inst);
         match split {
             Split::Early => row.early_cell(self.frame.get()).unwrap(),
             Split::Late => row.late_cell(self.frame.get()).unwrap(),
         }
+    }
+
+    /// The cells of the late library.
+    pub fn late_cells(&self) -> &[Cell]
+        ensures { result.now ≡ self.now.design.late.cells }
+    {
+        self.frame.get().late.library().cells.as_slice()
     }
 
     /// The name of a net.
@@ -333,7 +402,8 @@ impl Store {
     /// The numbers of the pins on a net, each once, in no order that is told.
     pub fn net_pins(&self, net: u32) -> &[u32]
         requires { is_number self.now.nets net ≡ true }
-        ensures { (pin : ℕ) → count_by (nat_eq pin) result.now ≡ (if is_on_number self.now net pin then 1 else 0) }
+        ensures { (pin : ℕ) → count_by (nat_eq pin) result.now
+            ≡ (if is_on_number self.now net pin then 1 else 0) }
     {
         self.rows.net_pins.get(net as usize).get().as_slice()
     }
@@ -341,7 +411,8 @@ impl Store {
     /// The parasitics of a net; none exactly where the design has none of it.
     pub fn net_rc(&self, net: u32) -> Option<&NetRc>
         requires { is_number self.now.nets net ≡ true }
-        ensures { option_copied result ≡ option_and_then (rc_of self.now.design) (name_at self.now.nets net) }
+        ensures { option_copied result
+            ≡ option_and_then (rc_of self.now.design) (name_at self.now.nets net) }
     {
         match row_at(&self.rows.rcs, net) {
             Some(rc) => Some(rc.get()),
@@ -361,7 +432,8 @@ impl Store {
     pub fn inst_of(&self, pin: u32) -> Option<u32>
         requires { is_number self.now.pins pin ≡ true }
         ensures value { result ≡ owner_number self.now pin }
-        ensures none { is_some result ≡ is_some (option_and_then (λ p. p.owner) (pin_numbered self.now pin)) }
+        ensures none { is_some result
+            ≡ is_some (option_and_then (λ p. p.owner) (pin_numbered self.now pin)) }
         ensures inst { IfSome result (λ inst. is_number self.now.insts inst ≡ true) }
     {
         self.pin_row(pin).owner
@@ -447,7 +519,8 @@ impl Store {
 
     /// The instance that goes by these bytes.
     pub(crate) fn inst_called(&self, alloc: Global, bytes: &[u8]) -> Result<Option<&Inst>, Memory>
-        ensures { IfOk result (λ inst. option_copied inst ≡ inst_named self.now.design.insts bytes.now) }
+        ensures { IfOk result
+            (λ inst. option_copied inst ≡ inst_named self.now.design.insts bytes.now) }
     {
         match Name::from_bytes(alloc, bytes)? {
             Some(name) => Ok(self.inst_named(&name)),

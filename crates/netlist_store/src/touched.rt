@@ -68,7 +68,8 @@ impl Touched {
     pub(crate) fn none(alloc: Global) -> Touched
         ensures insts { result.insts ≡ [] }
         ensures nets { result.nets ≡ [] }
-        ensures left { (d : Design) (edits : List Edit) → touched_with result d edits ≡ touched_list d edits }
+        ensures left { (d : Design) (edits : List Edit) → touched_with result d edits
+            ≡ touched_list d edits }
     {
         Touched {
             insts: Items::new(alloc),
@@ -123,7 +124,8 @@ impl Touched {
     /// An instance and the nets of its connections.
     fn add_inst_nets(&mut self, alloc: Global, inst: &Name, conns: &[Conn]) -> Result<(), Memory>
         ensures insts { OnOk result (self.new.insts ≡ self.old.insts ++ inst.now ∷ []) }
-        ensures nets { OnOk result (self.new.nets ≡ self.old.nets ++ filter_map (λ conn. conn.net) conns.now) }
+        ensures nets { OnOk result
+            (self.new.nets ≡ self.old.nets ++ filter_map (λ conn. conn.net) conns.now) }
     {
         self.insts.push(inst.copied(alloc)?)?;
         add_nets(alloc, &mut self.nets, conns)
@@ -133,7 +135,8 @@ impl Touched {
     fn add_repower(&mut self, alloc: Global, store: &Store, inst: &Name) -> Result<(), Memory>
         requires { is_some (inst_named store.now.design.insts inst.now) ≡ true }
         ensures insts { OnOk result (self.new.insts ≡ self.old.insts ++ inst.now ∷ []) }
-        ensures nets { OnOk result (self.new.nets ≡ self.old.nets ++ nets_of_inst store.now.design inst.now) }
+        ensures nets { OnOk result
+            (self.new.nets ≡ self.old.nets ++ nets_of_inst store.now.design inst.now) }
     {
         match store.inst_named(inst) {
             Some(found) => self.add_inst_nets(alloc, inst, found.conns.as_slice()),
@@ -161,7 +164,8 @@ impl Touched {
     fn add_disconnect(&mut self, alloc: Global, store: &Store, pin: &Name) -> Result<(), Memory>
         requires { IsWord store.now.design pin.now }
         ensures insts { OnOk result (self.new.insts ≡ self.old.insts ++ before_last pin.now ∷ []) }
-        ensures nets { OnOk result (self.new.nets ≡ self.old.nets ++ option_to_list (word_net store.now.design pin.now)) }
+        ensures nets { OnOk result
+            (self.new.nets ≡ self.old.nets ++ option_to_list (word_net store.now.design pin.now)) }
     {
         let inst = owner_of(store, alloc, pin)?;
         match word_net(store, alloc, pin)? {
@@ -174,8 +178,10 @@ impl Touched {
     #[tactic(auto, using(crate::proofs::TouchLaws::repower_there, crate::proofs::TouchLaws::connect_word, crate::proofs::TouchLaws::disconnect_word))]
     fn add_edit(&mut self, alloc: Global, store: &Store, edit: &Edit) -> Result<(), Memory>
         requires { first_fault (edit_faults store.now.design edit.now) ≡ None }
-        ensures insts { OnOk result (self.new.insts ≡ self.old.insts ++ (touched_by store.now.design edit.now).insts) }
-        ensures nets { OnOk result (self.new.nets ≡ self.old.nets ++ (touched_by store.now.design edit.now).nets) }
+        ensures insts { OnOk result
+            (self.new.insts ≡ self.old.insts ++ (touched_by store.now.design edit.now).insts) }
+        ensures nets { OnOk result
+            (self.new.nets ≡ self.old.nets ++ (touched_by store.now.design edit.now).nets) }
     {
         match edit {
             Edit::Repower { inst, cell: _ } => self.add_repower(alloc, store, inst),
@@ -201,9 +207,13 @@ impl Touched {
     #[tactic(auto, using(crate::proofs::TouchLaws::touch_step))]
     pub(crate) fn touch(&mut self, alloc: Global, store: &Store, edit: &Edit) -> Result<(), Memory>
         requires { first_fault (edit_faults store.now.design edit.now) ≡ None }
-        ensures insts { OnOk result (self.new.insts ≡ self.old.insts ++ (touched_by store.now.design edit.now).insts) }
-        ensures nets { OnOk result (self.new.nets ≡ self.old.nets ++ (touched_by store.now.design edit.now).nets) }
-        ensures left { OnOk result ((edits : List Edit) → touched_with self.new (changed store.now.design edit.now) edits ≡ touched_with self.old store.now.design (edit.now ∷ edits)) }
+        ensures insts { OnOk result
+            (self.new.insts ≡ self.old.insts ++ (touched_by store.now.design edit.now).insts) }
+        ensures nets { OnOk result
+            (self.new.nets ≡ self.old.nets ++ (touched_by store.now.design edit.now).nets) }
+        ensures left { OnOk result
+            ((edits : List Edit) → touched_with self.new (changed store.now.design edit.now) edits
+            ≡ touched_with self.old store.now.design (edit.now ∷ edits)) }
     {
         self.add_edit(alloc, store, edit)?;
         Ok(())

@@ -6,7 +6,8 @@ ghost use Rattle.netlist_store.specs.Words.{IsLastColon};
 
 /// The place of a word's last colon.
 pub(crate) fn last_colon(word: &[u8]) -> Option<usize>
-    ensures { MatchOption result (has_colon word.now ≡ false) (λ colon. IsLastColon word.now colon) }
+    ensures { MatchOption result (has_colon word.now ≡ false)
+        (λ colon. IsLastColon word.now colon) }
 {
     let mut last = None;
     for (place, byte) in word.iter().enumerate() {

@@ -54,7 +54,8 @@ fn wide_line(p: i128, q: i128, span: Span, x: i64) -> i128
     requires rising { span.from <ℤ span.to }
     requires x_within { unsigned_abs x ≤ limit }
     ensures value { result ≡ line p q span.from span.to x }
-    ensures bound { unsigned_abs result ≤ unsigned_abs p + (unsigned_abs p + unsigned_abs q) * (2 * limit) }
+    ensures bound { unsigned_abs result ≤ unsigned_abs p + (unsigned_abs p + unsigned_abs q) *
+        (2 * limit) }
 {
     let rise = difference(q, p);
     let into = difference(i128::from(x), i128::from(span.from));
@@ -137,7 +138,8 @@ fn near_line(p: i64, q: i64, span: Span, x: i64) -> i64
     requires rising { span.from <ℤ span.to }
     requires x_near { unsigned_abs x ≤ 2 ^ 29 }
     ensures value { result ≡ line p q span.from span.to x }
-    ensures bound { unsigned_abs result ≤ unsigned_abs p + (unsigned_abs p + unsigned_abs q) * (2 * limit) }
+    ensures bound { unsigned_abs result ≤ unsigned_abs p + (unsigned_abs p + unsigned_abs q) *
+        (2 * limit) }
 {
     let rise = near_difference(q, p);
     let into = near_difference(x, span.from);
@@ -155,7 +157,8 @@ pub fn line(p: i128, q: i128, span: Span, x: i64) -> i128
     requires rising { span.from <ℤ span.to }
     requires x_within { unsigned_abs x ≤ limit }
     ensures value { result ≡ line p q span.from span.to x }
-    ensures bound { unsigned_abs result ≤ unsigned_abs p + (unsigned_abs p + unsigned_abs q) * (2 * limit) }
+    ensures bound { unsigned_abs result ≤ unsigned_abs p + (unsigned_abs p + unsigned_abs q) *
+        (2 * limit) }
 {
     match (i64::try_from(p), i64::try_from(q)) {
         (Ok(low), Ok(high)) if are_near(low, high, span, x) => {

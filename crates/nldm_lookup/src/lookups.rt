@@ -23,7 +23,8 @@ pub fn look_up(t: &Table, x: i64, y: i64) -> Result<i64, OutOfRange>
     requires well_formed { is_well_formed t.now ≡ true }
     requires x_within { unsigned_abs x ≤ limit }
     requires y_within { unsigned_abs y ≤ limit }
-    ensures value { MatchResult result (λ v. v ≡ look t.now x y) (λ _. is_within (look t.now x y) ≡ false) }
+    ensures value { MatchResult result (λ v. v ≡ look t.now x y)
+        (λ _. is_within (look t.now x y) ≡ false) }
     ensures within { IfOk result (λ v. unsigned_abs v ≤ limit) }
 {
     in_range(interpolated(t, x, y))

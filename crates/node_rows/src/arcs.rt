@@ -76,7 +76,13 @@ fn looked(arc: &CellArc, slew: i64, load: i64) -> Result<ArcValues, OutOfRange>
     requires tables { has_tables arc.now ≡ true }
     requires slew { unsigned_abs slew ≤ limit }
     requires load { unsigned_abs load ≤ limit }
-    ensures values { IfOk result (λ values. values ≡ record { slew = Some (look arc.now.slew slew load); delay = Some (look arc.now.delay slew load) }) }
+    ensures values { IfOk result
+        (λ values. values
+        ≡ record {
+          slew = Some (look arc.now.slew slew load);
+          delay = Some
+              (look arc.now.delay slew load);
+        }) }
     ensures fine { IfOk result (λ _. is_looked slew load arc.now ≡ true) }
     ensures err { IfErr result (λ _. is_looked slew load arc.now ≡ false) }
 {
@@ -90,7 +96,12 @@ fn looked(arc: &CellArc, slew: i64, load: i64) -> Result<ArcValues, OutOfRange>
 
 /// The outer values of two.
 fn outer_of(split: Split, best: ArcValues, next: ArcValues) -> ArcValues
-    ensures { result ≡ record { slew = outer_some split best.slew next.slew; delay = outer_some split best.delay next.delay } }
+    ensures { result
+        ≡ record {
+          slew = outer_some split best.slew next.slew;
+          delay = outer_some split best.delay
+              next.delay;
+        } }
 {
     ArcValues {
         slew: outer_some(split, best.slew, next.slew),
@@ -110,9 +121,14 @@ fn with_arc(
     requires tables { has_tables arc.now ≡ true }
     requires slew { unsigned_abs slew ≤ limit }
     requires load { unsigned_abs load ≤ limit }
-    ensures values { IfOk result (λ values. values ≡ outer_values split slew load best (filter (is_between ends.now) (arc.now ∷ []))) }
-    ensures fine { IfOk result (λ _. list_all (is_looked slew load) (filter (is_between ends.now) (arc.now ∷ [])) ≡ true) }
-    ensures err { IfErr result (λ _. list_all (is_looked slew load) (filter (is_between ends.now) (arc.now ∷ [])) ≡ false) }
+    ensures values { IfOk result
+        (λ values. values
+        ≡ outer_values split slew load best (filter (is_between ends.now) (arc.now ∷ []))) }
+    ensures fine { IfOk result
+        (λ _. list_all (is_looked slew load) (filter (is_between ends.now) (arc.now ∷ [])) ≡ true) }
+    ensures err { IfErr result
+        (λ _. list_all (is_looked slew load) (filter (is_between ends.now) (arc.now ∷ []))
+        ≡ false) }
 {
     if is_between(ends, arc) {
         let next = looked(arc, slew, load)?;
@@ -135,9 +151,13 @@ pub fn arc_values(
     requires tables { list_all has_tables arcs.now ≡ true }
     requires slew { unsigned_abs slew ≤ limit }
     requires load { unsigned_abs load ≤ limit }
-    ensures values { IfOk result (λ values. values ≡ outer_values split slew load no_values (filter (is_between ends.now) arcs.now)) }
-    ensures fine { IfOk result (λ _. list_all (is_looked slew load) (filter (is_between ends.now) arcs.now) ≡ true) }
-    ensures err { IfErr result (λ _. list_all (is_looked slew load) (filter (is_between ends.now) arcs.now) ≡ false) }
+    ensures values { IfOk result
+        (λ values. values
+        ≡ outer_values split slew load no_values (filter (is_between ends.now) arcs.now)) }
+    ensures fine { IfOk result
+        (λ _. list_all (is_looked slew load) (filter (is_between ends.now) arcs.now) ≡ true) }
+    ensures err { IfErr result
+        (λ _. list_all (is_looked slew load) (filter (is_between ends.now) arcs.now) ≡ false) }
     ensures within { IfOk result (λ values. are_within values ≡ true) }
 {
     let mut best = ArcValues {

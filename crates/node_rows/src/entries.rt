@@ -40,7 +40,8 @@ pub(crate) enum Entry<'a> {
 fn load_at(setting: &Setting<'_>, split: Split, pin: u32) -> i64
     requires setting { IsSetting setting.now }
     requires pin { is_number setting.now.store.now.pins pin ≡ true }
-    ensures value { option_map (load_at setting.now.store.now.design split) (pin_numbered setting.now.store.now pin) ≡ Some result }
+    ensures value { option_map (load_at setting.now.store.now.design split)
+        (pin_numbered setting.now.store.now pin) ≡ Some result }
     ensures bound { unsigned_abs result ≤ limit }
 {
     setting.store.laws();

@@ -99,9 +99,12 @@ pub(crate) fn bare_load(
     requires net { is_number store.now.nets net ≡ true }
     requires bare { option_and_then (rc_of store.now.design) (name_at store.now.nets net) ≡ None }
     requires ports { ArePorts store.now.design.constraints ports.now }
-    ensures value { IfOk result (λ v. option_map (net_load store.now.design split) (name_at store.now.nets net) ≡ Some v) }
+    ensures value { IfOk result
+        (λ v. option_map (net_load store.now.design split) (name_at store.now.nets net) ≡ Some v) }
     ensures within { IfOk result (λ v. is_within v ≡ true) }
-    ensures err { IfErr result (λ _. option_map (λ name. is_within (net_load store.now.design split name)) (name_at store.now.nets net) ≡ Some false) }
+    ensures err { IfErr result
+        (λ _. option_map (λ name. is_within (net_load store.now.design split name))
+        (name_at store.now.nets net) ≡ Some false) }
 {
     store.laws();
     in_range(pins_load(store, ports, split, false, pins_on(store, net)))
@@ -117,11 +120,15 @@ pub(crate) fn lumped_load(
     rc: &NetRc,
 ) -> Result<i64, OutOfRange>
     requires net { is_number store.now.nets net ≡ true }
-    requires rc { option_and_then (rc_of store.now.design) (name_at store.now.nets net) ≡ Some rc.now }
+    requires rc { option_and_then (rc_of store.now.design) (name_at store.now.nets net)
+        ≡ Some rc.now }
     requires ports { ArePorts store.now.design.constraints ports.now }
-    ensures value { IfOk result (λ v. option_map (net_load store.now.design split) (name_at store.now.nets net) ≡ Some v) }
+    ensures value { IfOk result
+        (λ v. option_map (net_load store.now.design split) (name_at store.now.nets net) ≡ Some v) }
     ensures within { IfOk result (λ v. is_within v ≡ true) }
-    ensures err { IfErr result (λ _. option_map (λ name. is_within (net_load store.now.design split name)) (name_at store.now.nets net) ≡ Some false) }
+    ensures err { IfErr result
+        (λ _. option_map (λ name. is_within (net_load store.now.design split name))
+        (name_at store.now.nets net) ≡ Some false) }
 {
     store.laws();
     let pins = pins_load(store, ports, split, true, pins_on(store, net));

@@ -33,10 +33,13 @@ pub(crate) fn all_values(
 ) -> Result<Items<ArcValues>, Unfit>
     requires setting { IsSetting setting.now }
     requires before { AreBefore setting.now.store.now to before.now }
-    ensures values { IfOk result (λ values. values ≡ map (told_values setting.now.store.now split to) before.now) }
+    ensures values { IfOk result
+        (λ values. values ≡ map (told_values setting.now.store.now split to) before.now) }
     ensures within { IfOk result (λ values. list_all are_within values ≡ true) }
-    ensures fine { OnOk result (list_any (told_wide setting.now.store.now split to) before.now ≡ false) }
-    ensures err { IfErr result (IsUnfit (list_any (told_wide setting.now.store.now split to) before.now)) }
+    ensures fine { OnOk result
+        (list_any (told_wide setting.now.store.now split to) before.now ≡ false) }
+    ensures err { IfErr result
+        (IsUnfit (list_any (told_wide setting.now.store.now split to) before.now)) }
 {
     let mut values = Items::with_room(alloc, before.len())?;
     let entry = entry_of(setting, split, to.pin);
@@ -104,7 +107,8 @@ fn arrival_along(
 ) -> Option<i64>
     requires row { is_row_within node.now.row.now ≡ true }
     requires values { are_within values.now ≡ true }
-    ensures { result ≡ plus_some (time_on (times_in split node.now.row.now) (clock, tran)) values.now.delay }
+    ensures { result
+        ≡ plus_some (time_on (times_in split node.now.row.now) (clock, tran)) values.now.delay }
 {
     plus_some(
         time_on(times_in(node.row, split), clock, tran),
@@ -177,8 +181,10 @@ fn port_start(
 ) -> Option<i64>
     requires setting { IsSetting setting.now }
     requires pin { is_number setting.now.store.now.pins to.pin ≡ true }
-    requires port { option_map is_input_port (pin_numbered setting.now.store.now to.pin) ≡ Some true }
-    ensures { option_map (λ node. start_at setting.now.store.now.design split node (clock, tran)) (node_of setting.now.store.now to) ≡ Some result }
+    requires port { option_map is_input_port (pin_numbered setting.now.store.now to.pin)
+        ≡ Some true }
+    ensures { option_map (λ node. start_at setting.now.store.now.design split node (clock, tran))
+        (node_of setting.now.store.now to) ≡ Some result }
 {
     setting.store.laws();
     let clocks = setting.store.constraints().clocks.as_slice();
@@ -223,8 +229,10 @@ fn start_at(
 ) -> Option<i64>
     requires setting { IsSetting setting.now }
     requires pin { is_number setting.now.store.now.pins to.pin ≡ true }
-    requires port { option_map is_input_port (pin_numbered setting.now.store.now to.pin) ≡ Some port }
-    ensures { option_map (λ node. start_at setting.now.store.now.design split node (clock, tran)) (node_of setting.now.store.now to) ≡ Some result }
+    requires port { option_map is_input_port (pin_numbered setting.now.store.now to.pin)
+        ≡ Some port }
+    ensures { option_map (λ node. start_at setting.now.store.now.design split node (clock, tran))
+        (node_of setting.now.store.now to) ≡ Some result }
 {
     if port {
         port_start(setting, split, to, clock, tran)
@@ -246,11 +254,13 @@ fn arrival_on(
 ) -> Option<i64>
     requires setting { IsSetting setting.now }
     requires pin { is_number setting.now.store.now.pins to.pin ≡ true }
-    requires port { option_map is_input_port (pin_numbered setting.now.store.now to.pin) ≡ Some port }
+    requires port { option_map is_input_port (pin_numbered setting.now.store.now to.pin)
+        ≡ Some port }
     requires len { length values.now ≡ length before.now }
     requires rows { list_all (λ b. is_row_within b.row.now) before.now ≡ true }
     requires values { list_all are_within values.now ≡ true }
-    ensures { result ≡ arrival_over setting.now.store.now split to before.now values.now (clock, tran) }
+    ensures { result
+        ≡ arrival_over setting.now.store.now split to before.now values.now (clock, tran) }
 {
     match start_at(setting, split, to, port, clock, tran) {
         Some(time) => Some(time),
@@ -260,7 +270,8 @@ fn arrival_on(
 
 /// Adds the time of a launch edge, where there is one. `Range` exactly where it leaves its limit.
 fn add_time(times: &mut EdgeTimes, clock: u32, tran: Tran, time: Option<i64>) -> Result<(), Unfit>
-    ensures times { OnOk result (times.new ≡ times.old ++ option_to_list (option_map (edge_time (clock, tran)) time)) }
+    ensures times { OnOk result
+        (times.new ≡ times.old ++ option_to_list (option_map (edge_time (clock, tran)) time)) }
     ensures fine { OnOk result (within_some time ≡ true) }
     ensures err { IfErr result (IsUnfit (not (within_some time))) }
 {
@@ -292,13 +303,22 @@ fn add_clock(
 ) -> Result<(), Unfit>
     requires setting { IsSetting setting.now }
     requires pin { is_number setting.now.store.now.pins to.pin ≡ true }
-    requires port { option_map is_input_port (pin_numbered setting.now.store.now to.pin) ≡ Some port }
+    requires port { option_map is_input_port (pin_numbered setting.now.store.now to.pin)
+        ≡ Some port }
     requires len { length values.now ≡ length before.now }
     requires rows { list_all (λ b. is_row_within b.row.now) before.now ≡ true }
     requires values { list_all are_within values.now ≡ true }
-    ensures times { OnOk result (times.new ≡ times.old ++ times_on (arrival_over setting.now.store.now split to before.now values.now) ((clock, Tran.Rise) ∷ (clock, Tran.Fall) ∷ [])) }
-    ensures fine { OnOk result (are_wide_times (arrival_over setting.now.store.now split to before.now values.now) ((clock, Tran.Rise) ∷ (clock, Tran.Fall) ∷ []) ≡ false) }
-    ensures err { IfErr result (IsUnfit (are_wide_times (arrival_over setting.now.store.now split to before.now values.now) ((clock, Tran.Rise) ∷ (clock, Tran.Fall) ∷ []))) }
+    ensures times { OnOk result
+        (times.new
+        ≡ times.old ++ times_on (arrival_over setting.now.store.now split to before.now values.now)
+        ((clock, Tran.Rise) ∷ (clock, Tran.Fall) ∷ [])) }
+    ensures fine { OnOk result
+        (are_wide_times (arrival_over setting.now.store.now split to before.now values.now)
+        ((clock, Tran.Rise) ∷ (clock, Tran.Fall) ∷ []) ≡ false) }
+    ensures err { IfErr result
+        (IsUnfit
+        (are_wide_times (arrival_over setting.now.store.now split to before.now values.now)
+        ((clock, Tran.Rise) ∷ (clock, Tran.Fall) ∷ []))) }
 {
     let rise = arrival_on(setting, split, to, port, before, values, clock, Tran::Rise);
     add_time(times, clock, Tran::Rise, rise)?;
@@ -320,9 +340,17 @@ pub(crate) fn arrivals(
     requires len { length values.now ≡ length before.now }
     requires rows { list_all (λ b. is_row_within b.row.now) before.now ≡ true }
     requires values { list_all are_within values.now ≡ true }
-    ensures times { IfOk result (λ times. times ≡ times_on (arrival_over setting.now.store.now split to before.now values.now) (launch_edges setting.now.store.now.design)) }
-    ensures fine { OnOk result (are_wide_times (arrival_over setting.now.store.now split to before.now values.now) (launch_edges setting.now.store.now.design) ≡ false) }
-    ensures err { IfErr result (IsUnfit (are_wide_times (arrival_over setting.now.store.now split to before.now values.now) (launch_edges setting.now.store.now.design))) }
+    ensures times { IfOk result
+        (λ times. times
+        ≡ times_on (arrival_over setting.now.store.now split to before.now values.now)
+        (launch_edges setting.now.store.now.design)) }
+    ensures fine { OnOk result
+        (are_wide_times (arrival_over setting.now.store.now split to before.now values.now)
+        (launch_edges setting.now.store.now.design) ≡ false) }
+    ensures err { IfErr result
+        (IsUnfit
+        (are_wide_times (arrival_over setting.now.store.now split to before.now values.now)
+        (launch_edges setting.now.store.now.design))) }
 {
     setting.store.laws();
     let port = is_input_port(setting.store, to.pin);

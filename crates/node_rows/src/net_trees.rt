@@ -124,7 +124,8 @@ pub(crate) fn driver_of(store: &Store, pins: &[u32]) -> Option<u32>
 /// The wire to a pin that is a node of a tree.
 fn sink_wire(tree: &Tree, pin: &Name) -> SinkWire
     requires { is_node tree.now.nodes (rc_pin pin.now) ≡ true }
-    ensures { (net : NetRc) (root : List ℕ) (caps : List PinCap) → IsTreeOf net root caps tree.now → IsSink net root caps pin.now result }
+    ensures { (net : NetRc) (root : List ℕ) (caps : List PinCap) → IsTreeOf net root caps tree.now
+        → IsSink net root caps pin.now result }
 {
     match tree.find(pin) {
         Some(node) => SinkWire {
@@ -140,9 +141,11 @@ fn sink_wire(tree: &Tree, pin: &Name) -> SinkWire
 
 /// The late wire to a pin: its early one where one tree serves both splits.
 fn late_wire(trees: &NetTrees, pin: &Name, early: SinkWire) -> SinkWire
-    requires early { (net : NetRc) (root : List ℕ) (caps : List PinCap) → IsTreeOf net root caps trees.now.early → IsSink net root caps pin.now early }
+    requires early { (net : NetRc) (root : List ℕ) (caps : List PinCap)
+        → IsTreeOf net root caps trees.now.early → IsSink net root caps pin.now early }
     requires late { is_node (late_of trees.now).nodes (rc_pin pin.now) ≡ true }
-    ensures { (net : NetRc) (root : List ℕ) (caps : List PinCap) → IsTreeOf net root caps (late_of trees.now) → IsSink net root caps pin.now result }
+    ensures { (net : NetRc) (root : List ℕ) (caps : List PinCap)
+        → IsTreeOf net root caps (late_of trees.now) → IsSink net root caps pin.now result }
 {
     match &trees.late {
         Some(tree) => sink_wire(tree, pin),
@@ -154,8 +157,10 @@ fn late_wire(trees: &NetTrees, pin: &Name, early: SinkWire) -> SinkWire
 fn pin_wire(trees: &NetTrees, pin: &Name) -> PinWire
     requires early { is_node trees.now.early.nodes (rc_pin pin.now) ≡ true }
     requires late { is_node (late_of trees.now).nodes (rc_pin pin.now) ≡ true }
-    ensures early { (net : NetRc) (root : List ℕ) (caps : List PinCap) → IsTreeOf net root caps trees.now.early → IsSink net root caps pin.now result.early }
-    ensures late { (net : NetRc) (root : List ℕ) (caps : List PinCap) → IsTreeOf net root caps (late_of trees.now) → IsSink net root caps pin.now result.late }
+    ensures early { (net : NetRc) (root : List ℕ) (caps : List PinCap)
+        → IsTreeOf net root caps trees.now.early → IsSink net root caps pin.now result.early }
+    ensures late { (net : NetRc) (root : List ℕ) (caps : List PinCap)
+        → IsTreeOf net root caps (late_of trees.now) → IsSink net root caps pin.now result.late }
 {
     let early = sink_wire(&trees.early, pin);
     PinWire {
@@ -167,11 +172,17 @@ fn pin_wire(trees: &NetTrees, pin: &Name) -> PinWire
 /// The wire to a pin that is a node of both trees, by its number.
 fn wire_to(store: &Store, trees: &NetTrees, pin: u32) -> WireTo
     requires pin { is_number store.now.pins pin ≡ true }
-    requires early { is_node trees.now.early.nodes (rc_pin (unwrap_or (name_at store.now.pins pin) [])) ≡ true }
-    requires late { is_node (late_of trees.now).nodes (rc_pin (unwrap_or (name_at store.now.pins pin) [])) ≡ true }
+    requires early { is_node trees.now.early.nodes
+        (rc_pin (unwrap_or (name_at store.now.pins pin) [])) ≡ true }
+    requires late { is_node (late_of trees.now).nodes
+        (rc_pin (unwrap_or (name_at store.now.pins pin) [])) ≡ true }
     ensures pin { result.pin ≡ pin }
-    ensures early { (net : NetRc) (root : List ℕ) (caps : List PinCap) → IsTreeOf net root caps trees.now.early → IsSink net root caps (unwrap_or (name_at store.now.pins pin) []) result.wire.early }
-    ensures late { (net : NetRc) (root : List ℕ) (caps : List PinCap) → IsTreeOf net root caps (late_of trees.now) → IsSink net root caps (unwrap_or (name_at store.now.pins pin) []) result.wire.late }
+    ensures early { (net : NetRc) (root : List ℕ) (caps : List PinCap)
+        → IsTreeOf net root caps trees.now.early
+        → IsSink net root caps (unwrap_or (name_at store.now.pins pin) []) result.wire.early }
+    ensures late { (net : NetRc) (root : List ℕ) (caps : List PinCap)
+        → IsTreeOf net root caps (late_of trees.now)
+        → IsSink net root caps (unwrap_or (name_at store.now.pins pin) []) result.wire.late }
 {
     let wire = pin_wire(trees, store.pin_name(pin));
     WireTo { pin, wire }
@@ -185,8 +196,12 @@ pub(crate) fn wires_to(
     pins: &[u32],
 ) -> Result<Items<WireTo>, Memory>
     requires pins { All (λ pin. is_number store.now.pins pin ≡ true) pins.now }
-    requires early { All (λ pin. is_node trees.now.early.nodes (rc_pin (unwrap_or (name_at store.now.pins pin) [])) ≡ true) pins.now }
-    requires late { All (λ pin. is_node (late_of trees.now).nodes (rc_pin (unwrap_or (name_at store.now.pins pin) [])) ≡ true) pins.now }
+    requires early { All
+        (λ pin. is_node trees.now.early.nodes (rc_pin (unwrap_or (name_at store.now.pins pin) []))
+        ≡ true) pins.now }
+    requires late { All
+        (λ pin. is_node (late_of trees.now).nodes
+        (rc_pin (unwrap_or (name_at store.now.pins pin) [])) ≡ true) pins.now }
     ensures { IfOk result (AreWiresTo store.now trees.now pins.now) }
 {
     let mut wires = Items::with_room(alloc, pins.len())?;

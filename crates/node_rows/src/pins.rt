@@ -14,7 +14,8 @@ use timing_defs::{Cell, Split};
 
 /// The capacitance of the pin of that name in a cell, in aF; 0 where it has none.
 fn cell_cap(cell: &Cell, own: &[u8]) -> i64
-    ensures { result ≡ option_map_or (λ p. p.cap.0) (find (λ p. bytes_eq p.name own.now) cell.now.pins) (pos 0) }
+    ensures { result
+        ≡ option_map_or (λ p. p.cap.0) (find (λ p. bytes_eq p.name own.now) cell.now.pins) (pos 0) }
 {
     for pin in cell.pins.as_slice() {
         if pin.name.as_bytes() == own {
@@ -28,7 +29,8 @@ fn cell_cap(cell: &Cell, own: &[u8]) -> i64
 pub(crate) fn pin_cap(store: &Store, ports: &Ports, split: Split, pin: u32) -> i64
     requires pin { is_number store.now.pins pin ≡ true }
     requires ports { ArePorts store.now.design.constraints ports.now }
-    ensures { option_map (pin_cap store.now.design split) (pin_numbered store.now pin) ≡ Some result }
+    ensures { option_map (pin_cap store.now.design split) (pin_numbered store.now pin)
+        ≡ Some result }
 {
     store.laws();
     match store.inst_of(pin) {

@@ -62,7 +62,9 @@ pub struct Ports {
 
 /// Adds a value under a name, where none is there.
 fn add_slew_under(alloc: Global, table: &mut Slews, name: &Name, slew: Fs) -> Result<(), Memory>
-    ensures { OnOk result ((q : List ℕ) → under table.new q ≡ option_or (under table.old q) (if bytes_eq name.now q then Some slew else None)) }
+    ensures { OnOk result
+        ((q : List ℕ) → under table.new q
+        ≡ option_or (under table.old q) (if bytes_eq name.now q then Some slew else None)) }
 {
     if table.contains_key(name) {
         return Ok(());
@@ -81,7 +83,9 @@ fn add_slew(
     tran: Tran,
     slew: &PortSlew,
 ) -> Result<(), Memory>
-    ensures { OnOk result ((q : List ℕ) → under table.new q ≡ option_or (under table.old q) (slew_in (slew.now ∷ []) split tran q)) }
+    ensures { OnOk result
+        ((q : List ℕ) → under table.new q
+        ≡ option_or (under table.old q) (slew_in (slew.now ∷ []) split tran q)) }
 {
     if slew.split.is(split) && slew.tran.is(tran) {
         add_slew_under(alloc, table, &slew.port, slew.slew)
@@ -103,7 +107,9 @@ fn slews_at(alloc: Global, slews: &[PortSlew], split: Split, tran: Tran) -> Resu
 
 /// Adds a load under a name, where none is there.
 fn add_load_under(alloc: Global, table: &mut Loads, name: &Name, load: Af) -> Result<(), Memory>
-    ensures { OnOk result ((q : List ℕ) → under table.new q ≡ option_or (under table.old q) (if bytes_eq name.now q then Some load else None)) }
+    ensures { OnOk result
+        ((q : List ℕ) → under table.new q
+        ≡ option_or (under table.old q) (if bytes_eq name.now q then Some load else None)) }
 {
     if table.contains_key(name) {
         return Ok(());
@@ -116,7 +122,9 @@ fn add_load_under(alloc: Global, table: &mut Loads, name: &Name, load: Af) -> Re
 
 /// Adds the load of a port, where it is of this split and the first of its port.
 fn add_load(alloc: Global, table: &mut Loads, split: Split, load: &PortLoad) -> Result<(), Memory>
-    ensures { OnOk result ((q : List ℕ) → under table.new q ≡ option_or (under table.old q) (load_in (load.now ∷ []) split q)) }
+    ensures { OnOk result
+        ((q : List ℕ) → under table.new q
+        ≡ option_or (under table.old q) (load_in (load.now ∷ []) split q)) }
 {
     if load.split.is(split) {
         add_load_under(alloc, table, &load.port, load.load)
@@ -143,7 +151,9 @@ fn add_start_under(
     name: &Name,
     start: Start,
 ) -> Result<(), Memory>
-    ensures { OnOk result ((q : List ℕ) → under table.new q ≡ option_or (under table.old q) (if bytes_eq name.now q then Some start else None)) }
+    ensures { OnOk result
+        ((q : List ℕ) → under table.new q
+        ≡ option_or (under table.old q) (if bytes_eq name.now q then Some start else None)) }
 {
     if table.contains_key(name) {
         return Ok(());
@@ -162,7 +172,9 @@ fn add_start(
     tran: Tran,
     input: &PortDelay,
 ) -> Result<(), Memory>
-    ensures { OnOk result ((q : List ℕ) → under table.new q ≡ option_or (under table.old q) (start_in (input.now ∷ []) split tran q)) }
+    ensures { OnOk result
+        ((q : List ℕ) → under table.new q
+        ≡ option_or (under table.old q) (start_in (input.now ∷ []) split tran q)) }
 {
     if input.split.is(split) && input.tran.is(tran) {
         let start = Start {
@@ -182,7 +194,8 @@ fn starts_at(
     split: Split,
     tran: Tran,
 ) -> Result<Starts, Memory>
-    ensures { IfOk result (λ table. (q : List ℕ) → under table q ≡ start_in inputs.now split tran q) }
+    ensures { IfOk result
+        (λ table. (q : List ℕ) → under table q ≡ start_in inputs.now split tran q) }
 {
     let mut table = IndexMap::new(alloc);
     for input in inputs {
@@ -282,14 +295,16 @@ impl Ports {
 
     /// The slew of an input port, in fs: that of its input transition, or 0. Takes no memory.
     pub fn slew(&self, split: Split, tran: Tran, port: &Name) -> i64
-        ensures { (c : Constraints) → ArePorts c self.now → result ≡ slew_of_port c split tran port.now }
+        ensures { (c : Constraints) → ArePorts c self.now → result
+            ≡ slew_of_port c split tran port.now }
     {
         time_or_zero(self.slews.get(split, tran, port))
     }
 
     /// The load of a port, in aF; 0 where none is written. Takes no memory.
     pub fn load(&self, split: Split, port: &Name) -> i64
-        ensures { (c : Constraints) → ArePorts c self.now → result ≡ port_load c.loads split port.now }
+        ensures { (c : Constraints) → ArePorts c self.now → result
+            ≡ port_load c.loads split port.now }
     {
         cap_or_zero(self.loads.get(split, port))
     }
@@ -297,7 +312,8 @@ impl Ports {
     /// The input delay of a port from the rise edge of a clock, by the clock's place, in fs; none
     /// where none is written for it. A port, split and transition has one delay. Takes no memory.
     pub fn input_delay(&self, split: Split, tran: Tran, port: &Name, clock: u32) -> Option<i64>
-        ensures { (c : Constraints) → ArePorts c self.now → are_apart c.inputs ≡ true → result ≡ delay_of_port c split tran port.now clock }
+        ensures { (c : Constraints) → ArePorts c self.now → are_apart c.inputs ≡ true → result
+            ≡ delay_of_port c split tran port.now clock }
     {
         delay_from(self.starts.get(split, tran, port), clock)
     }

@@ -86,9 +86,16 @@ fn both_rows(
 ) -> Result<RowAndDelays, Unfit>
     requires setting { IsSetting setting.now }
     requires before { AreBefore setting.now.store.now to before.now }
-    ensures row { IfOk result (λ found. (row_of : Node → NodeRow) (node : Node) → node_of setting.now.store.now to ≡ Some node → HaveRows setting.now.store.now row_of before.now → IsRow setting.now.store.now.design row_of node found.row) }
-    ensures delays { IfOk result (λ found. found.delays ≡ map (told_delays setting.now.store.now to) before.now) }
-    ensures err { IfErr result (λ unfit. (row_of : Node → NodeRow) (node : Node) → node_of setting.now.store.now to ≡ Some node → HaveRows setting.now.store.now row_of before.now → IsUnfit (is_wide setting.now.store.now.design row_of node) unfit) }
+    ensures row { IfOk result
+        (λ found. (row_of : Node → NodeRow) (node : Node) → node_of setting.now.store.now to
+        ≡ Some node → HaveRows setting.now.store.now row_of before.now
+        → IsRow setting.now.store.now.design row_of node found.row) }
+    ensures delays { IfOk result
+        (λ found. found.delays ≡ map (told_delays setting.now.store.now to) before.now) }
+    ensures err { IfErr result
+        (λ unfit. (row_of : Node → NodeRow) (node : Node) → node_of setting.now.store.now to
+        ≡ Some node → HaveRows setting.now.store.now row_of before.now
+        → IsUnfit (is_wide setting.now.store.now.design row_of node) unfit) }
 {
     setting.store.laws();
     let early = split_row(alloc, setting, Split::Early, to, before)?;
@@ -106,7 +113,8 @@ fn both_rows(
 /// The fault of a pin: a quantity leaves its limit there, or memory is wanting.
 fn fault_at(alloc: Global, store: &Store, pin: u32, unfit: Unfit) -> Fault
     requires { is_number store.now.pins pin ≡ true }
-    ensures { (wide : Bool) (name : List ℕ) → name_at store.now.pins pin ≡ Some name → IsUnfit wide unfit → IsPlaced wide name result }
+    ensures { (wide : Bool) (name : List ℕ) → name_at store.now.pins pin ≡ Some name
+        → IsUnfit wide unfit → IsPlaced wide name result }
 {
     match unfit {
         Unfit::Memory => Fault::Memory,
@@ -130,9 +138,16 @@ pub fn node_row(
 ) -> Result<RowAndDelays, Fault>
     requires setting { IsSetting setting.now }
     requires before { AreBefore setting.now.store.now to before.now }
-    ensures row { IfOk result (λ found. (row_of : Node → NodeRow) (node : Node) → node_of setting.now.store.now to ≡ Some node → HaveRows setting.now.store.now row_of before.now → IsRow setting.now.store.now.design row_of node found.row) }
-    ensures delays { IfOk result (λ found. found.delays ≡ map (told_delays setting.now.store.now to) before.now) }
-    ensures err { IfErr result (λ fault. (row_of : Node → NodeRow) (node : Node) → node_of setting.now.store.now to ≡ Some node → HaveRows setting.now.store.now row_of before.now → IsRefused setting.now.store.now.design row_of node fault) }
+    ensures row { IfOk result
+        (λ found. (row_of : Node → NodeRow) (node : Node) → node_of setting.now.store.now to
+        ≡ Some node → HaveRows setting.now.store.now row_of before.now
+        → IsRow setting.now.store.now.design row_of node found.row) }
+    ensures delays { IfOk result
+        (λ found. found.delays ≡ map (told_delays setting.now.store.now to) before.now) }
+    ensures err { IfErr result
+        (λ fault. (row_of : Node → NodeRow) (node : Node) → node_of setting.now.store.now to
+        ≡ Some node → HaveRows setting.now.store.now row_of before.now
+        → IsRefused setting.now.store.now.design row_of node fault) }
 {
     setting.store.laws();
     match both_rows(alloc, setting, to, before) {

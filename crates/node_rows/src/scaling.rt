@@ -54,7 +54,8 @@ pub(crate) fn scaled(delay: i64, factor: u32) -> Result<i64, OutOfRange>
     requires factor { factor ≤ 10000000 }
     ensures value { IfOk result (λ v. v ≡ rounded (delay *ℤ pos factor) (pos (10 ^ 6))) }
     ensures within { IfOk result (λ v. is_within v ≡ true) }
-    ensures err { IfErr result (λ _. is_within (rounded (delay *ℤ pos factor) (pos (10 ^ 6))) ≡ false) }
+    ensures err { IfErr result
+        (λ _. is_within (rounded (delay *ℤ pos factor) (pos (10 ^ 6))) ≡ false) }
 {
     in_range(rnd(product(i128::from(delay), i128::from(factor)), 1_000_000))
 }

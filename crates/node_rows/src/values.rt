@@ -63,7 +63,8 @@ fn scaled_values(values: ArcValues, factor: u32) -> Result<ArcValues, OutOfRange
 /// The ends of an arc of a cell from one node to another, whose pin has that name in the cell.
 fn ends_between<'a>(store: &'a Store, from: NodeAt, to: NodeAt, own: &'a [u8]) -> ArcEnds<'a>
     requires from { is_number store.now.pins from.pin ≡ true }
-    ensures from { option_map (λ p. p.own) (pin_numbered store.now from.pin) ≡ Some result.from.now }
+    ensures from { option_map (λ p. p.own) (pin_numbered store.now from.pin)
+        ≡ Some result.from.now }
     ensures from_tran { result.from_tran ≡ from.tran }
     ensures to { result.to.now ≡ own.now }
     ensures to_tran { result.to_tran ≡ to.tran }
@@ -94,7 +95,8 @@ fn inst_values(
     requires drives { option_map is_driver (pin_numbered setting.now.store.now to.pin) ≡ Some true }
     requires slew { slew_in split before.now.row.now ≡ Some slew }
     requires cell { IsDrivingCell setting.now.store.now split to.pin cell.now }
-    ensures { MatchResult result (IsAlong setting.now.store.now split to before.now) (λ _. told_wide setting.now.store.now split to before.now ≡ true) }
+    ensures { MatchResult result (IsAlong setting.now.store.now split to before.now)
+        (λ _. told_wide setting.now.store.now split to before.now ≡ true) }
 {
     setting.store.laws();
     let ends = ends_between(setting.store, before.node, to, cell.own);
@@ -115,7 +117,8 @@ fn cell_values(
     requires row { is_row_within before.now.row.now ≡ true }
     requires drives { option_map is_driver (pin_numbered setting.now.store.now to.pin) ≡ Some true }
     requires cell { IsDrivingCell setting.now.store.now split to.pin cell.now }
-    ensures { MatchResult result (IsAlong setting.now.store.now split to before.now) (λ _. told_wide setting.now.store.now split to before.now ≡ true) }
+    ensures { MatchResult result (IsAlong setting.now.store.now split to before.now)
+        (λ _. told_wide setting.now.store.now split to before.now ≡ true) }
 {
     match slew_in(before.row, split) {
         Some(slew) => inst_values(setting, split, to, before, slew, cell),
@@ -180,11 +183,16 @@ fn end_values(
     requires setting { IsSetting setting.now }
     requires joined { IsJoined setting.now.store.now to before.now.node }
     requires row { is_row_within before.now.row.now ≡ true }
-    requires drives { option_map is_driver (pin_numbered setting.now.store.now to.pin) ≡ Some false }
+    requires drives { option_map is_driver (pin_numbered setting.now.store.now to.pin)
+        ≡ Some false }
     requires wire { wire.now ≡ wire_at setting.now.wires.now.pins to.pin }
-    requires delay { delay ≡ rounded (told_delay split wire.now *ℤ pos (factor_of setting.now.store.now.design.constraints.derates split false)) (pos (10 ^ 6)) }
+    requires delay { delay
+        ≡ rounded
+        (told_delay split wire.now *ℤ pos
+        (factor_of setting.now.store.now.design.constraints.derates split false)) (pos (10 ^ 6)) }
     requires within { is_within delay ≡ true }
-    ensures { MatchResult result (IsAlong setting.now.store.now split to before.now) (λ _. told_wide setting.now.store.now split to before.now ≡ true) }
+    ensures { MatchResult result (IsAlong setting.now.store.now split to before.now)
+        (λ _. told_wide setting.now.store.now split to before.now ≡ true) }
 {
     setting.store.laws();
     let Some(slew) = slew_in(before.row, split) else {
@@ -208,8 +216,10 @@ fn net_values(
     requires setting { IsSetting setting.now }
     requires joined { IsJoined setting.now.store.now to before.now.node }
     requires row { is_row_within before.now.row.now ≡ true }
-    requires drives { option_map is_driver (pin_numbered setting.now.store.now to.pin) ≡ Some false }
-    ensures { MatchResult result (IsAlong setting.now.store.now split to before.now) (λ _. told_wide setting.now.store.now split to before.now ≡ true) }
+    requires drives { option_map is_driver (pin_numbered setting.now.store.now to.pin)
+        ≡ Some false }
+    ensures { MatchResult result (IsAlong setting.now.store.now split to before.now)
+        (λ _. told_wide setting.now.store.now split to before.now ≡ true) }
 {
     setting.store.laws();
     let wire = setting.wires.wire(to.pin);
@@ -231,7 +241,8 @@ pub(crate) fn values_into(
     requires joined { IsJoined setting.now.store.now to before.now.node }
     requires entry { IsEntry setting.now.store.now split to.pin entry.now }
     requires row { is_row_within before.now.row.now ≡ true }
-    ensures { MatchResult result (IsAlong setting.now.store.now split to before.now) (λ _. told_wide setting.now.store.now split to before.now ≡ true) }
+    ensures { MatchResult result (IsAlong setting.now.store.now split to before.now)
+        (λ _. told_wide setting.now.store.now split to before.now ≡ true) }
 {
     match entry {
         Entry::Wire => net_values(setting, split, to, before),

@@ -99,8 +99,12 @@ fn own_late_tree(
 ) -> Result<Option<Tree>, Unfit>
     requires net { IsTreeNet store.now rc.now root pins.now }
     requires ports { ArePorts store.now.design.constraints ports.now }
-    ensures tree { IfOk result (λ late. (early : Told) → IsSplitTree store.now rc.now root pins.now Early early → IsSplitTree store.now rc.now root pins.now Late (unwrap_or late early)) }
-    ensures fine { OnOk result (is_wide_tree store.now rc.now root pins.now Early ≡ false → is_wide_tree store.now rc.now root pins.now Late ≡ false) }
+    ensures tree { IfOk result
+        (λ late. (early : Told) → IsSplitTree store.now rc.now root pins.now Early early
+        → IsSplitTree store.now rc.now root pins.now Late (unwrap_or late early)) }
+    ensures fine { OnOk result
+        (is_wide_tree store.now rc.now root pins.now Early ≡ false
+        → is_wide_tree store.now rc.now root pins.now Late ≡ false) }
     ensures err { IfErr result (IsUnfit (is_wide_tree store.now rc.now root pins.now Late)) }
 {
     store.laws();
@@ -136,7 +140,8 @@ fn net_trees(
 /// The pin that drives a net with resistors.
 fn tree_root(store: &Store, net: u32, rc: &NetRc, pins: &[u32]) -> u32
     requires sound { IsSoundNets store.now }
-    requires rc { option_and_then (rc_of store.now.design) (name_at store.now.nets net) ≡ Some rc.now }
+    requires rc { option_and_then (rc_of store.now.design) (name_at store.now.nets net)
+        ≡ Some rc.now }
     requires ress { is_lumped rc.now ≡ false }
     requires numbers { All (λ pin. is_number store.now.pins pin ≡ true) pins.now }
     requires on { IsOnNet store.now net pins.now }
@@ -173,7 +178,8 @@ fn found_tree(
 ) -> Result<FoundNet, Unfit>
     requires sound { IsSoundNets store.now }
     requires net { is_number store.now.nets net ≡ true }
-    requires rc { option_and_then (rc_of store.now.design) (name_at store.now.nets net) ≡ Some rc.now }
+    requires rc { option_and_then (rc_of store.now.design) (name_at store.now.nets net)
+        ≡ Some rc.now }
     requires ress { is_lumped rc.now ≡ false }
     requires ports { ArePorts store.now.design.constraints ports.now }
     ensures found { IfOk result (IsFoundNet store.now net) }
@@ -195,8 +201,12 @@ fn bare_loads(store: &Store, ports: &Ports, net: u32) -> Result<NetLoad, Unfit>
     requires net { is_number store.now.nets net ≡ true }
     requires bare { option_and_then (rc_of store.now.design) (name_at store.now.nets net) ≡ None }
     requires ports { ArePorts store.now.design.constraints ports.now }
-    ensures early { IfOk result (λ load. option_map (net_load store.now.design Early) (name_at store.now.nets net) ≡ Some load.early.0) }
-    ensures late { IfOk result (λ load. option_map (net_load store.now.design Late) (name_at store.now.nets net) ≡ Some load.late.0) }
+    ensures early { IfOk result
+        (λ load. option_map (net_load store.now.design Early) (name_at store.now.nets net)
+        ≡ Some load.early.0) }
+    ensures late { IfOk result
+        (λ load. option_map (net_load store.now.design Late) (name_at store.now.nets net)
+        ≡ Some load.late.0) }
     ensures early_within { IfOk result (λ load. is_within load.early.0 ≡ true) }
     ensures late_within { IfOk result (λ load. is_within load.late.0 ≡ true) }
     ensures err { IfErr result (IsUnfit (is_wide_net store.now net)) }
@@ -212,10 +222,15 @@ fn bare_loads(store: &Store, ports: &Ports, net: u32) -> Result<NetLoad, Unfit>
 /// The loads of a net with parasitics but without resistors. `Range` exactly where one leaves its limit.
 fn lumped_loads(store: &Store, ports: &Ports, net: u32, rc: &NetRc) -> Result<NetLoad, Unfit>
     requires net { is_number store.now.nets net ≡ true }
-    requires rc { option_and_then (rc_of store.now.design) (name_at store.now.nets net) ≡ Some rc.now }
+    requires rc { option_and_then (rc_of store.now.design) (name_at store.now.nets net)
+        ≡ Some rc.now }
     requires ports { ArePorts store.now.design.constraints ports.now }
-    ensures early { IfOk result (λ load. option_map (net_load store.now.design Early) (name_at store.now.nets net) ≡ Some load.early.0) }
-    ensures late { IfOk result (λ load. option_map (net_load store.now.design Late) (name_at store.now.nets net) ≡ Some load.late.0) }
+    ensures early { IfOk result
+        (λ load. option_map (net_load store.now.design Early) (name_at store.now.nets net)
+        ≡ Some load.early.0) }
+    ensures late { IfOk result
+        (λ load. option_map (net_load store.now.design Late) (name_at store.now.nets net)
+        ≡ Some load.late.0) }
     ensures early_within { IfOk result (λ load. is_within load.early.0 ≡ true) }
     ensures late_within { IfOk result (λ load. is_within load.late.0 ≡ true) }
     ensures err { IfErr result (IsUnfit (is_wide_net store.now net)) }
@@ -231,10 +246,15 @@ fn lumped_loads(store: &Store, ports: &Ports, net: u32, rc: &NetRc) -> Result<Ne
 /// The loads of a net without resistors. `Range` exactly where one leaves its limit.
 fn plain_loads(store: &Store, ports: &Ports, net: u32, rc: Option<&NetRc>) -> Result<NetLoad, Unfit>
     requires net { is_number store.now.nets net ≡ true }
-    requires rc { option_copied rc ≡ option_and_then (rc_of store.now.design) (name_at store.now.nets net) }
+    requires rc { option_copied rc
+        ≡ option_and_then (rc_of store.now.design) (name_at store.now.nets net) }
     requires ports { ArePorts store.now.design.constraints ports.now }
-    ensures early { IfOk result (λ load. option_map (net_load store.now.design Early) (name_at store.now.nets net) ≡ Some load.early.0) }
-    ensures late { IfOk result (λ load. option_map (net_load store.now.design Late) (name_at store.now.nets net) ≡ Some load.late.0) }
+    ensures early { IfOk result
+        (λ load. option_map (net_load store.now.design Early) (name_at store.now.nets net)
+        ≡ Some load.early.0) }
+    ensures late { IfOk result
+        (λ load. option_map (net_load store.now.design Late) (name_at store.now.nets net)
+        ≡ Some load.late.0) }
     ensures early_within { IfOk result (λ load. is_within load.early.0 ≡ true) }
     ensures late_within { IfOk result (λ load. is_within load.late.0 ≡ true) }
     ensures err { IfErr result (IsUnfit (is_wide_net store.now net)) }
@@ -255,7 +275,8 @@ fn found_plain(
 ) -> Result<FoundNet, Unfit>
     requires sound { IsSoundNets store.now }
     requires net { is_number store.now.nets net ≡ true }
-    requires rc { option_copied rc ≡ option_and_then (rc_of store.now.design) (name_at store.now.nets net) }
+    requires rc { option_copied rc
+        ≡ option_and_then (rc_of store.now.design) (name_at store.now.nets net) }
     requires lumped { option_map_or is_lumped (option_copied rc) true ≡ true }
     requires ports { ArePorts store.now.design.constraints ports.now }
     ensures found { IfOk result (IsFoundNet store.now net) }
@@ -357,7 +378,8 @@ fn net_answers<H: Threads + Sync>(
     requires most { workers ≤ 32 }
     requires sound { IsSoundNets store.now }
     requires ports { ArePorts store.now.design.constraints ports.now }
-    ensures { IfOk result (IsMap (IsNetAnswer store.now) (range_with_len 0 (length store.now.nets))) }
+    ensures { IfOk result
+        (IsMap (IsNetAnswer store.now) (range_with_len 0 (length store.now.nets))) }
 {
     let nets = numbers_below(alloc, store.net_bound())?;
     answers_of(rt, alloc, store, ports, workers, nets.as_slice())

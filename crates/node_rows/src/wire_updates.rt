@@ -137,7 +137,9 @@ fn renew_named(
     requires sound { IsSoundNets store.now }
     requires ports { ArePorts store.now.design.constraints ports.now }
     requires sized { AreSized store.now wires.old }
-    ensures renewed { OnOk result ((rest : List (List ℕ)) → HaveNetsBut store.now (name.now ∷ rest) wires.old → HaveNetsBut store.now rest wires.new) }
+    ensures renewed { OnOk result
+        ((rest : List (List ℕ)) → HaveNetsBut store.now (name.now ∷ rest) wires.old
+        → HaveNetsBut store.now rest wires.new) }
     ensures err { IfErr result (IsLarge store.now.design) }
 {
     store.laws();
@@ -170,8 +172,10 @@ fn renew_nets(
 impl Wires {
     /// Tables of as many nets and pins as a store has, which share what is here.
     fn sized_for(&self, alloc: Global, store: &Store) -> Result<Wires, Memory>
-        ensures loads { IfOk result (λ w. w.loads ≡ resized self.now.loads (length store.now.nets) no_load) }
-        ensures pins { IfOk result (λ w. w.pins ≡ resized self.now.pins (length store.now.pins) None) }
+        ensures loads { IfOk result
+            (λ w. w.loads ≡ resized self.now.loads (length store.now.nets) no_load) }
+        ensures pins { IfOk result
+            (λ w. w.pins ≡ resized self.now.pins (length store.now.pins) None) }
     {
         let none = NetLoad {
             early: Af(0),
@@ -194,7 +198,8 @@ impl Wires {
         ports: &Ports,
         touched: &Touched,
     ) -> Result<Wires, Fault>
-        requires made { IsEditOf base.now (record { insts = touched.now.insts; nets = touched.now.nets }) store.now }
+        requires made { IsEditOf base.now
+            (record { insts = touched.now.insts; nets = touched.now.nets }) store.now }
         requires wires { AreWires base.now self.now }
         requires fine { (net : ℕ) → is_wide_net base.now net ≡ false }
         requires sound { IsSoundNets store.now }

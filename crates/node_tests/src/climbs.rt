@@ -96,7 +96,8 @@ fn port_clock(store: &Store, pin: u32) -> Option<u32>
 fn top_clock(store: &Store, graph: &Graph, top: u32) -> Option<u32>
     requires graph { graph.now.stored ≡ store.now }
     requires top { top < node_bound store.now }
-    ensures { result ≡ option_and_then (clock_of store.now.design) (pin_numbered store.now (pin_under top)) }
+    ensures { result
+        ≡ option_and_then (clock_of store.now.design) (pin_numbered store.now (pin_under top)) }
 {
     match graph.pin_of(top) {
         Some(pin) => port_clock(store, pin),
@@ -109,7 +110,8 @@ fn top_clock(store: &Store, graph: &Graph, top: u32) -> Option<u32>
 pub fn walk_start(store: &Store, graph: &Graph, node: u32) -> Option<WalkStart>
     requires graph { graph.now.stored ≡ store.now }
     requires node { node < node_bound store.now }
-    ensures { StartsOn store.now (option_and_then (network_walk store.now.design) (node_at store.now node)) result }
+    ensures { StartsOn store.now
+        (option_and_then (network_walk store.now.design) (node_at store.now node)) result }
 {
     store.laws();
     graph.laws();

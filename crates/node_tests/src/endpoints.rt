@@ -29,7 +29,8 @@ fn has_test_at(tests: &[CellTest], own: &[u8]) -> bool
 /// where there are tests, so not in most cells.
 fn has_own_test(store: &Store, pin: u32, tests: &[CellTest]) -> bool
     requires { is_number store.now.pins pin ≡ true }
-    ensures { option_map (λ p. list_any (λ test. bytes_eq test.pin p.own) tests.now) (pin_numbered store.now pin) ≡ Some result }
+    ensures { option_map (λ p. list_any (λ test. bytes_eq test.pin p.own) tests.now)
+        (pin_numbered store.now pin) ≡ Some result }
 {
     store.laws();
     if tests.is_empty() {
@@ -127,8 +128,11 @@ fn is_clocked_any(
 ) -> Result<bool, Memory>
     requires graph { graph.now.stored ≡ store.now }
     requires inst { is_number store.now.insts inst ≡ true }
-    requires cell { option_and_then (cell_of store.now.design Split.Late) (inst_numbered store.now inst) ≡ Some cell.now }
-    ensures { IfOk result (λ on. on ≡ list_any (is_clocked_by store.now kind inst own.now cell.now.tests) cell.now.pins) }
+    requires cell { option_and_then (cell_of store.now.design Split.Late)
+        (inst_numbered store.now inst) ≡ Some cell.now }
+    ensures { IfOk result
+        (λ on. on
+        ≡ list_any (is_clocked_by store.now kind inst own.now cell.now.tests) cell.now.pins) }
 {
     let tests = cell.tests.as_slice();
     for pin in cell.pins.as_slice() {
@@ -151,7 +155,9 @@ pub fn is_clocked(
 ) -> Result<bool, Memory>
     requires graph { graph.now.stored ≡ store.now }
     requires pin { is_number store.now.pins pin ≡ true }
-    ensures { IfOk result (λ on. option_map (is_clocked store.now.design kind) (pin_numbered store.now pin) ≡ Some on) }
+    ensures { IfOk result
+        (λ on. option_map (is_clocked store.now.design kind) (pin_numbered store.now pin)
+        ≡ Some on) }
 {
     store.laws();
     match store.inst_of(pin) {

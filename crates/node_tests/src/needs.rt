@@ -69,9 +69,16 @@ fn with_test(
     requires table { has_table test.now ≡ true }
     requires clock { unsigned_abs clock_slew ≤ limit }
     requires data { unsigned_abs data_slew ≤ limit }
-    ensures need { IfOk result (λ need. need ≡ greatest_need clock_slew data_slew best (filter (is_test_between ends.now) (test.now ∷ []))) }
-    ensures fine { IfOk result (λ _. list_all (is_need_in clock_slew data_slew) (filter (is_test_between ends.now) (test.now ∷ [])) ≡ true) }
-    ensures err { IfErr result (λ _. list_all (is_need_in clock_slew data_slew) (filter (is_test_between ends.now) (test.now ∷ [])) ≡ false) }
+    ensures need { IfOk result
+        (λ need. need
+        ≡ greatest_need clock_slew data_slew best
+        (filter (is_test_between ends.now) (test.now ∷ []))) }
+    ensures fine { IfOk result
+        (λ _. list_all (is_need_in clock_slew data_slew)
+        (filter (is_test_between ends.now) (test.now ∷ [])) ≡ true) }
+    ensures err { IfErr result
+        (λ _. list_all (is_need_in clock_slew data_slew)
+        (filter (is_test_between ends.now) (test.now ∷ [])) ≡ false) }
 {
     if is_between(ends, test) {
         let next = look_up(&test.need, clock_slew, data_slew)?;
@@ -93,9 +100,15 @@ pub(crate) fn need_of(
     requires tables { list_all has_table tests.now ≡ true }
     requires clock { unsigned_abs clock_slew ≤ limit }
     requires data { unsigned_abs data_slew ≤ limit }
-    ensures need { IfOk result (λ need. need ≡ greatest_need clock_slew data_slew None (filter (is_test_between ends.now) tests.now)) }
-    ensures fine { IfOk result (λ _. list_all (is_need_in clock_slew data_slew) (filter (is_test_between ends.now) tests.now) ≡ true) }
-    ensures err { IfErr result (λ _. list_all (is_need_in clock_slew data_slew) (filter (is_test_between ends.now) tests.now) ≡ false) }
+    ensures need { IfOk result
+        (λ need. need
+        ≡ greatest_need clock_slew data_slew None (filter (is_test_between ends.now) tests.now)) }
+    ensures fine { IfOk result
+        (λ _. list_all (is_need_in clock_slew data_slew)
+        (filter (is_test_between ends.now) tests.now) ≡ true) }
+    ensures err { IfErr result
+        (λ _. list_all (is_need_in clock_slew data_slew)
+        (filter (is_test_between ends.now) tests.now) ≡ false) }
 {
     let mut best = None;
     for test in tests {

@@ -30,7 +30,8 @@ pub fn node_tests<A: Rows>(
     requires node { node < node_bound store.now }
     requires rows { AreRows store.now (A.rows arrivals.now) }
     requires range { AreRowsFine store.now.design }
-    ensures tests { IfOk result (λ tests. AreTests store.now tests (tests_numbered store.now kind node)) }
+    ensures tests { IfOk result
+        (λ tests. AreTests store.now tests (tests_numbered store.now kind node)) }
     ensures fine { OnOk result (is_wide_numbered store.now kind node ≡ false) }
     ensures err { IfErr result (IsTestFault store.now kind node) }
 {

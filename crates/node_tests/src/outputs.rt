@@ -54,7 +54,10 @@ fn add_delay(
     delay: &PortDelay,
 ) -> Result<(), Memory>
     requires { is_within delay.now.delay.0 ≡ true }
-    ensures { OnOk result (tests.new ≡ tests.old ++ map (delay_test kind) (filter (is_delay_of port.now (data_split kind) tran) (delay.now ∷ []))) }
+    ensures { OnOk result
+        (tests.new
+        ≡ tests.old ++ map (delay_test kind)
+        (filter (is_delay_of port.now (data_split kind) tran) (delay.now ∷ []))) }
 {
     if is_delay_of(delay, port, kind.data_split(), tran) {
         tests.push(delay_test(kind, delay))
@@ -73,7 +76,9 @@ pub(crate) fn output_tests(
     tran: Tran,
 ) -> Result<Items<NodeTest>, Memory>
     requires { list_all (λ delay. is_within delay.delay.0) delays.now ≡ true }
-    ensures { IfOk result (λ tests. tests ≡ map (delay_test kind) (filter (is_delay_of port.now (data_split kind) tran) delays.now)) }
+    ensures { IfOk result
+        (λ tests. tests
+        ≡ map (delay_test kind) (filter (is_delay_of port.now (data_split kind) tran) delays.now)) }
 {
     let mut tests = Items::new(alloc);
     for delay in delays {

@@ -23,7 +23,8 @@ pub(crate) fn pin_node(
     requires graph { graph.now.stored ≡ store.now }
     requires inst { is_number store.now.insts inst ≡ true }
     requires pin { Contains (late_pins store.now inst) pin.now }
-    ensures node { IfOk result (λ node. node_at store.now node ≡ pin_node store.now inst pin.now tran) }
+    ensures node { IfOk result
+        (λ node. node_at store.now node ≡ pin_node store.now inst pin.now tran) }
     ensures below { IfOk result (λ node. node < node_bound store.now) }
 {
     store.laws();

@@ -62,9 +62,16 @@ fn need_between(
     requires tables { list_all has_table tests.now ≡ true }
     requires clock { within_some (slew_in (clock_split ends.now.kind) clock.now) ≡ true }
     requires target { within_some (slew_in (data_split ends.now.kind) target.now) ≡ true }
-    ensures need { IfOk result (λ need. need ≡ need_over ends.now tests.now (slew_in (clock_split ends.now.kind) clock.now) (slew_in (data_split ends.now.kind) target.now)) }
-    ensures fine { IfOk result (λ _. is_need_wide ends.now tests.now (slew_in (clock_split ends.now.kind) clock.now) (slew_in (data_split ends.now.kind) target.now) ≡ false) }
-    ensures err { IfErr result (λ _. is_need_wide ends.now tests.now (slew_in (clock_split ends.now.kind) clock.now) (slew_in (data_split ends.now.kind) target.now) ≡ true) }
+    ensures need { IfOk result
+        (λ need. need
+        ≡ need_over ends.now tests.now (slew_in (clock_split ends.now.kind) clock.now)
+        (slew_in (data_split ends.now.kind) target.now)) }
+    ensures fine { IfOk result
+        (λ _. is_need_wide ends.now tests.now (slew_in (clock_split ends.now.kind) clock.now)
+        (slew_in (data_split ends.now.kind) target.now) ≡ false) }
+    ensures err { IfErr result
+        (λ _. is_need_wide ends.now tests.now (slew_in (clock_split ends.now.kind) clock.now)
+        (slew_in (data_split ends.now.kind) target.now) ≡ true) }
 {
     let Some(clock_slew) = slew_in(clock, ends.kind.clock_split()) else {
         return Ok(None);
@@ -87,7 +94,10 @@ fn captured(
     requires graph { graph.now.stored ≡ store.now }
     requires clock { clock < node_bound store.now }
     requires row { row.now ≡ row_numbered store.now clock }
-    ensures { MayBeTest store.now result (option_and_then (λ need. option_and_then (λ node. captured store.now.design node need) (node_at store.now clock)) need) }
+    ensures { MayBeTest store.now result
+        (option_and_then
+        (λ need. option_and_then (λ node. captured store.now.design node need)
+        (node_at store.now clock)) need) }
 {
     let need = need?;
     let start = walk_start(store, graph, clock)?;
@@ -124,13 +134,20 @@ fn test_against(
     row: &NodeRow,
 ) -> Result<Option<NodeTest>, Fault>
     requires asked { IsAsked asked.now }
-    requires tests { option_map (λ cell. cell.tests) (option_and_then (cell_of asked.now.store.now.design (data_split asked.now.kind)) (inst_numbered asked.now.store.now asked.now.inst)) ≡ Some tests.now }
+    requires tests { option_map (λ cell. cell.tests)
+        (option_and_then (cell_of asked.now.store.now.design (data_split asked.now.kind))
+        (inst_numbered asked.now.store.now asked.now.inst)) ≡ Some tests.now }
     requires clock { clock < node_bound asked.now.store.now }
     requires ends { IsEnds asked.now ends.now clock }
     requires row { row.now ≡ row_numbered asked.now.store.now clock }
-    ensures test { IfOk result (λ test. MayBeTest asked.now.store.now test (asked_test asked.now (node_at asked.now.store.now clock))) }
-    ensures fine { OnOk result (is_asked_wide asked.now (node_at asked.now.store.now clock) ≡ false) }
-    ensures err { IfErr result (IsPlaced (is_asked_wide asked.now (node_at asked.now.store.now clock)) (name_numbered asked.now.store.now asked.now.node)) }
+    ensures test { IfOk result
+        (λ test. MayBeTest asked.now.store.now test
+        (asked_test asked.now (node_at asked.now.store.now clock))) }
+    ensures fine { OnOk result
+        (is_asked_wide asked.now (node_at asked.now.store.now clock) ≡ false) }
+    ensures err { IfErr result
+        (IsPlaced (is_asked_wide asked.now (node_at asked.now.store.now clock))
+        (name_numbered asked.now.store.now asked.now.node)) }
 {
     asked.store.laws();
     asked.graph.laws();
@@ -154,9 +171,16 @@ fn clock_test<A: Rows>(
     requires asked { IsAsked asked.now }
     requires rows { AreRows asked.now.store.now (A.rows arrivals.now) }
     requires pin { Contains (late_pins asked.now.store.now asked.now.inst) pin.now }
-    ensures test { IfOk result (λ test. MayBeTest asked.now.store.now test (asked_test asked.now (pin_node asked.now.store.now asked.now.inst pin.now active))) }
-    ensures fine { OnOk result (is_asked_wide asked.now (pin_node asked.now.store.now asked.now.inst pin.now active) ≡ false) }
-    ensures err { IfErr result (IsPlaced (is_asked_wide asked.now (pin_node asked.now.store.now asked.now.inst pin.now active)) (name_numbered asked.now.store.now asked.now.node)) }
+    ensures test { IfOk result
+        (λ test. MayBeTest asked.now.store.now test
+        (asked_test asked.now (pin_node asked.now.store.now asked.now.inst pin.now active))) }
+    ensures fine { OnOk result
+        (is_asked_wide asked.now (pin_node asked.now.store.now asked.now.inst pin.now active)
+        ≡ false) }
+    ensures err { IfErr result
+        (IsPlaced
+        (is_asked_wide asked.now (pin_node asked.now.store.now asked.now.inst pin.now active))
+        (name_numbered asked.now.store.now asked.now.node)) }
 {
     asked.store.laws();
     asked.graph.laws();
@@ -188,7 +212,9 @@ fn pin_tests<A: Rows>(
     requires pin { Contains (late_pins asked.now.store.now asked.now.inst) pin.now }
     ensures tests { IfOk result (ArePinTests asked.now pin.now) }
     ensures fine { OnOk result (is_pin_wide asked.now pin.now ≡ false) }
-    ensures err { IfErr result (IsPlaced (is_pin_wide asked.now pin.now) (name_numbered asked.now.store.now asked.now.node)) }
+    ensures err { IfErr result
+        (IsPlaced (is_pin_wide asked.now pin.now)
+        (name_numbered asked.now.store.now asked.now.node)) }
 {
     let rise = clock_test(alloc, asked, arrivals, pin, Tran::Rise)?;
     let fall = clock_test(alloc, asked, arrivals, pin, Tran::Fall)?;
@@ -213,9 +239,14 @@ pub(crate) fn register_tests<A: Rows>(
 ) -> Result<Items<NodeTest>, Fault>
     requires asked { IsAsked asked.now }
     requires rows { AreRows asked.now.store.now (A.rows arrivals.now) }
-    ensures tests { IfOk result (λ tests. AreTests asked.now.store.now tests (flat_map (pin_tests_of asked.now) (late_pins asked.now.store.now asked.now.inst))) }
-    ensures fine { OnOk result (list_any (is_pin_wide asked.now) (late_pins asked.now.store.now asked.now.inst) ≡ false) }
-    ensures err { IfErr result (IsPlaced (list_any (is_pin_wide asked.now) (late_pins asked.now.store.now asked.now.inst)) (name_numbered asked.now.store.now asked.now.node)) }
+    ensures tests { IfOk result
+        (λ tests. AreTests asked.now.store.now tests
+        (flat_map (pin_tests_of asked.now) (late_pins asked.now.store.now asked.now.inst))) }
+    ensures fine { OnOk result
+        (list_any (is_pin_wide asked.now) (late_pins asked.now.store.now asked.now.inst) ≡ false) }
+    ensures err { IfErr result
+        (IsPlaced (list_any (is_pin_wide asked.now) (late_pins asked.now.store.now asked.now.inst))
+        (name_numbered asked.now.store.now asked.now.node)) }
 {
     asked.store.laws();
     let mut tests = Items::new(alloc);

@@ -21,7 +21,8 @@ pub(crate) fn delay_along(
 ) -> Option<i64>
     requires delays { AreDelays graph.now.stored delays.now }
     requires arc { IsArc graph.now.stored arc.now }
-    ensures delay { result ≡ delay_numbered graph.now.stored (data_split kind) arc.now.from arc.now.to }
+    ensures delay { result
+        ≡ delay_numbered graph.now.stored (data_split kind) arc.now.from arc.now.to }
     ensures within { IfSome result (λ delay. Within delay) }
 {
     // The graph is asked for by the contract alone.

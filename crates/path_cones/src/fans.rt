@@ -47,7 +47,8 @@ fn ordered(alloc: Global, graph: &Graph, ends: &[u32]) -> Result<IndexSet<u32>, 
 
 /// Some nodes and the arcs into each.
 fn joined(alloc: Global, nodes: &IndexSet<u32>, listed: Listed) -> Result<FanIn, Memory>
-    ensures { IfOk result (λ f. f ≡ record { nodes = nodes.now.keys; starts = listed.starts; arcs = listed.arcs }) }
+    ensures { IfOk result
+        (λ f. f ≡ record { nodes = nodes.now.keys; starts = listed.starts; arcs = listed.arcs }) }
 {
     let copied = Items::from_slice(alloc, nodes.as_slice())?;
     Ok(FanIn {

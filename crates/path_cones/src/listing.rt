@@ -80,7 +80,10 @@ fn add_arcs(
     requires delays { AreDelays sources.now.graph.now.stored sources.now.delays.now }
     requires few { length nodes.now.keys < 2 ^ 22 }
     requires into { All (IsArc sources.now.graph.now.stored) into.now }
-    ensures { OnOk result (arcs.new ≡ arcs.old ++ filter_map (walk_arc sources.now.graph.now.stored kind nodes.now.keys) into.now) }
+    ensures { OnOk result
+        (arcs.new
+        ≡ arcs.old ++ filter_map (walk_arc sources.now.graph.now.stored kind nodes.now.keys)
+        into.now) }
 {
     for arc in into {
         let place = from_place(nodes, *arc);
@@ -132,7 +135,9 @@ pub(crate) fn list_arcs(
     requires delays { AreDelays sources.now.graph.now.stored sources.now.delays.now }
     requires few { length nodes.now.keys < 2 ^ 22 }
     requires below { All (λ n. n < node_bound sources.now.graph.now.stored) nodes.now.keys }
-    ensures { IfOk result (λ l. AreParts (length nodes.now.keys) (arcs_placed sources.now.graph.now kind nodes.now.keys) l.starts l.arcs) }
+    ensures { IfOk result
+        (λ l. AreParts (length nodes.now.keys)
+        (arcs_placed sources.now.graph.now kind nodes.now.keys) l.starts l.arcs) }
 {
     sources.graph.laws();
     let count = nodes.len();

@@ -23,7 +23,8 @@ pub(crate) fn add_node(found: &mut IndexSet<u32>, node: u32) -> Result<(), Memor
 
 /// Adds the nodes from which these arcs lead.
 fn add_sources(found: &mut IndexSet<u32>, arcs: &[GraphArc]) -> Result<(), Memory>
-    ensures { OnOk result (found.new.keys ≡ insert_all nat_eq found.old.keys (map from_of arcs.now)) }
+    ensures { OnOk result
+        (found.new.keys ≡ insert_all nat_eq found.old.keys (map from_of arcs.now)) }
 {
     for arc in arcs {
         add_node(found, arc.from)?;

@@ -42,7 +42,10 @@ fn first_walks(
 ) -> Result<Items<Walk>, Memory>
     requires graph { graph.now.stored ≡ store.now }
     requires search { IsPinCone graph.now kind endpoint.now search.now }
-    ensures { IfOk result (AreFirst (comes_before (place_rank store.now search.now.nodes) (places_before graph.now search.now.nodes)) count (IsWalk search.now.cone)) }
+    ensures { IfOk result
+        (AreFirst
+        (comes_before (place_rank store.now search.now.nodes)
+        (places_before graph.now search.now.nodes)) count (IsWalk search.now.cone)) }
 {
     search_laws(store, graph, kind, endpoint, search);
     let order = ByName {
@@ -62,11 +65,13 @@ fn paths_of<A: Rows + Delayed>(
     search: &PinCone,
     walks: &[Walk],
 ) -> Result<Items<Path>, Memory>
-    requires sources { AreSources sources.now.store.now sources.now.graph.now (A.rows sources.now.arrivals.now) (A.delays sources.now.arrivals.now) sources.now.tree.now }
+    requires sources { AreSources sources.now.store.now sources.now.graph.now
+        (A.rows sources.now.arrivals.now) (A.delays sources.now.arrivals.now) sources.now.tree.now }
     requires tests { AreTested sources.now.graph.now sources.now.kind tests.now }
     requires search { IsPinCone sources.now.graph.now sources.now.kind endpoint.now search.now }
     requires walks { All (IsWalk search.now.cone) walks.now }
-    ensures { IfOk result (ArePathsOf sources.now.graph.now sources.now.kind endpoint.now search.now walks.now) }
+    ensures { IfOk result
+        (ArePathsOf sources.now.graph.now sources.now.kind endpoint.now search.now walks.now) }
 {
     let mut paths = Items::with_room(alloc, walks.len())?;
     for walk in walks {
@@ -86,10 +91,12 @@ fn ranked_in<A: Rows + Delayed>(
     search: &PinCone,
     count: u32,
 ) -> Result<Items<Path>, Memory>
-    requires sources { AreSources sources.now.store.now sources.now.graph.now (A.rows sources.now.arrivals.now) (A.delays sources.now.arrivals.now) sources.now.tree.now }
+    requires sources { AreSources sources.now.store.now sources.now.graph.now
+        (A.rows sources.now.arrivals.now) (A.delays sources.now.arrivals.now) sources.now.tree.now }
     requires tests { AreTested sources.now.graph.now sources.now.kind tests.now }
     requires search { IsPinCone sources.now.graph.now sources.now.kind endpoint.now search.now }
-    ensures { IfOk result (AreWorstPaths sources.now.store.now.design sources.now.kind endpoint.now count) }
+    ensures { IfOk result
+        (AreWorstPaths sources.now.store.now.design sources.now.kind endpoint.now count) }
 {
     let Sources {
         store,

@@ -19,7 +19,8 @@ pub fn moved(sep: Fs, kind: Kind, rule: Rule, launch: &Clock, capture: &Clock) -
     requires hold_cycles { rule.hold_cycles ≤ 1000 }
     requires launch { IsClock launch.now }
     requires capture { IsClock capture.now }
-    ensures { result.0 ≡ with_cycles kind sep.0 rule.setup_cycles rule.hold_cycles launch.now capture.now }
+    ensures { result.0
+        ≡ with_cycles kind sep.0 rule.setup_cycles rule.hold_cycles launch.now capture.now }
 {
     let more = i64::from(rule.setup_cycles) - 1;
     let later = sum(sep.0, product(more, capture.period.0));

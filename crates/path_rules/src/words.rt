@@ -30,7 +30,10 @@ fn last_split(word: &[u8]) -> usize
 fn is_same_around(pin: &[u8], word: &[u8], place: usize) -> bool
     requires len { length pin.now ≡ length word.now }
     requires place { place < length word.now }
-    ensures { result ≡ (((slice_index pin.now place == 58) && bytes_eq (take place pin.now) (take place word.now)) && bytes_eq (drop (place + 1) pin.now) (drop (place + 1) word.now)) }
+    ensures { result
+        ≡
+        (((slice_index pin.now place == 58) && bytes_eq (take place pin.now) (take place word.now))
+        && bytes_eq (drop (place + 1) pin.now) (drop (place + 1) word.now)) }
 {
     pin[place] == b':' && pin[..place] == word[..place] && pin[place + 1..] == word[place + 1..]
 }

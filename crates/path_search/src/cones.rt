@@ -90,8 +90,10 @@ fn place_of(nodes: &[u32], node: u32) -> u32
 fn walk_end(store: &Store, kind: Kind, nodes: &[u32], end: u32, launches: Items<Launch>) -> WalkEnd
     requires among { is_among nodes.now end ≡ true }
     requires few { length nodes.now < 2 ^ 22 }
-    requires launches { (node : Node) → node_at store.now end ≡ Some node → AreOffers store.now kind nodes.now (named node) launches }
-    ensures { (node : Node) → node_at store.now end ≡ Some node → IsEndOf store.now kind nodes.now node result }
+    requires launches { (node : Node) → node_at store.now end ≡ Some node
+        → AreOffers store.now kind nodes.now (named node) launches }
+    ensures { (node : Node) → node_at store.now end ≡ Some node
+        → IsEndOf store.now kind nodes.now node result }
 {
     // What the launches are is asked for by the contract alone.
     let _ = store;
@@ -136,7 +138,8 @@ pub(crate) fn cone_over<A: Rows + Delayed>(
     ends: EndNodes,
     fan: FanIn,
 ) -> Result<PinCone, Memory>
-    requires sources { AreSources sources.now.store.now sources.now.graph.now (A.rows sources.now.arrivals.now) (A.delays sources.now.arrivals.now) sources.now.tree.now }
+    requires sources { AreSources sources.now.store.now sources.now.graph.now
+        (A.rows sources.now.arrivals.now) (A.delays sources.now.arrivals.now) sources.now.tree.now }
     requires ends { AreEndNodes sources.now.store.now endpoint.now ends }
     requires fan { IsFanIn sources.now.graph.now sources.now.kind (ends.rise ∷ ends.fall ∷ []) fan }
     ensures { IfOk result (IsPinCone sources.now.graph.now sources.now.kind endpoint.now) }
@@ -157,7 +160,8 @@ pub fn pin_cone<A: Rows + Delayed>(
     sources: &Sources<'_, A>,
     endpoint: &Name,
 ) -> Result<PinCone, Memory>
-    requires sources { AreSources sources.now.store.now sources.now.graph.now (A.rows sources.now.arrivals.now) (A.delays sources.now.arrivals.now) sources.now.tree.now }
+    requires sources { AreSources sources.now.store.now sources.now.graph.now
+        (A.rows sources.now.arrivals.now) (A.delays sources.now.arrivals.now) sources.now.tree.now }
     requires endpoint { Contains (endpoints sources.now.store.now.design) endpoint.now }
     ensures { IfOk result (IsPinCone sources.now.graph.now sources.now.kind endpoint.now) }
 {

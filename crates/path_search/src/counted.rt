@@ -63,7 +63,8 @@ fn node_cmp(store: &Store, graph: &Graph, a: u32, b: u32) -> Ordering
     requires b { b < node_bound store.now }
     requires a_there { is_number store.now.pins (pin_under a) ≡ true }
     requires b_there { is_number store.now.pins (pin_under b) ≡ true }
-    ensures { (x y : Node) → node_at store.now a ≡ Some x → node_at store.now b ≡ Some y → result ≡ named_cmp (named x) (named y) }
+    ensures { (x y : Node) → node_at store.now a ≡ Some x → node_at store.now b ≡ Some y → result
+        ≡ named_cmp (named x) (named y) }
 {
     store.laws();
     let names = store.pin_name(a / 2).cmp(store.pin_name(b / 2));
@@ -141,7 +142,8 @@ fn with_chosen(
     requires graph { graph.now.stored ≡ store.now }
     requires best { IfSome best (IsKnown store.now) }
     requires next { IsKnown store.now (chosen_of test.now) }
-    ensures value { result ≡ (if gives then Some (first_chosen store.now best (chosen_of test.now)) else best) }
+    ensures value { result
+        ≡ (if gives then Some (first_chosen store.now best (chosen_of test.now)) else best) }
     ensures known { IfSome result (IsKnown store.now) }
 {
     let next = Chosen {
@@ -172,7 +174,9 @@ fn chosen_test(
     requires tests { All (IsReadyTest store.now.design) tests.now }
     requires places { All (λ t. IfSome t.place (λ p. p < length tree.now)) tests.now }
     requires known { All (λ t. IsKnown store.now (chosen_of t)) tests.now }
-    ensures { result ≡ chosen_over store.now (gives store.now.design kind tree.now launch.now offer) None tests.now }
+    ensures { result
+        ≡ chosen_over store.now (gives store.now.design kind tree.now launch.now offer) None
+        tests.now }
 {
     let mut best = None;
     for test in tests {
@@ -191,8 +195,10 @@ fn count_test<A: Rows + Delayed>(
     end: u32,
     offer: i64,
 ) -> Counted
-    requires sources { AreSources sources.now.store.now sources.now.graph.now (A.rows sources.now.arrivals.now) (A.delays sources.now.arrivals.now) sources.now.tree.now }
-    requires launch { IsLaunchNode sources.now.graph.now (data_split sources.now.kind) number launch.now }
+    requires sources { AreSources sources.now.store.now sources.now.graph.now
+        (A.rows sources.now.arrivals.now) (A.delays sources.now.arrivals.now) sources.now.tree.now }
+    requires launch { IsLaunchNode sources.now.graph.now (data_split sources.now.kind) number
+        launch.now }
     requires tests { AreEndTestsOf sources.now.graph.now sources.now.kind end tests.now }
     requires there { is_number sources.now.store.now.pins (pin_under end) ≡ true }
     requires offer { IsOfferOf sources.now.store.now sources.now.kind number end (Some offer) }
@@ -232,12 +238,14 @@ pub(crate) fn counted_by<A: Rows + Delayed>(
     end: u32,
     offer: i64,
 ) -> Result<Counted, Memory>
-    requires sources { AreSources sources.now.store.now sources.now.graph.now (A.rows sources.now.arrivals.now) (A.delays sources.now.arrivals.now) sources.now.tree.now }
+    requires sources { AreSources sources.now.store.now sources.now.graph.now
+        (A.rows sources.now.arrivals.now) (A.delays sources.now.arrivals.now) sources.now.tree.now }
     requires tests { AreEndTestsOf sources.now.graph.now sources.now.kind end tests.now }
     requires launch { launch < node_bound sources.now.store.now }
     requires there { is_number sources.now.store.now.pins (pin_under end) ≡ true }
     requires offer { IsOfferOf sources.now.store.now sources.now.kind launch end (Some offer) }
-    ensures counted { IfOk result (IsCountedAt sources.now.store.now sources.now.kind launch end offer) }
+    ensures counted { IfOk result
+        (IsCountedAt sources.now.store.now sources.now.kind launch end offer) }
     ensures time { IfOk result (λ c. Within c.time.0) }
 {
     sources.store.laws();
@@ -267,12 +275,14 @@ pub(crate) fn test_that_counts<A: Rows + Delayed>(
     end: u32,
     offer: i64,
 ) -> Result<Counted, Memory>
-    requires sources { AreSources sources.now.store.now sources.now.graph.now (A.rows sources.now.arrivals.now) (A.delays sources.now.arrivals.now) sources.now.tree.now }
+    requires sources { AreSources sources.now.store.now sources.now.graph.now
+        (A.rows sources.now.arrivals.now) (A.delays sources.now.arrivals.now) sources.now.tree.now }
     requires launch { launch < node_bound sources.now.store.now }
     requires end { end < node_bound sources.now.store.now }
     requires there { is_number sources.now.store.now.pins (pin_under end) ≡ true }
     requires offer { IsOfferOf sources.now.store.now sources.now.kind launch end (Some offer) }
-    ensures counted { IfOk result (IsCountedAt sources.now.store.now sources.now.kind launch end offer) }
+    ensures counted { IfOk result
+        (IsCountedAt sources.now.store.now sources.now.kind launch end offer) }
     ensures time { IfOk result (λ c. Within c.time.0) }
 {
     let tests = end_tests(

@@ -17,7 +17,8 @@ use timing_defs::{LaunchEdge, NodeRow, Split};
 pub(crate) fn walk_edge(store: &Store, graph: &Graph, node: u32) -> Option<LaunchEdge>
     requires graph { graph.now.stored ≡ store.now }
     requires node { node < node_bound store.now }
-    ensures { option_map edge_of result ≡ option_and_then (walk_edge store.now.design) (node_at store.now node) }
+    ensures { option_map edge_of result
+        ≡ option_and_then (walk_edge store.now.design) (node_at store.now node) }
 {
     match walk_start(store, graph, node) {
         Some(start) => Some(LaunchEdge {

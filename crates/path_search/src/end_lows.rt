@@ -38,7 +38,9 @@ fn low_on_both(
     requires places { All (λ t. IfSome t.place (λ p. p < length tree.now)) tests.now }
     requires before { All (λ t. t.clock < length store.now.design.constraints.clocks) before.now }
     requires after { All (λ t. t.clock < length store.now.design.constraints.clocks) after.now }
-    ensures { result ≡ outer_some Early (low_on store.now.design kind tree.now tests.now before.now) (low_on store.now.design kind tree.now tests.now after.now) }
+    ensures { result
+        ≡ outer_some Early (low_on store.now.design kind tree.now tests.now before.now)
+        (low_on store.now.design kind tree.now tests.now after.now) }
 {
     let low = low_on(store, tree, kind, tests, before);
     let other = low_on(store, tree, kind, tests, after);
@@ -54,12 +56,16 @@ pub fn end_low<A: Rows + Delayed>(
     end: u32,
     before: &EdgeTimes,
 ) -> Result<Option<i64>, Memory>
-    requires sources { AreSources sources.now.store.now sources.now.graph.now (A.rows sources.now.arrivals.now) (A.delays sources.now.arrivals.now) sources.now.tree.now }
+    requires sources { AreSources sources.now.store.now sources.now.graph.now
+        (A.rows sources.now.arrivals.now) (A.delays sources.now.arrivals.now) sources.now.tree.now }
     requires end { end < node_bound sources.now.store.now }
     requires there { is_number sources.now.store.now.pins (pin_under end) ≡ true }
-    requires clocks { All (λ t. t.clock < length sources.now.store.now.design.constraints.clocks) before.now }
+    requires clocks { All (λ t. t.clock < length sources.now.store.now.design.constraints.clocks)
+        before.now }
     ensures before { IfOk result (IsEndLow sources.now.store.now sources.now.kind end before.now) }
-    ensures after { IfOk result (IsEndLow sources.now.store.now sources.now.kind end (times_in (data_split sources.now.kind) (row_numbered sources.now.store.now end))) }
+    ensures after { IfOk result
+        (IsEndLow sources.now.store.now sources.now.kind end
+        (times_in (data_split sources.now.kind) (row_numbered sources.now.store.now end))) }
 {
     sources.store.laws();
     sources.graph.laws();

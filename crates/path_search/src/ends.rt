@@ -49,7 +49,8 @@ fn fine_tests<A: Rows>(
     requires rows { AreRows store.now (A.rows arrivals.now) }
     requires none { NoOrigin store.now.design }
     requires end { end < node_bound store.now }
-    ensures tests { IfOk result (λ tests. AreTests store.now tests (tests_numbered store.now kind end)) }
+    ensures tests { IfOk result
+        (λ tests. AreTests store.now tests (tests_numbered store.now kind end)) }
     ensures fine { OnOk result (is_wide_numbered store.now kind end ≡ false) }
 {
     store.laws();
@@ -106,7 +107,8 @@ fn told_tests(
     found: &[NodeTest],
 ) -> Result<Items<EndTest>, Memory>
     requires pin { is_number store.now.pins pin ≡ true }
-    requires clocks { All (λ test. IfSome test.clock (λ n. n < node_bound graph.now.stored)) found.now }
+    requires clocks { All (λ test. IfSome test.clock (λ n. n < node_bound graph.now.stored))
+        found.now }
     ensures { IfOk result (AreToldTests store.now graph.now pin found.now) }
 {
     let mut tests = Items::with_room(alloc, found.len())?;

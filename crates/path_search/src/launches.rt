@@ -72,7 +72,8 @@ fn launch_edge(
     requires graph { graph.now.stored ≡ store.now }
     requires node { node < node_bound store.now }
     requires row { row.now ≡ row_numbered store.now node }
-    ensures { (n : Node) → node_at store.now node ≡ Some n → option_map edge_of result ≡ edge_of_launch store.now.design split (named n) n }
+    ensures { (n : Node) → node_at store.now node ≡ Some n → option_map edge_of result
+        ≡ edge_of_launch store.now.design split (named n) n }
 {
     store.laws();
     graph.laws();
@@ -94,7 +95,8 @@ fn launch_time(
     requires graph { graph.now.stored ≡ store.now }
     requires node { node < node_bound store.now }
     requires row { row.now ≡ row_numbered store.now node }
-    ensures { (n : Node) → node_at store.now node ≡ Some n → IsLaunchTime store.now.design split n result }
+    ensures { (n : Node) → node_at store.now node ≡ Some n
+        → IsLaunchTime store.now.design split n result }
 {
     store.laws();
     graph.laws();

@@ -46,7 +46,8 @@ fn low_apart(store: &Store, kind: Kind, rule: Rule, edge: LaunchEdge, test: &End
     requires hold { rule.hold_cycles ≡ low_hold store.now.design.constraints }
     requires edge { edge.clock < length store.now.design.constraints.clocks }
     requires test { IsReadyTest store.now.design test.now }
-    ensures value { result.0 ≡ low_apart store.now.design kind (edge_of edge) (capture_on test.now) }
+    ensures value { result.0
+        ≡ low_apart store.now.design kind (edge_of edge) (capture_on test.now) }
     ensures bound { unsigned_abs result.0 ≤ 2001 * limit }
 {
     store.laws();
@@ -119,7 +120,8 @@ fn low_over(
 
 /// Adds a lowest offer on a launch edge, where there is one.
 fn add_low(lows: &mut Items<EdgeTime>, edge: LaunchEdge, low: Option<i64>) -> Result<(), Memory>
-    ensures { OnOk result (lows.new ≡ lows.old ++ option_to_list (option_map (edge_time (edge_of edge)) low)) }
+    ensures { OnOk result
+        (lows.new ≡ lows.old ++ option_to_list (option_map (edge_time (edge_of edge)) low)) }
 {
     match low {
         Some(low) => lows.push(EdgeTime {

@@ -20,7 +20,9 @@ pub(crate) struct PinNames {
 /// The name of the instance of a pin.
 fn owner_name(alloc: Global, store: &Store, pin: u32) -> Result<Option<Name>, Memory>
     requires { is_number store.now.pins pin ≡ true }
-    ensures { IfOk result (λ cell. (name : List ℕ) → name_at store.now.pins pin ≡ Some name → cell ≡ owner_named store.now.design name) }
+    ensures { IfOk result
+        (λ cell. (name : List ℕ) → name_at store.now.pins pin ≡ Some name → cell
+        ≡ owner_named store.now.design name) }
 {
     store.laws();
     match store.inst_of(pin) {

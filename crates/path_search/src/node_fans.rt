@@ -46,9 +46,12 @@ impl<'a, A: Rows + Delayed> Model for NodeFan<'a, A> {
 
     ghost Value = { Graphed × Kind × List TreeRow × List EndTest × ℕ };
 
-    ghost view = { λ f. (f.sources.now.graph.now, f.sources.now.kind, f.sources.now.tree.now, f.tests, f.end) };
+    ghost view = { λ f.
+        (f.sources.now.graph.now, f.sources.now.kind, f.sources.now.tree.now, f.tests, f.end) };
 
-    ghost invariant = { λ f. IsFanOf f.sources.now.store.now f.sources.now.graph.now (A.rows f.sources.now.arrivals.now) (A.delays f.sources.now.arrivals.now) f.sources.now.tree.now f.sources.now.kind f.end f.tests f.lows };
+    ghost invariant = { λ f. IsFanOf f.sources.now.store.now f.sources.now.graph.now
+        (A.rows f.sources.now.arrivals.now) (A.delays f.sources.now.arrivals.now)
+        f.sources.now.tree.now f.sources.now.kind f.end f.tests f.lows };
 }
 
 impl<A: Rows + Delayed> Fan for NodeFan<'_, A> {
@@ -123,10 +126,13 @@ fn node_fan<'a, A: Rows + Delayed>(
     sources: &'a Sources<'a, A>,
     end: u32,
 ) -> Result<NodeFan<'a, A>, Memory>
-    requires sources { AreSources sources.now.store.now sources.now.graph.now (A.rows sources.now.arrivals.now) (A.delays sources.now.arrivals.now) sources.now.tree.now }
+    requires sources { AreSources sources.now.store.now sources.now.graph.now
+        (A.rows sources.now.arrivals.now) (A.delays sources.now.arrivals.now) sources.now.tree.now }
     requires end { end < node_bound sources.now.store.now }
     requires there { is_number sources.now.store.now.pins (pin_under end) ≡ true }
-    ensures { IfOk result (IsFanNet sources.now.store.now sources.now.graph.now (A.rows sources.now.arrivals.now) (A.delays sources.now.arrivals.now) sources.now.tree.now sources.now.kind end) }
+    ensures { IfOk result
+        (IsFanNet sources.now.store.now sources.now.graph.now (A.rows sources.now.arrivals.now)
+        (A.delays sources.now.arrivals.now) sources.now.tree.now sources.now.kind end) }
 {
     sources.store.laws();
     sources.graph.laws();
@@ -167,10 +173,13 @@ fn end_fan<'a, A: Rows + Delayed>(
     sources: &'a Sources<'a, A>,
     end: u32,
 ) -> Result<NodeFan<'a, A>, Memory>
-    requires sources { AreSources sources.now.store.now sources.now.graph.now (A.rows sources.now.arrivals.now) (A.delays sources.now.arrivals.now) sources.now.tree.now }
+    requires sources { AreSources sources.now.store.now sources.now.graph.now
+        (A.rows sources.now.arrivals.now) (A.delays sources.now.arrivals.now) sources.now.tree.now }
     requires end { end < node_bound sources.now.store.now }
     requires there { is_number sources.now.store.now.pins (pin_under end) ≡ true }
-    ensures net { IfOk result (IsFanNet sources.now.store.now sources.now.graph.now (A.rows sources.now.arrivals.now) (A.delays sources.now.arrivals.now) sources.now.tree.now sources.now.kind end) }
+    ensures net { IfOk result
+        (IsFanNet sources.now.store.now sources.now.graph.now (A.rows sources.now.arrivals.now)
+        (A.delays sources.now.arrivals.now) sources.now.tree.now sources.now.kind end) }
     ensures bounded { IfOk result (λ fan. IsNet (fan_net fan)) }
 {
     sources.store.laws();
@@ -190,12 +199,17 @@ pub(crate) fn either_slack<A: Rows + Delayed>(
     sources: &Sources<'_, A>,
     ends: EndNodes,
 ) -> Result<Option<i64>, Memory>
-    requires sources { AreSources sources.now.store.now sources.now.graph.now (A.rows sources.now.arrivals.now) (A.delays sources.now.arrivals.now) sources.now.tree.now }
+    requires sources { AreSources sources.now.store.now sources.now.graph.now
+        (A.rows sources.now.arrivals.now) (A.delays sources.now.arrivals.now) sources.now.tree.now }
     requires rise { ends.rise < node_bound sources.now.store.now }
     requires rise_there { is_number sources.now.store.now.pins (pin_under ends.rise) ≡ true }
     requires fall { ends.fall < node_bound sources.now.store.now }
     requires fall_there { is_number sources.now.store.now.pins (pin_under ends.fall) ≡ true }
-    ensures { IfOk result (λ slack. (rise fall : Node) → node_at sources.now.store.now ends.rise ≡ Some rise → node_at sources.now.store.now ends.fall ≡ Some fall → IsEitherSlack sources.now.store.now.design sources.now.kind (named rise) (named fall) slack) }
+    ensures { IfOk result
+        (λ slack. (rise fall : Node) → node_at sources.now.store.now ends.rise ≡ Some rise
+        → node_at sources.now.store.now ends.fall ≡ Some fall
+        → IsEitherSlack sources.now.store.now.design sources.now.kind (named rise) (named fall)
+        slack) }
 {
     sources.store.laws();
     sources.graph.laws();

@@ -49,13 +49,16 @@ pub(crate) fn pin_tests<A: Rows + Delayed>(
     rise: u32,
     fall: u32,
 ) -> Result<PinTests, Memory>
-    requires sources { AreSources sources.now.store.now sources.now.graph.now (A.rows sources.now.arrivals.now) (A.delays sources.now.arrivals.now) sources.now.tree.now }
+    requires sources { AreSources sources.now.store.now sources.now.graph.now
+        (A.rows sources.now.arrivals.now) (A.delays sources.now.arrivals.now) sources.now.tree.now }
     requires rise { rise < node_bound sources.now.store.now }
     requires rise_there { is_number sources.now.store.now.pins (pin_under rise) ≡ true }
     requires fall { fall < node_bound sources.now.store.now }
     requires fall_there { is_number sources.now.store.now.pins (pin_under fall) ≡ true }
-    ensures rises { IfOk result (λ tests. AreEndTestsOf sources.now.graph.now sources.now.kind rise tests.rise) }
-    ensures falls { IfOk result (λ tests. AreEndTestsOf sources.now.graph.now sources.now.kind fall tests.fall) }
+    ensures rises { IfOk result
+        (λ tests. AreEndTestsOf sources.now.graph.now sources.now.kind rise tests.rise) }
+    ensures falls { IfOk result
+        (λ tests. AreEndTestsOf sources.now.graph.now sources.now.kind fall tests.fall) }
 {
     let rises = end_tests(
         alloc,
@@ -88,9 +91,11 @@ fn launch_offer<A: Rows + Delayed>(
     node: u32,
     end: u32,
 ) -> Option<i64>
-    requires sources { AreSources sources.now.store.now sources.now.graph.now (A.rows sources.now.arrivals.now) (A.delays sources.now.arrivals.now) sources.now.tree.now }
+    requires sources { AreSources sources.now.store.now sources.now.graph.now
+        (A.rows sources.now.arrivals.now) (A.delays sources.now.arrivals.now) sources.now.tree.now }
     requires tests { AreEndTestsOf sources.now.graph.now sources.now.kind end tests.now }
-    requires launch { IsLaunchNode sources.now.graph.now (data_split sources.now.kind) node launch.now }
+    requires launch { IsLaunchNode sources.now.graph.now (data_split sources.now.kind) node
+        launch.now }
     requires there { is_number sources.now.store.now.pins (pin_under end) ≡ true }
     ensures { IsOfferOf sources.now.store.now sources.now.kind node end result }
 {
@@ -111,14 +116,17 @@ fn node_offers<A: Rows + Delayed>(
     rise: u32,
     fall: u32,
 ) -> Result<NodeOffers, Memory>
-    requires sources { AreSources sources.now.store.now sources.now.graph.now (A.rows sources.now.arrivals.now) (A.delays sources.now.arrivals.now) sources.now.tree.now }
+    requires sources { AreSources sources.now.store.now sources.now.graph.now
+        (A.rows sources.now.arrivals.now) (A.delays sources.now.arrivals.now) sources.now.tree.now }
     requires rises { AreEndTestsOf sources.now.graph.now sources.now.kind rise tests.now.rise }
     requires falls { AreEndTestsOf sources.now.graph.now sources.now.kind fall tests.now.fall }
     requires node { node < node_bound sources.now.store.now }
     requires rise_there { is_number sources.now.store.now.pins (pin_under rise) ≡ true }
     requires fall_there { is_number sources.now.store.now.pins (pin_under fall) ≡ true }
-    ensures rise { IfOk result (λ offered. IsOfferOf sources.now.store.now sources.now.kind node rise offered.rise) }
-    ensures fall { IfOk result (λ offered. IsOfferOf sources.now.store.now sources.now.kind node fall offered.fall) }
+    ensures rise { IfOk result
+        (λ offered. IsOfferOf sources.now.store.now sources.now.kind node rise offered.rise) }
+    ensures fall { IfOk result
+        (λ offered. IsOfferOf sources.now.store.now sources.now.kind node fall offered.fall) }
 {
     sources.store.laws();
     sources.graph.laws();
@@ -163,14 +171,19 @@ fn add_node_offers<A: Rows + Delayed>(
     rise: u32,
     fall: u32,
 ) -> Result<(), Memory>
-    requires sources { AreSources sources.now.store.now sources.now.graph.now (A.rows sources.now.arrivals.now) (A.delays sources.now.arrivals.now) sources.now.tree.now }
+    requires sources { AreSources sources.now.store.now sources.now.graph.now
+        (A.rows sources.now.arrivals.now) (A.delays sources.now.arrivals.now) sources.now.tree.now }
     requires rises { AreEndTestsOf sources.now.graph.now sources.now.kind rise tests.now.rise }
     requires falls { AreEndTestsOf sources.now.graph.now sources.now.kind fall tests.now.fall }
     requires node { node < node_bound sources.now.store.now }
     requires rise_there { is_number sources.now.store.now.pins (pin_under rise) ≡ true }
     requires fall_there { is_number sources.now.store.now.pins (pin_under fall) ≡ true }
-    ensures rise { OnOk result ((offer : Option ℤ) × IsOfferOf sources.now.store.now sources.now.kind node rise offer × (made.new.rise ≡ made.old.rise ++ put_offer place offer)) }
-    ensures fall { OnOk result ((offer : Option ℤ) × IsOfferOf sources.now.store.now sources.now.kind node fall offer × (made.new.fall ≡ made.old.fall ++ put_offer place offer)) }
+    ensures rise { OnOk result
+        ((offer : Option ℤ) × IsOfferOf sources.now.store.now sources.now.kind node rise offer
+        × (made.new.rise ≡ made.old.rise ++ put_offer place offer)) }
+    ensures fall { OnOk result
+        ((offer : Option ℤ) × IsOfferOf sources.now.store.now sources.now.kind node fall offer
+        × (made.new.fall ≡ made.old.fall ++ put_offer place offer)) }
 {
     let offered = node_offers(alloc, sources, tests, node, rise, fall)?;
     add_offer(&mut made.rise, place, offered.rise)?;
@@ -186,15 +199,20 @@ fn tested_offers<A: Rows + Delayed>(
     rise: u32,
     fall: u32,
 ) -> Result<PinOffers, Memory>
-    requires sources { AreSources sources.now.store.now sources.now.graph.now (A.rows sources.now.arrivals.now) (A.delays sources.now.arrivals.now) sources.now.tree.now }
+    requires sources { AreSources sources.now.store.now sources.now.graph.now
+        (A.rows sources.now.arrivals.now) (A.delays sources.now.arrivals.now) sources.now.tree.now }
     requires rises { AreEndTestsOf sources.now.graph.now sources.now.kind rise tests.now.rise }
     requires falls { AreEndTestsOf sources.now.graph.now sources.now.kind fall tests.now.fall }
     requires nodes { All (λ node. node < node_bound sources.now.store.now) nodes.now }
     requires few { length nodes.now ≤ 2 ^ 32 }
     requires rise_there { is_number sources.now.store.now.pins (pin_under rise) ≡ true }
     requires fall_there { is_number sources.now.store.now.pins (pin_under fall) ≡ true }
-    ensures rises { IfOk result (λ made. (node : Node) → node_at sources.now.store.now rise ≡ Some node → AreOffers sources.now.store.now sources.now.kind nodes.now (named node) made.rise) }
-    ensures falls { IfOk result (λ made. (node : Node) → node_at sources.now.store.now fall ≡ Some node → AreOffers sources.now.store.now sources.now.kind nodes.now (named node) made.fall) }
+    ensures rises { IfOk result
+        (λ made. (node : Node) → node_at sources.now.store.now rise ≡ Some node
+        → AreOffers sources.now.store.now sources.now.kind nodes.now (named node) made.rise) }
+    ensures falls { IfOk result
+        (λ made. (node : Node) → node_at sources.now.store.now fall ≡ Some node
+        → AreOffers sources.now.store.now sources.now.kind nodes.now (named node) made.fall) }
 {
     let mut made = PinOffers {
         rise: Items::new(alloc),
@@ -225,15 +243,20 @@ pub(crate) fn offers<A: Rows + Delayed>(
     rise: u32,
     fall: u32,
 ) -> Result<PinOffers, Memory>
-    requires sources { AreSources sources.now.store.now sources.now.graph.now (A.rows sources.now.arrivals.now) (A.delays sources.now.arrivals.now) sources.now.tree.now }
+    requires sources { AreSources sources.now.store.now sources.now.graph.now
+        (A.rows sources.now.arrivals.now) (A.delays sources.now.arrivals.now) sources.now.tree.now }
     requires nodes { All (λ node. node < node_bound sources.now.store.now) nodes.now }
     requires few { length nodes.now ≤ 2 ^ 32 }
     requires rise { rise < node_bound sources.now.store.now }
     requires rise_there { is_number sources.now.store.now.pins (pin_under rise) ≡ true }
     requires fall { fall < node_bound sources.now.store.now }
     requires fall_there { is_number sources.now.store.now.pins (pin_under fall) ≡ true }
-    ensures rises { IfOk result (λ made. (node : Node) → node_at sources.now.store.now rise ≡ Some node → AreOffers sources.now.store.now sources.now.kind nodes.now (named node) made.rise) }
-    ensures falls { IfOk result (λ made. (node : Node) → node_at sources.now.store.now fall ≡ Some node → AreOffers sources.now.store.now sources.now.kind nodes.now (named node) made.fall) }
+    ensures rises { IfOk result
+        (λ made. (node : Node) → node_at sources.now.store.now rise ≡ Some node
+        → AreOffers sources.now.store.now sources.now.kind nodes.now (named node) made.rise) }
+    ensures falls { IfOk result
+        (λ made. (node : Node) → node_at sources.now.store.now fall ≡ Some node
+        → AreOffers sources.now.store.now sources.now.kind nodes.now (named node) made.fall) }
 {
     let tests = pin_tests(alloc, sources, rise, fall)?;
     tested_offers(alloc, sources, &tests, nodes, rise, fall)

@@ -129,7 +129,8 @@ fn climb_past(alloc: Global, graph: &Graph, places: usize, node: u32) -> Result<
     requires places { places < 2 ^ 22 }
     requires node { node < node_bound graph.now.stored }
     ensures value { IfOk result (λ nodes. nodes ≡ map (λ n. places + n) (climb graph.now node)) }
-    ensures known { IfOk result (λ nodes. All (λ n. n < places + node_bound graph.now.stored) nodes) }
+    ensures known { IfOk result
+        (λ nodes. All (λ n. n < places + node_bound graph.now.stored) nodes) }
 {
     graph.laws();
     let nodes = climb(alloc, graph, node)?;

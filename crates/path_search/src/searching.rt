@@ -93,7 +93,9 @@ fn slack_law(
 )
     requires graph { graph.now.stored ≡ store.now }
     requires ends { AreEndNodes store.now endpoint.now ends }
-    requires slack { (rise fall : Node) → node_at store.now ends.rise ≡ Some rise → node_at store.now ends.fall ≡ Some fall → IsEitherSlack store.now.design kind (named rise) (named fall) slack }
+    requires slack { (rise fall : Node) → node_at store.now ends.rise ≡ Some rise
+        → node_at store.now ends.fall ≡ Some fall
+        → IsEitherSlack store.now.design kind (named rise) (named fall) slack }
     ensures { IsSlack store.now.design kind endpoint.now slack }
 {
     store.laws();
@@ -121,9 +123,12 @@ fn pin_slack<A: Rows + Delayed>(
     endpoint: &Name,
     ends: EndNodes,
 ) -> Result<Option<Fs>, Memory>
-    requires sources { AreSources sources.now.store.now sources.now.graph.now (A.rows sources.now.arrivals.now) (A.delays sources.now.arrivals.now) sources.now.tree.now }
+    requires sources { AreSources sources.now.store.now sources.now.graph.now
+        (A.rows sources.now.arrivals.now) (A.delays sources.now.arrivals.now) sources.now.tree.now }
     requires ends { AreEndNodes sources.now.store.now endpoint.now ends }
-    ensures { IfOk result (λ slack. IsSlack sources.now.store.now.design sources.now.kind endpoint.now (option_map (λ s. s.0) slack)) }
+    ensures { IfOk result
+        (λ slack. IsSlack sources.now.store.now.design sources.now.kind endpoint.now
+        (option_map (λ s. s.0) slack)) }
 {
     let slack = either_slack(alloc, sources, ends)?;
     slack_law(
@@ -148,7 +153,9 @@ fn worst_in(
 ) -> Result<Option<Walk>, Memory>
     requires graph { graph.now.stored ≡ store.now }
     requires search { IsPinCone graph.now kind endpoint.now search.now }
-    ensures { IfOk result (IsWorst (place_rank store.now search.now.nodes) (places_before graph.now search.now.nodes) search.now.cone) }
+    ensures { IfOk result
+        (IsWorst (place_rank store.now search.now.nodes) (places_before graph.now search.now.nodes)
+        search.now.cone) }
 {
     search_laws(store, graph, kind, endpoint, search);
     let order = ByName {
@@ -171,7 +178,8 @@ fn shown_law(
 )
     requires graph { graph.now.stored ≡ store.now }
     requires search { IsPinCone graph.now kind endpoint.now search.now }
-    requires worst { IsWorst (place_rank store.now search.now.nodes) (places_before graph.now search.now.nodes) search.now.cone (Some worst.now) }
+    requires worst { IsWorst (place_rank store.now search.now.nodes)
+        (places_before graph.now search.now.nodes) search.now.cone (Some worst.now) }
     requires path { IsWalkPath graph.now kind endpoint.now search.now worst.now path.now }
     ensures { IsShown store.now.design kind endpoint.now (Some path.now) }
 {
@@ -188,7 +196,8 @@ fn shown_law(
 fn none_law(store: &Store, graph: &Graph, kind: Kind, endpoint: &Name, search: &PinCone)
     requires graph { graph.now.stored ≡ store.now }
     requires search { IsPinCone graph.now kind endpoint.now search.now }
-    requires none { IsWorst (place_rank store.now search.now.nodes) (places_before graph.now search.now.nodes) search.now.cone None }
+    requires none { IsWorst (place_rank store.now search.now.nodes)
+        (places_before graph.now search.now.nodes) search.now.cone None }
     ensures { IsShown store.now.design kind endpoint.now None }
 {
     store.laws();
@@ -205,7 +214,8 @@ fn shown_in<A: Rows + Delayed>(
     endpoint: &Name,
     search: &PinCone,
 ) -> Result<Option<Path>, Memory>
-    requires sources { AreSources sources.now.store.now sources.now.graph.now (A.rows sources.now.arrivals.now) (A.delays sources.now.arrivals.now) sources.now.tree.now }
+    requires sources { AreSources sources.now.store.now sources.now.graph.now
+        (A.rows sources.now.arrivals.now) (A.delays sources.now.arrivals.now) sources.now.tree.now }
     requires search { IsPinCone sources.now.graph.now sources.now.kind endpoint.now search.now }
     ensures { IfOk result (IsShown sources.now.store.now.design sources.now.kind endpoint.now) }
 {
@@ -256,7 +266,8 @@ pub fn worst_slack<A: Rows + Delayed>(
     requires delays { AreDelays store.now (A.delays arrivals.now) }
     requires tree { IsClockTree graph.now tree.now }
     requires endpoint { Contains (endpoints store.now.design) endpoint.now }
-    ensures { IfOk result (λ slack. IsSlack store.now.design kind endpoint.now (option_map (λ s. s.0) slack)) }
+    ensures { IfOk result
+        (λ slack. IsSlack store.now.design kind endpoint.now (option_map (λ s. s.0) slack)) }
 {
     let sources = Sources {
         store,
@@ -286,8 +297,12 @@ pub fn worst_slacks<A: Rows + Delayed>(
     requires delays { AreDelays store.now (A.delays arrivals.now) }
     requires tree { IsClockTree graph.now tree.now }
     requires endpoint { Contains (endpoints store.now.design) endpoint.now }
-    ensures setup { IfOk result (λ slacks. IsSlack store.now.design Kind.Setup endpoint.now (option_map (λ s. s.0) slacks.setup)) }
-    ensures hold { IfOk result (λ slacks. IsSlack store.now.design Kind.Hold endpoint.now (option_map (λ s. s.0) slacks.hold)) }
+    ensures setup { IfOk result
+        (λ slacks. IsSlack store.now.design Kind.Setup endpoint.now
+        (option_map (λ s. s.0) slacks.setup)) }
+    ensures hold { IfOk result
+        (λ slacks. IsSlack store.now.design Kind.Hold endpoint.now
+        (option_map (λ s. s.0) slacks.hold)) }
 {
     let ends = end_nodes(store, graph, endpoint);
     let late = Sources {

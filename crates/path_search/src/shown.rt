@@ -89,7 +89,9 @@ fn network_nodes<A: Rows>(
     requires nodes { All (λ n. n < node_bound store.now) nodes.now }
     requires numbers { All (λ n. is_number store.now.pins (pin_under n) ≡ true) nodes.now }
     ensures names { IfOk result (λ made. map name_part made ≡ map (name_told store.now) nodes.now) }
-    ensures times { IfOk result (λ made. map time_part made ≡ map (time_numbered store.now split (counted_edge counted.now)) nodes.now) }
+    ensures times { IfOk result
+        (λ made. map time_part made
+        ≡ map (time_numbered store.now split (counted_edge counted.now)) nodes.now) }
 {
     let mut path = Items::with_room(alloc, nodes.len().saturating_add(more))?;
     for node in nodes {
@@ -162,7 +164,9 @@ fn add_node(
 ) -> Result<(), Memory>
     requires place { place < length nodes.now }
     requires number { is_number store.now.pins (pin_under (slice_index nodes.now place)) ≡ true }
-    ensures names { OnOk result (map name_part path.new ≡ map name_part path.old ++ place_name store.now nodes.now place ∷ []) }
+    ensures names { OnOk result
+        (map name_part path.new
+        ≡ map name_part path.old ++ place_name store.now nodes.now place ∷ []) }
     ensures times { OnOk result (map time_part path.new ≡ map time_part path.old ++ time ∷ []) }
 {
     let made = path_node(alloc, store, nodes[place as usize], time)?;
@@ -185,8 +189,12 @@ fn add_rest(
     requires count { count_of search.now.cone ≡ length search.now.nodes }
     requires walk { IsWalkOn store.now search.now first rest.now }
     requires start { Within start }
-    ensures names { OnOk result (map name_part path.new ≡ map name_part path.old ++ map (place_name store.now search.now.nodes) rest.now) }
-    ensures times { OnOk result (map time_part path.new ≡ map time_part path.old ++ times_after kind search.now.cone start first rest.now) }
+    ensures names { OnOk result
+        (map name_part path.new
+        ≡ map name_part path.old ++ map (place_name store.now search.now.nodes) rest.now) }
+    ensures times { OnOk result
+        (map time_part path.new
+        ≡ map time_part path.old ++ times_after kind search.now.cone start first rest.now) }
 {
     let mut time = start;
     let mut at = first;
@@ -234,15 +242,19 @@ fn nodes_of<A: Rows + Delayed>(
     first: u32,
     rest: &[u32],
 ) -> Result<Items<PathNode>, Memory>
-    requires sources { AreSources sources.now.store.now sources.now.graph.now (A.rows sources.now.arrivals.now) (A.delays sources.now.arrivals.now) sources.now.tree.now }
+    requires sources { AreSources sources.now.store.now sources.now.graph.now
+        (A.rows sources.now.arrivals.now) (A.delays sources.now.arrivals.now) sources.now.tree.now }
     requires launch { launch < node_bound sources.now.graph.now.stored }
-    requires before { All (λ n. is_number sources.now.store.now.pins (pin_under n) ≡ true) (climb sources.now.graph.now launch) }
+    requires before { All (λ n. is_number sources.now.store.now.pins (pin_under n) ≡ true)
+        (climb sources.now.graph.now launch) }
     requires cone { IsCone search.now.cone }
     requires count { count_of search.now.cone ≡ length search.now.nodes }
     requires first { IsNodePlace sources.now.store.now search.now.nodes first }
     requires walk { IsWalkOn sources.now.store.now search.now first rest.now }
     requires start { Within counted.now.time.0 }
-    ensures { IfOk result (AreNodesOf sources.now.graph.now sources.now.kind search.now launch counted.now first rest.now) }
+    ensures { IfOk result
+        (AreNodesOf sources.now.graph.now sources.now.kind search.now launch counted.now first
+        rest.now) }
 {
     let split = sources.kind.data_split();
     let before = climb(alloc, sources.graph, launch)?;
@@ -371,7 +383,8 @@ fn path_law(
     requires ends { AreEndsOf search.now walk.now ends }
     requires counted { IsCountedAt store.now kind ends.launch ends.end ends.offer counted.now }
     requires whole { walk.now.nodes ≡ first ∷ rest.now }
-    requires nodes { AreNodesOf graph.now kind search.now ends.launch counted.now first rest.now path.now.nodes }
+    requires nodes { AreNodesOf graph.now kind search.now ends.launch counted.now first rest.now
+        path.now.nodes }
     requires slack { path.now.slack.0 ≡ walk.now.slack }
     requires credit { path.now.credit.0 ≡ counted.now.credit.0 }
     requires launch { launch_part path.now ≡ counted_edge counted.now }
@@ -401,13 +414,16 @@ fn path_by<A: Rows + Delayed>(
     ends: Ends,
     counted: &Counted,
 ) -> Result<Path, Memory>
-    requires sources { AreSources sources.now.store.now sources.now.graph.now (A.rows sources.now.arrivals.now) (A.delays sources.now.arrivals.now) sources.now.tree.now }
+    requires sources { AreSources sources.now.store.now sources.now.graph.now
+        (A.rows sources.now.arrivals.now) (A.delays sources.now.arrivals.now) sources.now.tree.now }
     requires search { IsPinCone sources.now.graph.now sources.now.kind endpoint.now search.now }
     requires walk { IsWalk search.now.cone walk.now }
     requires ends { AreEndsOf search.now walk.now ends }
-    requires counted { IsCountedAt sources.now.store.now sources.now.kind ends.launch ends.end ends.offer counted.now }
+    requires counted { IsCountedAt sources.now.store.now sources.now.kind ends.launch ends.end
+        ends.offer counted.now }
     requires start { Within counted.now.time.0 }
-    ensures { IfOk result (IsWalkPath sources.now.graph.now sources.now.kind endpoint.now search.now walk.now) }
+    ensures { IfOk result
+        (IsWalkPath sources.now.graph.now sources.now.kind endpoint.now search.now walk.now) }
 {
     let store = sources.store;
     let graph = sources.graph;
@@ -433,10 +449,12 @@ pub fn path_of<A: Rows + Delayed>(
     search: &PinCone,
     walk: &Walk,
 ) -> Result<Path, Memory>
-    requires sources { AreSources sources.now.store.now sources.now.graph.now (A.rows sources.now.arrivals.now) (A.delays sources.now.arrivals.now) sources.now.tree.now }
+    requires sources { AreSources sources.now.store.now sources.now.graph.now
+        (A.rows sources.now.arrivals.now) (A.delays sources.now.arrivals.now) sources.now.tree.now }
     requires search { IsPinCone sources.now.graph.now sources.now.kind endpoint.now search.now }
     requires walk { IsWalk search.now.cone walk.now }
-    ensures { IfOk result (IsWalkPath sources.now.graph.now sources.now.kind endpoint.now search.now walk.now) }
+    ensures { IfOk result
+        (IsWalkPath sources.now.graph.now sources.now.kind endpoint.now search.now walk.now) }
 {
     let store = sources.store;
     let graph = sources.graph;
@@ -458,11 +476,13 @@ pub fn path_of_tested<A: Rows + Delayed>(
     search: &PinCone,
     walk: &Walk,
 ) -> Result<Path, Memory>
-    requires sources { AreSources sources.now.store.now sources.now.graph.now (A.rows sources.now.arrivals.now) (A.delays sources.now.arrivals.now) sources.now.tree.now }
+    requires sources { AreSources sources.now.store.now sources.now.graph.now
+        (A.rows sources.now.arrivals.now) (A.delays sources.now.arrivals.now) sources.now.tree.now }
     requires search { IsPinCone sources.now.graph.now sources.now.kind endpoint.now search.now }
     requires walk { IsWalk search.now.cone walk.now }
     requires tested { AreTested sources.now.graph.now sources.now.kind tested.now }
-    ensures { IfOk result (IsWalkPath sources.now.graph.now sources.now.kind endpoint.now search.now walk.now) }
+    ensures { IfOk result
+        (IsWalkPath sources.now.graph.now sources.now.kind endpoint.now search.now walk.now) }
 {
     let store = sources.store;
     let graph = sources.graph;

@@ -47,7 +47,9 @@ fn moved_between(store: &Store, kind: Kind, rule: Rule, launch: &LaunchNode, tes
     requires rule { rule ≡ rule_of store.now.design.constraints launch.now.launch test.now.capture }
     requires launch { IsReadyLaunch store.now.design launch.now }
     requires test { IsReadyTest store.now.design test.now }
-    ensures value { result.0 ≡ moved store.now.design kind launch.now.launch test.now.capture (edge_of_node launch.now) (test.now.test.capture_clock, test.now.test.capture_tran) }
+    ensures value { result.0
+        ≡ moved store.now.design kind launch.now.launch test.now.capture (edge_of_node launch.now)
+        (test.now.test.capture_clock, test.now.test.capture_tran) }
     ensures bound { unsigned_abs result.0 ≤ 2001 * limit }
 {
     store.laws();

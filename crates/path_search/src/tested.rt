@@ -36,7 +36,8 @@ pub fn find_tests<A: Rows + Delayed>(
     sources: &Sources<'_, A>,
     endpoint: &Name,
 ) -> Result<Tested, Memory>
-    requires sources { AreSources sources.now.store.now sources.now.graph.now (A.rows sources.now.arrivals.now) (A.delays sources.now.arrivals.now) sources.now.tree.now }
+    requires sources { AreSources sources.now.store.now sources.now.graph.now
+        (A.rows sources.now.arrivals.now) (A.delays sources.now.arrivals.now) sources.now.tree.now }
     requires endpoint { Contains (endpoints sources.now.store.now.design) endpoint.now }
     ensures { IfOk result (AreTested sources.now.graph.now sources.now.kind) }
 {
@@ -63,13 +64,15 @@ pub(crate) fn counted_in<A: Rows + Delayed>(
     end: u32,
     offer: i64,
 ) -> Result<Counted, Memory>
-    requires sources { AreSources sources.now.store.now sources.now.graph.now (A.rows sources.now.arrivals.now) (A.delays sources.now.arrivals.now) sources.now.tree.now }
+    requires sources { AreSources sources.now.store.now sources.now.graph.now
+        (A.rows sources.now.arrivals.now) (A.delays sources.now.arrivals.now) sources.now.tree.now }
     requires tested { AreTested sources.now.graph.now sources.now.kind tested.now }
     requires launch { launch < node_bound sources.now.store.now }
     requires end { end < node_bound sources.now.store.now }
     requires there { is_number sources.now.store.now.pins (pin_under end) ≡ true }
     requires offer { IsOfferOf sources.now.store.now sources.now.kind launch end (Some offer) }
-    ensures counted { IfOk result (IsCountedAt sources.now.store.now sources.now.kind launch end offer) }
+    ensures counted { IfOk result
+        (IsCountedAt sources.now.store.now sources.now.kind launch end offer) }
     ensures time { IfOk result (λ c. Within c.time.0) }
 {
     if end == tested.rise {

@@ -62,7 +62,8 @@ fn next_edge(
 
 /// Early and late arrival of a row on a launch edge, in fs; 0 where one is not there.
 fn times_on(row: &NodeRow, edge: LaunchEdge) -> (i64, i64)
-    ensures { (result.0, result.1) ≡ both_times (time_on row.now.early (edge_of edge)) (time_on row.now.late (edge_of edge)) }
+    ensures { (result.0, result.1)
+        ≡ both_times (time_on row.now.early (edge_of edge)) (time_on row.now.late (edge_of edge)) }
 {
     let Some(early) = arrival_on(row, Split::Early, edge) else {
         return (0, 0);

@@ -58,7 +58,8 @@ impl Model for Graph {
 /// The arcs between nodes, one for all library arcs between the same two.
 fn merged_arcs(alloc: Global, store: &Store, pins: &PinGraph) -> Result<Items<GraphArc>, Memory>
     requires { IsPinGraph store.now pins.now }
-    ensures { IfOk result (AreMerged (node_bound store.now) (node_arcs store.now pins.now.network)) }
+    ensures { IfOk result
+        (AreMerged (node_bound store.now) (node_arcs store.now pins.now.network)) }
 {
     store.laws();
     let raw = node_arcs(
@@ -80,7 +81,8 @@ fn node_graph(
 ) -> Result<NodeGraph, Memory>
     requires fault { net_fault store.now.design ≡ None }
     requires pins { IsPinGraph store.now pins.now }
-    requires arcs { AreMerged (node_bound store.now) (node_arcs store.now pins.now.network) arcs.now }
+    requires arcs { AreMerged (node_bound store.now) (node_arcs store.now pins.now.network)
+        arcs.now }
     ensures { IfOk result (IsFound store.now pins.now.network arcs.now) }
 {
     store.laws();
@@ -183,7 +185,8 @@ impl Graph {
         touched: &Touched,
     ) -> Result<Option<Graph>, Memory>
         requires fault { net_fault store.now.design ≡ None }
-        requires made { IsEditOf self.now.stored (record { insts = touched.now.insts; nets = touched.now.nets }) store.now }
+        requires made { IsEditOf self.now.stored
+            (record { insts = touched.now.insts; nets = touched.now.nets }) store.now }
         ensures { IfOk result (λ ended. IfSome ended (λ graph. graph.stored ≡ store.now)) }
     {
         match replaced(alloc, &self.store, store, touched, self.tables.get())? {
@@ -200,7 +203,8 @@ impl Graph {
     /// are not found in turns enough, and where fewer pin numbers are in use than in the base.
     pub fn update(&self, alloc: Global, store: &Store, touched: &Touched) -> Result<Graph, Fault>
         requires fault { net_fault store.now.design ≡ None }
-        requires made { IsEditOf self.now.stored (record { insts = touched.now.insts; nets = touched.now.nets }) store.now }
+        requires made { IsEditOf self.now.stored
+            (record { insts = touched.now.insts; nets = touched.now.nets }) store.now }
         ensures graph { IfOk result (λ graph. graph.stored ≡ store.now) }
         ensures refused { IfErr result (IsGraphRefused store.now.design) }
     {
@@ -274,7 +278,10 @@ impl Graph {
     /// The store's number of a node's pin; none where the number is of no node. Takes no memory.
     pub fn pin_of(&self, node: u32) -> Option<u32>
         requires { node < node_bound self.now.stored }
-        ensures { result ≡ (if is_number self.now.stored.pins (pin_under node) then Some (pin_under node) else None) }
+        ensures { result
+            ≡
+            (if is_number self.now.stored.pins (pin_under node) then Some (pin_under node) else
+            None) }
     {
         let pin = pin_under(node);
         if self.store.has_pin(pin) {

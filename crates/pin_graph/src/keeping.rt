@@ -172,7 +172,8 @@ fn keeps_nets(base: &Store, store: &Store, names: &[Name]) -> bool
 /// adds or removes an instance, or a net, or where a pin joins or leaves a net. Takes as many steps as
 /// the nets that it touched have pins, and the cells of the instances that it touched pins, arcs and tests.
 pub(crate) fn keeps_links(base: &Store, store: &Store, touched: &Touched) -> bool
-    requires made { IsEditOf base.now (record { insts = touched.now.insts; nets = touched.now.nets }) store.now }
+    requires made { IsEditOf base.now
+        (record { insts = touched.now.insts; nets = touched.now.nets }) store.now }
     requires fault { net_fault store.now.design ≡ None }
     ensures { IsTrue result → HaveSameLinks base.now store.now }
 {

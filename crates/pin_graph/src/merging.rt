@@ -60,7 +60,9 @@ fn join(arcs: &mut Vec<GraphArc>, places: &mut [usize], arc: GraphArc) -> Result
     requires from { arc.from < length places.old }
     requires noted { AreNoted arcs.old.items places.old }
     ensures noted { OnOk result (AreNoted arcs.new.items places.new) }
-    ensures joined { OnOk result ((xs : List GraphArc) → AreJoined xs arcs.old.items → AreJoined (xs ++ arc ∷ []) arcs.new.items) }
+    ensures joined { OnOk result
+        ((xs : List GraphArc) → AreJoined xs arcs.old.items
+        → AreJoined (xs ++ arc ∷ []) arcs.new.items) }
 {
     match place_from(arcs.as_slice(), places, arc.from) {
         Some(place) => {

@@ -115,7 +115,10 @@ fn add_cell_tests(
     inst: &Inst,
     cell: &Cell,
 ) -> Result<(), Memory>
-    ensures { OnOk result (pins.new ≡ pins.old ++ filter_map (λ test. own_number store.now inst.now test.clock) cell.now.tests) }
+    ensures { OnOk result
+        (pins.new
+        ≡ pins.old ++ filter_map (λ test. own_number store.now inst.now test.clock)
+        cell.now.tests) }
 {
     for test in cell.tests.as_slice() {
         let pin = own_number(alloc, store, inst, &test.clock)?;
@@ -221,7 +224,8 @@ pub(crate) struct Reaches {
 fn from_clocks(alloc: Global, store: &Store, links: &[Link]) -> Result<Items<bool>, Memory>
     requires fault { net_fault store.now.design ≡ None }
     requires links { links.now ≡ network_links store.now }
-    ensures { IfOk result (AreReached (length store.now.pins) (network_links store.now) (clock_ports store.now)) }
+    ensures { IfOk result
+        (AreReached (length store.now.pins) (network_links store.now) (clock_ports store.now)) }
 {
     store.laws();
     let ports = clock_ports(alloc, store)?;
@@ -238,7 +242,9 @@ fn to_registers(
     requires fault { net_fault store.now.design ≡ None }
     requires links { links.now ≡ network_links store.now }
     requires arcs { arcs.now ≡ pin_arcs store.now }
-    ensures { IfOk result (AreReached (length store.now.pins) (map turned (network_links store.now)) (clock_pins store.now)) }
+    ensures { IfOk result
+        (AreReached (length store.now.pins) (map turned (network_links store.now))
+        (clock_pins store.now)) }
 {
     store.laws();
     let pins = clock_pins(alloc, store, arcs)?;
@@ -256,8 +262,12 @@ pub(crate) fn reach(
     requires fault { net_fault store.now.design ≡ None }
     requires table { table.now ≡ befores store.now }
     requires arcs { arcs.now ≡ pin_arcs store.now }
-    ensures from { IfOk result (λ reach. AreReached (length store.now.pins) (network_links store.now) (clock_ports store.now) reach.from_clocks) }
-    ensures to { IfOk result (λ reach. AreReached (length store.now.pins) (map turned (network_links store.now)) (clock_pins store.now) reach.to_registers) }
+    ensures from { IfOk result
+        (λ reach. AreReached (length store.now.pins) (network_links store.now)
+        (clock_ports store.now) reach.from_clocks) }
+    ensures to { IfOk result
+        (λ reach. AreReached (length store.now.pins) (map turned (network_links store.now))
+        (clock_pins store.now) reach.to_registers) }
 {
     let links = network_links(alloc, store, table, arcs)?;
     let from_clocks = from_clocks(alloc, store, links.as_slice())?;
@@ -281,7 +291,9 @@ fn both_at(a: &[bool], b: &[bool], at: usize) -> bool
 pub(crate) fn both(alloc: Global, a: &[bool], b: &[bool]) -> Result<CowTable<bool>, Memory>
     requires { length a.now ≡ length b.now }
     ensures count { IfOk result (λ marks. length marks ≡ length a.now) }
-    ensures each { IfOk result (λ marks. (m : ℕ) → m < length a.now → slice_index_or marks m false ≡ (slice_index_or a.now m false && slice_index_or b.now m false)) }
+    ensures each { IfOk result
+        (λ marks. (m : ℕ) → m < length a.now → slice_index_or marks m false
+        ≡ (slice_index_or a.now m false && slice_index_or b.now m false)) }
 {
     let mut marks = CowTable::new(alloc);
     for at in 0..a.len() {

@@ -89,8 +89,10 @@ fn add_cell_arcs(
     library: &[PinArc],
 ) -> Result<(), Memory>
     requires long { length network.now ≤ 2 ^ 31 }
-    requires within { All (λ arc. (arc.from < length network.now) × (arc.to < length network.now)) library.now }
-    ensures { OnOk result (arcs.new ≡ arcs.old ++ filter_map (standing_arc network.now) library.now) }
+    requires within { All (λ arc. (arc.from < length network.now) × (arc.to < length network.now))
+        library.now }
+    ensures { OnOk result
+        (arcs.new ≡ arcs.old ++ filter_map (standing_arc network.now) library.now) }
 {
     for arc in library {
         add_arc(arcs, standing_arc(network, *arc))?;

@@ -54,7 +54,8 @@ impl Rule for NodeLevels<'_> {
 
     ghost count = { λ r. length r.ins.now.later };
 
-    ghost is_ready = { λ r. AreOpposite (length r.ins.now.later) r.ins.now r.outs.now r.pin_levels.now };
+    ghost is_ready = { λ r. AreOpposite (length r.ins.now.later) r.ins.now r.outs.now
+        r.pin_levels.now };
 
     ghost value = { λ r. node_level r.ins.now };
 

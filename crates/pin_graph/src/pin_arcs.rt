@@ -164,7 +164,8 @@ fn add_cell_arcs(
     inst: &Inst,
     cell: &Cell,
 ) -> Result<(), Memory>
-    ensures { OnOk result (arcs.new ≡ arcs.old ++ filter_map (numbered_arc store.now inst.now) cell.now.arcs) }
+    ensures { OnOk result
+        (arcs.new ≡ arcs.old ++ filter_map (numbered_arc store.now inst.now) cell.now.arcs) }
 {
     let pins = first_pins(cell);
     let numbers = own_numbers(alloc, store, inst, pins)?;

@@ -113,7 +113,9 @@ impl Rule for Fed<'_> {
 
     ghost count = { λ r. length r.store.now.pins };
 
-    ghost is_ready = { λ r. (net_fault r.store.now.design ≡ None) × (r.ports.now ≡ clock_ports r.store.now) × (length r.levels.now ≡ length r.store.now.pins) };
+    ghost is_ready = { λ r. (net_fault r.store.now.design ≡ None)
+        × (r.ports.now ≡ clock_ports r.store.now)
+        × (length r.levels.now ≡ length r.store.now.pins) };
 
     ghost value = { λ r. fed_flag r.store.now };
 
@@ -153,7 +155,8 @@ impl Rule for Feeds<'_> {
 
     ghost count = { λ r. length r.store.now.pins };
 
-    ghost is_ready = { λ r. (net_fault r.store.now.design ≡ None) × (length r.levels.now ≡ length r.store.now.pins) };
+    ghost is_ready = { λ r. (net_fault r.store.now.design ≡ None)
+        × (length r.levels.now ≡ length r.store.now.pins) };
 
     ghost value = { λ r. feeds_flag r.store.now };
 

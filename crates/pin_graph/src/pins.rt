@@ -63,10 +63,13 @@ fn network_of(
 ) -> Result<CowTable<bool>, Memory>
     requires fault { net_fault store.now.design ≡ None }
     requires levels { AreLevels (length store.now.pins) (pin_links store.now) levels.now }
-    requires from { AreReached (length store.now.pins) (network_links store.now) (clock_ports store.now) reach.now.from_clocks }
-    requires to { AreReached (length store.now.pins) (map turned (network_links store.now)) (clock_pins store.now) reach.now.to_registers }
+    requires from { AreReached (length store.now.pins) (network_links store.now)
+        (clock_ports store.now) reach.now.from_clocks }
+    requires to { AreReached (length store.now.pins) (map turned (network_links store.now))
+        (clock_pins store.now) reach.now.to_registers }
     ensures network { IfOk result (IsNetwork store.now) }
-    ensures clocked { IfOk result (AreClockMarks store.now reach.now.from_clocks reach.now.to_registers) }
+    ensures clocked { IfOk result
+        (AreClockMarks store.now reach.now.from_clocks reach.now.to_registers) }
 {
     store.laws();
     both(

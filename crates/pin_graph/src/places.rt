@@ -213,7 +213,8 @@ pub(crate) fn places(
     requires ports { All (λ port. port < length network.now) ports.now }
     requires arcs { AreNodes n arcs.now }
     requires levels { length levels.now ≡ n }
-    ensures placed { IfOk result (λ made. ArePlaced n network.now ports.now arcs.now levels.now made.places) }
+    ensures placed { IfOk result
+        (λ made. ArePlaced n network.now ports.now arcs.now levels.now made.places) }
     ensures ordered { IfOk result (λ made. AreInOrder made.places made.order) }
 {
     let marks = clocked(alloc, n, network, ports, arcs)?;

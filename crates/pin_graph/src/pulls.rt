@@ -200,7 +200,9 @@ fn sinks_among(alloc: Global, store: &Store, pins: &[u32]) -> Result<Items<u32>,
 /// The sinks that a pin drives.
 fn sinks_of(alloc: Global, store: &Store, pin: u32) -> Result<Items<u32>, Memory>
     requires { net_fault store.now.design ≡ None }
-    ensures { IfOk result (λ sinks. (sink : ℕ) → list_any (nat_eq sink) sinks ≡ list_any (nat_eq sink) (sinks_of store.now pin)) }
+    ensures { IfOk result
+        (λ sinks. (sink : ℕ) → list_any (nat_eq sink) sinks
+        ≡ list_any (nat_eq sink) (sinks_of store.now pin)) }
 {
     store.laws();
     match driven_net(store, pin) {
@@ -223,7 +225,9 @@ fn add_heads(pins: &mut Items<u32>, arcs: &[PinArc]) -> Result<(), Memory>
 /// net's pins.
 pub(crate) fn pins_behind(alloc: Global, store: &Store, pin: u32) -> Result<Items<u32>, Memory>
     requires { net_fault store.now.design ≡ None }
-    ensures { IfOk result (λ pins. (n : ℕ) → list_any (nat_eq n) pins ≡ list_any (nat_eq n) (pins_behind store.now pin)) }
+    ensures { IfOk result
+        (λ pins. (n : ℕ) → list_any (nat_eq n) pins
+        ≡ list_any (nat_eq n) (pins_behind store.now pin)) }
 {
     let mut pins = sinks_of(alloc, store, pin)?;
     let arcs = arcs_from(alloc, store, pin)?;
@@ -234,7 +238,9 @@ pub(crate) fn pins_behind(alloc: Global, store: &Store, pin: u32) -> Result<Item
 /// The pins to which clocks go from a pin, in no order that is told.
 pub(crate) fn network_heads(alloc: Global, store: &Store, pin: u32) -> Result<Items<u32>, Memory>
     requires { net_fault store.now.design ≡ None }
-    ensures { IfOk result (λ pins. (n : ℕ) → list_any (nat_eq n) pins ≡ list_any (nat_eq n) (network_heads store.now pin)) }
+    ensures { IfOk result
+        (λ pins. (n : ℕ) → list_any (nat_eq n) pins
+        ≡ list_any (nat_eq n) (network_heads store.now pin)) }
 {
     let mut pins = sinks_of(alloc, store, pin)?;
     let arcs = arcs_from(alloc, store, pin)?;

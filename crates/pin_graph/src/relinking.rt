@@ -79,8 +79,10 @@ fn add_standing(
     library: &[PinArc],
 ) -> Result<(), Memory>
     requires long { length network.now ≤ 2 ^ 31 }
-    requires within { All (λ arc. (arc.from < length network.now) × (arc.to < length network.now)) library.now }
-    ensures { OnOk result (arcs.new ≡ arcs.old ++ filter_map (standing_into network.now node) library.now) }
+    requires within { All (λ arc. (arc.from < length network.now) × (arc.to < length network.now))
+        library.now }
+    ensures { OnOk result
+        (arcs.new ≡ arcs.old ++ filter_map (standing_into network.now node) library.now) }
 {
     for arc in library {
         add_arc(arcs, standing_into(network, node, *arc))?;
@@ -100,7 +102,8 @@ fn pulled(
     requires long { length network.now ≤ 2 ^ 31 }
     requires pin { pin < length network.now }
     requires before { IfSome before (λ from. from < length network.now) }
-    requires within { All (λ arc. (arc.from < length network.now) × (arc.to < length network.now)) library.now }
+    requires within { All (λ arc. (arc.from < length network.now) × (arc.to < length network.now))
+        library.now }
     ensures { IfOk result (λ arcs. arcs ≡ pulled network.now before library.now pin tran) }
 {
     let mut arcs = Items::new(alloc);
@@ -111,8 +114,11 @@ fn pulled(
 
 /// The place of an arc from a node.
 fn place_of(arcs: &[GraphArc], from: u32) -> Option<usize>
-    ensures found { IfSome result (λ place. (place < length arcs.now) × ((slice_index_or arcs.now place none_arc).from ≡ from)) }
-    ensures none { result ≡ None → (k : ℕ) → k < length arcs.now → (slice_index_or arcs.now k none_arc).from ≡ from → ⊥ }
+    ensures found { IfSome result
+        (λ place. (place < length arcs.now)
+        × ((slice_index_or arcs.now place none_arc).from ≡ from)) }
+    ensures none { result ≡ None → (k : ℕ) → k < length arcs.now
+        → (slice_index_or arcs.now k none_arc).from ≡ from → ⊥ }
 {
     for (place, arc) in arcs.iter().enumerate() {
         if arc.from == from {
@@ -124,7 +130,9 @@ fn place_of(arcs: &[GraphArc], from: u32) -> Option<usize>
 
 /// Joins an arc to the one from the same node, or adds it.
 fn join_few(arcs: &mut Vec<GraphArc>, arc: GraphArc) -> Result<(), Memory>
-    ensures { OnOk result ((xs : List GraphArc) → AreJoined xs arcs.old.items → AreJoined (xs ++ arc ∷ []) arcs.new.items) }
+    ensures { OnOk result
+        ((xs : List GraphArc) → AreJoined xs arcs.old.items
+        → AreJoined (xs ++ arc ∷ []) arcs.new.items) }
 {
     match place_of(arcs.as_slice(), arc.from) {
         Some(place) => {
@@ -163,7 +171,9 @@ fn without(alloc: Global, arcs: &[GraphArc], node: u32) -> Result<Items<GraphArc
 fn take_out(alloc: Global, outs: &mut Fans, from: u32, node: u32) -> Result<(), Memory>
     requires fans { IsFans (length outs.old.later) outs.old }
     requires from { from < length outs.old.later }
-    ensures { OnOk result (outs.new ≡ with_list outs.old from (filter (leads_elsewhere node) (fan_at outs.old from))) }
+    ensures { OnOk result
+        (outs.new
+        ≡ with_list outs.old from (filter (leads_elsewhere node) (fan_at outs.old from))) }
 {
     let left = without(alloc, outs.at(from), node)?;
     outs.set(alloc, from, left)
@@ -173,7 +183,8 @@ fn take_out(alloc: Global, outs: &mut Fans, from: u32, node: u32) -> Result<(), 
 fn put_out(alloc: Global, outs: &mut Fans, arc: GraphArc) -> Result<(), Memory>
     requires fans { IsFans (length outs.old.later) outs.old }
     requires from { arc.from < length outs.old.later }
-    ensures { OnOk result (outs.new ≡ with_list outs.old arc.from (fan_at outs.old arc.from ++ arc ∷ [])) }
+    ensures { OnOk result
+        (outs.new ≡ with_list outs.old arc.from (fan_at outs.old arc.from ++ arc ∷ [])) }
 {
     let mut arcs = Items::from_slice(alloc, outs.at(arc.from))?;
     arcs.push(arc)?;
@@ -293,7 +304,8 @@ fn relink_node(
     requires both { AreBothFans (node_bound store.now) ins.old outs.old }
     requires library { library.now ≡ arcs_into store.now pin }
     requires pin { pin < length store.now.pins }
-    ensures { OnOk result (IsNodeRelinked store.now network.now (node_number pin tran) ins.old ins.new outs.new) }
+    ensures { OnOk result
+        (IsNodeRelinked store.now network.now (node_number pin tran) ins.old ins.new outs.new) }
 {
     store.laws();
     let _bound = store.pin_bound();

@@ -33,9 +33,12 @@ fn dirty_pins(
     store: &Store,
     touched: &Touched,
 ) -> Result<Items<u32>, Memory>
-    requires made { IsEditOf base.now (record { insts = touched.now.insts; nets = touched.now.nets }) store.now }
+    requires made { IsEditOf base.now
+        (record { insts = touched.now.insts; nets = touched.now.nets }) store.now }
     requires longer { length base.now.pins ≤ length store.now.pins }
-    ensures { IfOk result (AreDirty base.now store.now (record { insts = touched.now.insts; nets = touched.now.nets })) }
+    ensures { IfOk result
+        (AreDirty base.now store.now
+        (record { insts = touched.now.insts; nets = touched.now.nets })) }
 {
     base.laws();
     store.laws();
@@ -65,7 +68,9 @@ fn fans_after(
     requires both { AreBothFans (length tables.now.ins.later) tables.now.ins tables.now.outs }
     requires longer { length tables.now.ins.later ≤ node_bound store.now }
     requires dirty { All (λ pin. pin < length store.now.pins) dirty.now }
-    ensures { IfOk result (λ both. AreRelinked store.now network.now dirty.now (longer tables.now.ins (node_bound store.now)) both.ins both.outs) }
+    ensures { IfOk result
+        (λ both. AreRelinked store.now network.now dirty.now
+        (longer tables.now.ins (node_bound store.now)) both.ins both.outs) }
 {
     store.laws();
     let n = 2 * store.pin_bound();
@@ -89,11 +94,17 @@ fn levels_after(
     pin_levels: &CowTable<u32>,
     dirty: &[u32],
 ) -> Result<Option<CowTable<u32>>, Memory>
-    requires edited { IsEdited base.now store.now (record { insts = touched.now.insts; nets = touched.now.nets }) tables.now }
-    requires dirty { AreDirty base.now store.now (record { insts = touched.now.insts; nets = touched.now.nets }) dirty.now }
-    requires relinked { AreRelinked store.now network.now dirty.now (longer tables.now.ins (node_bound store.now)) both.now.ins both.now.outs }
+    requires edited { IsEdited base.now store.now
+        (record { insts = touched.now.insts; nets = touched.now.nets }) tables.now }
+    requires dirty { AreDirty base.now store.now
+        (record { insts = touched.now.insts; nets = touched.now.nets }) dirty.now }
+    requires relinked { AreRelinked store.now network.now dirty.now
+        (longer tables.now.ins (node_bound store.now)) both.now.ins both.now.outs }
     requires pin_levels { length pin_levels.now ≡ length store.now.pins }
-    ensures { IfOk result (λ ended. IfSome ended (λ levels. IsSettled (node_bound store.now) (node_level both.now.ins) levels (λ a. false))) }
+    ensures { IfOk result
+        (λ ended. IfSome ended
+        (λ levels. IsSettled (node_bound store.now) (node_level both.now.ins) levels
+        (λ a. false))) }
 {
     // The base, what was touched and the network are asked for by the contract alone.
     let _ = base;
@@ -124,11 +135,14 @@ fn nodes_after(
     pin_levels: &CowTable<u32>,
     dirty: &[u32],
 ) -> Result<Option<NodeTables>, Memory>
-    requires edited { IsEdited base.now store.now (record { insts = touched.now.insts; nets = touched.now.nets }) tables.now }
-    requires dirty { AreDirty base.now store.now (record { insts = touched.now.insts; nets = touched.now.nets }) dirty.now }
+    requires edited { IsEdited base.now store.now
+        (record { insts = touched.now.insts; nets = touched.now.nets }) tables.now }
+    requires dirty { AreDirty base.now store.now
+        (record { insts = touched.now.insts; nets = touched.now.nets }) dirty.now }
     requires network { length network.now ≡ length store.now.pins }
     requires pin_levels { length pin_levels.now ≡ length store.now.pins }
-    ensures { IfOk result (λ ended. IfSome ended (AreNodesAfter store.now tables.now network.now dirty.now)) }
+    ensures { IfOk result
+        (λ ended. IfSome ended (AreNodesAfter store.now tables.now network.now dirty.now)) }
 {
     let both = fans_after(alloc, store, network, tables, dirty)?;
     let Some(levels) = levels_after(
@@ -159,10 +173,13 @@ fn tables_after(
     dirty: &[u32],
     pins: PinsAfter,
 ) -> Result<Option<Tables>, Memory>
-    requires edited { IsEdited base.now store.now (record { insts = touched.now.insts; nets = touched.now.nets }) tables.now }
-    requires dirty { AreDirty base.now store.now (record { insts = touched.now.insts; nets = touched.now.nets }) dirty.now }
+    requires edited { IsEdited base.now store.now
+        (record { insts = touched.now.insts; nets = touched.now.nets }) tables.now }
+    requires dirty { AreDirty base.now store.now
+        (record { insts = touched.now.insts; nets = touched.now.nets }) dirty.now }
     requires pins { ArePinsAfter store.now tables.now pins }
-    requires off { (pin : ℕ) → IsTrue (is_noted dirty.now pins pin) → IsOff tables.now.network pins pin }
+    requires off { (pin : ℕ) → IsTrue (is_noted dirty.now pins pin)
+        → IsOff tables.now.network pins pin }
     ensures { IfOk result (λ ended. IfSome ended (IsKept store.now)) }
 {
     let network = network_after(&tables.network, store.pin_bound())?;
@@ -201,7 +218,8 @@ pub(crate) fn replaced(
     tables: &Tables,
 ) -> Result<Option<Tables>, Memory>
     requires kept { IsKept base.now tables.now }
-    requires made { IsEditOf base.now (record { insts = touched.now.insts; nets = touched.now.nets }) store.now }
+    requires made { IsEditOf base.now
+        (record { insts = touched.now.insts; nets = touched.now.nets }) store.now }
     requires fault { net_fault store.now.design ≡ None }
     ensures { IfOk result (λ ended. IfSome ended (IsKept store.now)) }
 {

@@ -35,7 +35,9 @@ pub(crate) fn add_all(numbers: &mut Items<u32>, more: &[u32]) -> Result<(), Memo
 
 /// Adds the pins on a net, where it is there.
 fn add_net_pins(pins: &mut Items<u32>, store: &Store, name: &Name) -> Result<(), Memory>
-    ensures { OnOk result ((pin : ℕ) → list_any (nat_eq pin) pins.new ≡ (list_any (nat_eq pin) pins.old || is_joined_at store.now (name.now ∷ []) pin)) }
+    ensures { OnOk result
+        ((pin : ℕ) → list_any (nat_eq pin) pins.new
+        ≡ (list_any (nat_eq pin) pins.old || is_joined_at store.now (name.now ∷ []) pin)) }
 {
     store.laws();
     match store.net(name) {
@@ -46,7 +48,8 @@ fn add_net_pins(pins: &mut Items<u32>, store: &Store, name: &Name) -> Result<(),
 
 /// The pins on some nets.
 fn nets_pins(alloc: Global, store: &Store, names: &[Name]) -> Result<Items<u32>, Memory>
-    ensures { IfOk result (λ pins. (pin : ℕ) → list_any (nat_eq pin) pins ≡ is_joined_at store.now names.now pin) }
+    ensures { IfOk result
+        (λ pins. (pin : ℕ) → list_any (nat_eq pin) pins ≡ is_joined_at store.now names.now pin) }
 {
     let mut pins = Items::new(alloc);
     for name in names {
@@ -64,7 +67,9 @@ fn add_own_pins(
     inst: &Inst,
     cell: &Cell,
 ) -> Result<(), Memory>
-    ensures { OnOk result (pins.new ≡ pins.old ++ filter_map (λ pin. own_number store.now inst.now pin.name) cell.now.pins) }
+    ensures { OnOk result
+        (pins.new
+        ≡ pins.old ++ filter_map (λ pin. own_number store.now inst.now pin.name) cell.now.pins) }
 {
     for pin in cell.pins.as_slice() {
         let number = own_number(alloc, store, inst, &pin.name)?;
@@ -80,7 +85,9 @@ fn add_inst_pins(
     store: &Store,
     name: &Name,
 ) -> Result<(), Memory>
-    ensures { OnOk result ((pin : ℕ) → list_any (nat_eq pin) pins.new ≡ (list_any (nat_eq pin) pins.old || is_owned_at store.now (name.now ∷ []) pin)) }
+    ensures { OnOk result
+        ((pin : ℕ) → list_any (nat_eq pin) pins.new
+        ≡ (list_any (nat_eq pin) pins.old || is_owned_at store.now (name.now ∷ []) pin)) }
 {
     store.laws();
     match store.inst(name) {
@@ -99,7 +106,9 @@ fn add_insts_pins(
     store: &Store,
     names: &[Name],
 ) -> Result<(), Memory>
-    ensures { OnOk result ((pin : ℕ) → list_any (nat_eq pin) pins.new ≡ (list_any (nat_eq pin) pins.old || is_owned_at store.now names.now pin)) }
+    ensures { OnOk result
+        ((pin : ℕ) → list_any (nat_eq pin) pins.new
+        ≡ (list_any (nat_eq pin) pins.old || is_owned_at store.now names.now pin)) }
 {
     for name in names {
         add_inst_pins(alloc, pins, store, name)?;
@@ -113,7 +122,10 @@ pub(crate) fn touched_pins(
     store: &Store,
     touched: &Touched,
 ) -> Result<Items<u32>, Memory>
-    ensures each { IfOk result (λ pins. (pin : ℕ) → list_any (nat_eq pin) pins ≡ is_touched_at store.now (record { insts = touched.now.insts; nets = touched.now.nets }) pin) }
+    ensures each { IfOk result
+        (λ pins. (pin : ℕ) → list_any (nat_eq pin) pins
+        ≡ is_touched_at store.now (record { insts = touched.now.insts; nets = touched.now.nets })
+        pin) }
     ensures below { IfOk result (λ pins. All (λ pin. pin < 2 ^ 31) pins) }
 {
     store.laws();
@@ -227,7 +239,10 @@ fn turned_at(base: &Graph, graph: &Graph, node: u32) -> Option<u32>
 /// The nodes that are turned. Goes over all nodes and arcs.
 #[tactic(auto, using(crate::proofs::ArcLaws::mapped_numbers_more))]
 fn turned_nodes(alloc: Global, base: &Graph, graph: &Graph) -> Result<Items<u32>, Memory>
-    ensures { IfOk result (λ nodes. nodes ≡ filter_map (turned_at base.now graph.now) (range_with_len 0 (node_bound graph.now.stored))) }
+    ensures { IfOk result
+        (λ nodes. nodes
+        ≡ filter_map (turned_at base.now graph.now)
+        (range_with_len 0 (node_bound graph.now.stored))) }
 {
     let mut nodes = Items::new(alloc);
     for node in 0..graph.count() {
@@ -258,9 +273,14 @@ fn leaves_marks(
     touched: &Touched,
     pins: &[u32],
 ) -> Result<bool, Memory>
-    requires made { IsEditOf base.now.stored (record { insts = touched.now.insts; nets = touched.now.nets }) graph.now.stored }
-    requires pins { (pin : ℕ) → list_any (nat_eq pin) pins.now ≡ is_touched_at graph.now.stored (record { insts = touched.now.insts; nets = touched.now.nets }) pin }
-    ensures { IfOk result (λ left. IsTrue left → (pin : ℕ) → marked graph.now.network pin ≡ marked base.now.network pin) }
+    requires made { IsEditOf base.now.stored
+        (record { insts = touched.now.insts; nets = touched.now.nets }) graph.now.stored }
+    requires pins { (pin : ℕ) → list_any (nat_eq pin) pins.now
+        ≡ is_touched_at graph.now.stored
+        (record { insts = touched.now.insts; nets = touched.now.nets }) pin }
+    ensures { IfOk result
+        (λ left. IsTrue left → (pin : ℕ) → marked graph.now.network pin
+        ≡ marked base.now.network pin) }
 {
     base.kept();
     graph.kept();
@@ -280,9 +300,17 @@ fn leaves_nodes(
     touched: &Touched,
     pins: &[u32],
 ) -> Result<bool, Memory>
-    requires made { IsEditOf base.now.stored (record { insts = touched.now.insts; nets = touched.now.nets }) graph.now.stored }
-    requires pins { (pin : ℕ) → list_any (nat_eq pin) pins.now ≡ is_touched_at graph.now.stored (record { insts = touched.now.insts; nets = touched.now.nets }) pin }
-    ensures { IfOk result (λ left. IsTrue left → (node : ℕ) → is_moved base.now graph.now (record { insts = touched.now.insts; nets = touched.now.nets }) node ≡ is_touched_at graph.now.stored (record { insts = touched.now.insts; nets = touched.now.nets }) (pin_under node)) }
+    requires made { IsEditOf base.now.stored
+        (record { insts = touched.now.insts; nets = touched.now.nets }) graph.now.stored }
+    requires pins { (pin : ℕ) → list_any (nat_eq pin) pins.now
+        ≡ is_touched_at graph.now.stored
+        (record { insts = touched.now.insts; nets = touched.now.nets }) pin }
+    ensures { IfOk result
+        (λ left. IsTrue left → (node : ℕ)
+        → is_moved base.now graph.now
+        (record { insts = touched.now.insts; nets = touched.now.nets }) node
+        ≡ is_touched_at graph.now.stored
+        (record { insts = touched.now.insts; nets = touched.now.nets }) (pin_under node)) }
 {
     base.kept();
     graph.kept();
@@ -301,9 +329,19 @@ fn changed_nodes(
     touched: &Touched,
     pins: &[u32],
 ) -> Result<Items<u32>, Memory>
-    requires made { IsEditOf base.now.stored (record { insts = touched.now.insts; nets = touched.now.nets }) graph.now.stored }
-    requires pins { (pin : ℕ) → list_any (nat_eq pin) pins.now ≡ is_touched_at graph.now.stored (record { insts = touched.now.insts; nets = touched.now.nets }) pin }
-    ensures { IfOk result (λ nodes. (node : ℕ) → (is_touched_at graph.now.stored (record { insts = touched.now.insts; nets = touched.now.nets }) (pin_under node) || list_any (nat_eq node) nodes) ≡ is_moved base.now graph.now (record { insts = touched.now.insts; nets = touched.now.nets }) node) }
+    requires made { IsEditOf base.now.stored
+        (record { insts = touched.now.insts; nets = touched.now.nets }) graph.now.stored }
+    requires pins { (pin : ℕ) → list_any (nat_eq pin) pins.now
+        ≡ is_touched_at graph.now.stored
+        (record { insts = touched.now.insts; nets = touched.now.nets }) pin }
+    ensures { IfOk result
+        (λ nodes. (node : ℕ)
+        →
+        (is_touched_at graph.now.stored
+        (record { insts = touched.now.insts; nets = touched.now.nets }) (pin_under node) || list_any
+        (nat_eq node) nodes)
+        ≡ is_moved base.now graph.now
+        (record { insts = touched.now.insts; nets = touched.now.nets }) node) }
 {
     base.kept();
     graph.kept();
@@ -331,8 +369,12 @@ fn found_nodes(
     graph: &Graph,
     touched: &Touched,
 ) -> Result<Items<u32>, Memory>
-    requires { IsEditOf base.now.stored (record { insts = touched.now.insts; nets = touched.now.nets }) graph.now.stored }
-    ensures { IfOk result (λ nodes. (node : ℕ) → list_any (nat_eq node) nodes ≡ is_moved base.now graph.now (record { insts = touched.now.insts; nets = touched.now.nets }) node) }
+    requires { IsEditOf base.now.stored
+        (record { insts = touched.now.insts; nets = touched.now.nets }) graph.now.stored }
+    ensures { IfOk result
+        (λ nodes. (node : ℕ) → list_any (nat_eq node) nodes
+        ≡ is_moved base.now graph.now
+        (record { insts = touched.now.insts; nets = touched.now.nets }) node) }
 {
     let pins = touched_pins(alloc, graph.store(), touched)?;
     let mut nodes = nodes_of(alloc, pins.as_slice())?;
@@ -351,8 +393,11 @@ pub fn seeds(
     graph: &Graph,
     touched: &Touched,
 ) -> Result<Items<u32>, Memory>
-    requires { IsEditOf base.now.stored (record { insts = touched.now.insts; nets = touched.now.nets }) graph.now.stored }
-    ensures { IfOk result (AreSeeds base.now.stored graph.now.stored (record { insts = touched.now.insts; nets = touched.now.nets })) }
+    requires { IsEditOf base.now.stored
+        (record { insts = touched.now.insts; nets = touched.now.nets }) graph.now.stored }
+    ensures { IfOk result
+        (AreSeeds base.now.stored graph.now.stored
+        (record { insts = touched.now.insts; nets = touched.now.nets })) }
 {
     base.kept();
     graph.kept();
@@ -386,8 +431,11 @@ pub(crate) fn gone(
     store: &Store,
     touched: &Touched,
 ) -> Result<Items<u32>, Memory>
-    requires { IsEditOf base.now (record { insts = touched.now.insts; nets = touched.now.nets }) store.now }
-    ensures { IfOk result (λ gone. (pin : ℕ) → list_any (nat_eq pin) gone ≡ (is_number base.now.pins pin && not (is_number store.now.pins pin))) }
+    requires { IsEditOf base.now (record { insts = touched.now.insts; nets = touched.now.nets })
+        store.now }
+    ensures { IfOk result
+        (λ gone. (pin : ℕ) → list_any (nat_eq pin) gone
+        ≡ (is_number base.now.pins pin && not (is_number store.now.pins pin))) }
 {
     base.laws();
     store.laws();
@@ -404,8 +452,11 @@ pub fn gone_pins(
     graph: &Graph,
     touched: &Touched,
 ) -> Result<Items<u32>, Memory>
-    requires { IsEditOf base.now.stored (record { insts = touched.now.insts; nets = touched.now.nets }) graph.now.stored }
-    ensures { IfOk result (λ gone. (pin : ℕ) → list_any (nat_eq pin) gone ≡ (is_number base.now.stored.pins pin && not (is_number graph.now.stored.pins pin))) }
+    requires { IsEditOf base.now.stored
+        (record { insts = touched.now.insts; nets = touched.now.nets }) graph.now.stored }
+    ensures { IfOk result
+        (λ gone. (pin : ℕ) → list_any (nat_eq pin) gone
+        ≡ (is_number base.now.stored.pins pin && not (is_number graph.now.stored.pins pin))) }
 {
     gone(alloc, base.store(), graph.store(), touched)
 }

@@ -139,7 +139,20 @@ pub(crate) fn pin_tables(alloc: Global, pins: &PinGraph) -> Result<PinTables, Me
 
 /// The tables of pins and nodes.
 pub(crate) fn tables_of(pins: PinTables, nodes: NodeTables) -> Tables
-    ensures { result ≡ record { ins = nodes.ins; outs = nodes.outs; network = pins.network; fed = pins.fed; feeds = pins.feeds; pin_levels = pins.levels; levels = nodes.levels; places = nodes.places; order = nodes.order } }
+    ensures { result
+        ≡ record {
+          ins = nodes.ins;
+          outs = nodes.outs;
+          network = pins.network;
+          fed = pins.fed;
+          feeds =
+              pins.feeds;
+          pin_levels = pins.levels;
+          levels = nodes.levels;
+          places = nodes.places;
+          order =
+              nodes.order;
+        } }
 {
     Tables {
         ins: nodes.ins,

@@ -81,7 +81,8 @@ fn pins_apart(
     network: &CowTable<bool>,
     arcs: &[PinArc],
 ) -> Result<Items<u32>, Memory>
-    requires { All (λ arc. (arc.from < length network.now) × (arc.to < length network.now)) arcs.now }
+    requires { All (λ arc. (arc.from < length network.now) × (arc.to < length network.now))
+        arcs.now }
     ensures { IfOk result (AreAllApart network.now arcs.now) }
 {
     let mut entries = vec![in alloc; None; network.len()]?;

@@ -65,8 +65,10 @@ pub(crate) fn settled_again<R: Rule>(
     requires count { n ≡ R.count rule.now }
     requires few { length base.now ≤ R.count rule.now }
     requires wrong { All (λ a. a < R.count rule.now) wrong.now }
-    requires settled { (t : List ℕ) → IsLonger (R.count rule.now) base.now t → IsSettled (R.count rule.now) (R.value rule.now) t (is_among wrong.now) }
-    ensures { IfOk result (λ ended. IfSome ended (AreResettled (R.count rule.now) (R.value rule.now) base.now)) }
+    requires settled { (t : List ℕ) → IsLonger (R.count rule.now) base.now t
+        → IsSettled (R.count rule.now) (R.value rule.now) t (is_among wrong.now) }
+    ensures { IfOk result
+        (λ ended. IfSome ended (AreResettled (R.count rule.now) (R.value rule.now) base.now)) }
 {
     let mut values = lengthened(base, n)?;
     match settle(alloc, rule, &mut values, wrong)? {
@@ -85,9 +87,12 @@ fn pin_levels_after(
     tables: &Tables,
     dirty: &[u32],
 ) -> Result<Option<CowTable<u32>>, Memory>
-    requires edited { IsEdited base.now store.now (record { insts = touched.now.insts; nets = touched.now.nets }) tables.now }
-    requires dirty { AreDirty base.now store.now (record { insts = touched.now.insts; nets = touched.now.nets }) dirty.now }
-    ensures { IfOk result (λ ended. IfSome ended (AreLevels (length store.now.pins) (pin_links store.now))) }
+    requires edited { IsEdited base.now store.now
+        (record { insts = touched.now.insts; nets = touched.now.nets }) tables.now }
+    requires dirty { AreDirty base.now store.now
+        (record { insts = touched.now.insts; nets = touched.now.nets }) dirty.now }
+    ensures { IfOk result
+        (λ ended. IfSome ended (AreLevels (length store.now.pins) (pin_links store.now))) }
 {
     // The base and what was touched are asked for by the contract alone.
     let _ = base;
@@ -110,10 +115,16 @@ fn fed_after(
     levels: &CowTable<u32>,
     dirty: &[u32],
 ) -> Result<Option<Resettled>, Memory>
-    requires edited { IsEdited base.now store.now (record { insts = touched.now.insts; nets = touched.now.nets }) tables.now }
-    requires dirty { AreDirty base.now store.now (record { insts = touched.now.insts; nets = touched.now.nets }) dirty.now }
+    requires edited { IsEdited base.now store.now
+        (record { insts = touched.now.insts; nets = touched.now.nets }) tables.now }
+    requires dirty { AreDirty base.now store.now
+        (record { insts = touched.now.insts; nets = touched.now.nets }) dirty.now }
     requires levels { length levels.now ≡ length store.now.pins }
-    ensures { IfOk result (λ ended. IfSome ended (AreFlagged (length store.now.pins) (AreReached (length store.now.pins) (network_links store.now) (clock_ports store.now)) tables.now.fed)) }
+    ensures { IfOk result
+        (λ ended. IfSome ended
+        (AreFlagged (length store.now.pins)
+        (AreReached (length store.now.pins) (network_links store.now) (clock_ports store.now))
+        tables.now.fed)) }
 {
     let _ = base;
     let _ = touched;
@@ -137,10 +148,16 @@ fn feeds_after(
     levels: &CowTable<u32>,
     dirty: &[u32],
 ) -> Result<Option<Resettled>, Memory>
-    requires edited { IsEdited base.now store.now (record { insts = touched.now.insts; nets = touched.now.nets }) tables.now }
-    requires dirty { AreDirty base.now store.now (record { insts = touched.now.insts; nets = touched.now.nets }) dirty.now }
+    requires edited { IsEdited base.now store.now
+        (record { insts = touched.now.insts; nets = touched.now.nets }) tables.now }
+    requires dirty { AreDirty base.now store.now
+        (record { insts = touched.now.insts; nets = touched.now.nets }) dirty.now }
     requires levels { length levels.now ≡ length store.now.pins }
-    ensures { IfOk result (λ ended. IfSome ended (AreFlagged (length store.now.pins) (AreReached (length store.now.pins) (map turned (network_links store.now)) (clock_pins store.now)) tables.now.feeds)) }
+    ensures { IfOk result
+        (λ ended. IfSome ended
+        (AreFlagged (length store.now.pins)
+        (AreReached (length store.now.pins) (map turned (network_links store.now))
+        (clock_pins store.now)) tables.now.feeds)) }
 {
     let _ = base;
     let _ = touched;
@@ -157,8 +174,10 @@ pub(crate) fn pins_after(
     tables: &Tables,
     dirty: &[u32],
 ) -> Result<Option<PinsAfter>, Memory>
-    requires edited { IsEdited base.now store.now (record { insts = touched.now.insts; nets = touched.now.nets }) tables.now }
-    requires dirty { AreDirty base.now store.now (record { insts = touched.now.insts; nets = touched.now.nets }) dirty.now }
+    requires edited { IsEdited base.now store.now
+        (record { insts = touched.now.insts; nets = touched.now.nets }) tables.now }
+    requires dirty { AreDirty base.now store.now
+        (record { insts = touched.now.insts; nets = touched.now.nets }) dirty.now }
     ensures { IfOk result (λ ended. IfSome ended (ArePinsAfter store.now tables.now)) }
 {
     let Some(levels) = pin_levels_after(alloc, base, store, touched, tables, dirty)? else {
@@ -220,7 +239,8 @@ pub(crate) fn leaves_network(
 ) -> bool
     requires pins { ArePinsAfter store.now tables.now pins.now }
     requires dirty { All (λ pin. pin < length store.now.pins) dirty.now }
-    ensures { IsTrue result → (pin : ℕ) → IsTrue (is_noted dirty.now pins.now pin) → IsOff tables.now.network pins.now pin }
+    ensures { IsTrue result → (pin : ℕ) → IsTrue (is_noted dirty.now pins.now pin)
+        → IsOff tables.now.network pins.now pin }
 {
     // The store is asked for by the contract alone.
     let _ = store;
@@ -257,7 +277,8 @@ pub(crate) fn places_after(
 ) -> Result<CowTable<Option<u32>>, Memory>
     requires { length places.now ≤ n }
     ensures count { IfOk result (λ longer. length longer ≡ n) }
-    ensures same { IfOk result (λ longer. (x : ℕ) → slice_index_or longer x None ≡ slice_index_or places.now x None) }
+    ensures same { IfOk result
+        (λ longer. (x : ℕ) → slice_index_or longer x None ≡ slice_index_or places.now x None) }
 {
     let mut longer = places.copy()?;
     for at in longer.len()..n as usize {

@@ -221,8 +221,13 @@ fn branch_at<O: WalkOrder>(
     requires tables { AreTables (O.rank order.now) cone.now tables.now }
     requires end { stem.end < length cone.now.ends }
     requires node { stem.node < count_of cone.now }
-    requires fits { IsFine stem.room (best_free (O.rank order.now) (rows_at tables.now stem.end) barred None (outs_in tables.now.outs stem.node)) }
-    ensures { result ≡ branch_by stem.end stem.launch stem.source stem.kept stem.room barred (best_free (O.rank order.now) (rows_at tables.now stem.end) barred None (outs_in tables.now.outs stem.node)) }
+    requires fits { IsFine stem.room
+        (best_free (O.rank order.now) (rows_at tables.now stem.end) barred None
+        (outs_in tables.now.outs stem.node)) }
+    ensures { result
+        ≡ branch_by stem.end stem.launch stem.source stem.kept stem.room barred
+        (best_free (O.rank order.now) (rows_at tables.now stem.end) barred None
+        (outs_in tables.now.outs stem.node)) }
 {
     let rows = tables.rows_of(stem.end);
     let entry = best_free(order, rows, barred.as_slice(), tables.outs_of(stem.node));
@@ -264,7 +269,8 @@ pub(crate) fn part_of<O: WalkOrder>(
     requires order { count_of cone.now ≤ O.count order.now }
     requires tables { AreTables (O.rank order.now) cone.now tables.now }
     requires fit { IsFit (O.rank order.now) cone.now tables.now walk.now last }
-    ensures { IfOk result (λ made. made ≡ part_by (O.rank order.now) tables.now walk.now source last) }
+    ensures { IfOk result
+        (λ made. made ≡ part_by (O.rank order.now) tables.now walk.now source last) }
 {
     let nodes = walk.nodes.as_slice();
     let node = nodes[last];
@@ -293,7 +299,9 @@ pub(crate) fn again_of<O: WalkOrder>(
     requires order { count_of cone.now ≤ O.count order.now }
     requires tables { AreTables (O.rank order.now) cone.now tables.now }
     requires fit { IsAgainFit (O.rank order.now) cone.now tables.now walk.now branch branch.kept }
-    ensures { IfOk result (λ made. made ≡ again_kept (O.rank order.now) tables.now walk.now source branch branch.kept) }
+    ensures { IfOk result
+        (λ made. made
+        ≡ again_kept (O.rank order.now) tables.now walk.now source branch branch.kept) }
 {
     if branch.kept == 0 {
         return Ok(None);

@@ -28,7 +28,8 @@ fn no_outs(alloc: Global, count: usize) -> Result<Vec<OutArcs>, Memory>
 /// Adds an arc to those out of a node.
 fn add_out(outs: &mut Vec<OutArcs>, from: u32, arc: OutArc) -> Result<(), Memory>
     requires { from < length outs.old.items }
-    ensures { OnOk result (outs.new.items ≡ slice_set outs.old.items from (outs_in outs.old.items from ++ arc ∷ [])) }
+    ensures { OnOk result
+        (outs.new.items ≡ slice_set outs.old.items from (outs_in outs.old.items from ++ arc ∷ [])) }
 {
     outs[from as usize].push(arc)
 }

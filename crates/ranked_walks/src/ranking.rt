@@ -26,7 +26,9 @@ fn give<O: WalkOrder>(
     requires order { IsOrdered cone.now (O.count order.now) (O.rank order.now) }
     requires tables { AreTables (O.rank order.now) cone.now tables.now }
     requires none { given.old ≡ [] }
-    ensures { OnOk result (AreFirst (comes_before (O.rank order.now) (O.before order.now)) count (IsWalk cone.now) given.new) }
+    ensures { OnOk result
+        (AreFirst (comes_before (O.rank order.now) (O.before order.now)) count (IsWalk cone.now)
+        given.new) }
 {
     let mut branches = Vec::new(alloc);
     start(alloc, cone, order, tables, &mut branches)?;
@@ -49,7 +51,8 @@ pub fn ranked_walks<O: WalkOrder>(
 ) -> Result<Items<Walk>, Memory>
     requires cone { IsCone cone.now }
     requires order { IsOrdered cone.now (O.count order.now) (O.rank order.now) }
-    ensures { IfOk result (AreFirst (comes_before (O.rank order.now) (O.before order.now)) count (IsWalk cone.now)) }
+    ensures { IfOk result
+        (AreFirst (comes_before (O.rank order.now) (O.before order.now)) count (IsWalk cone.now)) }
 {
     let tables = tables_of(alloc, cone, order)?;
     let mut given = Items::new(alloc);

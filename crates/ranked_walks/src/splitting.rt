@@ -25,8 +25,11 @@ pub(crate) fn split<O: WalkOrder>(
     requires cone { IsCone cone.now }
     requires order { IsOrdered cone.now (O.count order.now) (O.rank order.now) }
     requires tables { AreTables (O.rank order.now) cone.now tables.now }
-    requires taken { IsTaken (O.rank order.now) (O.before order.now) cone.now tables.now given.now branches.old.items branch walk.now }
-    ensures { OnOk result (IsSearched (O.rank order.now) (O.before order.now) cone.now tables.now (given.now ++ walk.now ∷ []) branches.new.items Nothing) }
+    requires taken { IsTaken (O.rank order.now) (O.before order.now) cone.now tables.now given.now
+        branches.old.items branch walk.now }
+    ensures { OnOk result
+        (IsSearched (O.rank order.now) (O.before order.now) cone.now tables.now
+        (given.now ++ walk.now ∷ []) branches.new.items Nothing) }
 {
     let kept = branch.kept;
     let made = again_of(cone, order, tables, walk, given.len(), branch)?;

@@ -69,8 +69,11 @@ fn start_at<O: WalkOrder>(
     requires tables { AreTables (O.rank order.now) cone.now tables.now }
     requires there { slice_get cone.now.ends place ≡ Some end.now }
     requires end { IsEnd cone.now end.now }
-    requires searched { IsSearched (O.rank order.now) (O.before order.now) cone.now tables.now [] branches.old.items (WaitsFrom cone.now place 0) }
-    ensures { OnOk result (IsSearched (O.rank order.now) (O.before order.now) cone.now tables.now [] branches.new.items (WaitsFrom cone.now (place + 1) 0)) }
+    requires searched { IsSearched (O.rank order.now) (O.before order.now) cone.now tables.now []
+        branches.old.items (WaitsFrom cone.now place 0) }
+    ensures { OnOk result
+        (IsSearched (O.rank order.now) (O.before order.now) cone.now tables.now []
+        branches.new.items (WaitsFrom cone.now (place + 1) 0)) }
 {
     let _ = order;
     for launch in 0..end.launches.len() {
@@ -98,7 +101,9 @@ pub(crate) fn start<O: WalkOrder>(
     requires order { IsOrdered cone.now (O.count order.now) (O.rank order.now) }
     requires tables { AreTables (O.rank order.now) cone.now tables.now }
     requires none { branches.old.items ≡ [] }
-    ensures { OnOk result (IsSearched (O.rank order.now) (O.before order.now) cone.now tables.now [] branches.new.items Nothing) }
+    ensures { OnOk result
+        (IsSearched (O.rank order.now) (O.before order.now) cone.now tables.now []
+        branches.new.items Nothing) }
 {
     for place in 0..cone.ends.len() {
         start_at(

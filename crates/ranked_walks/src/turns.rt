@@ -25,9 +25,12 @@ pub(crate) fn turn<O: WalkOrder>(
     requires cone { IsCone cone.now }
     requires order { IsOrdered cone.now (O.count order.now) (O.rank order.now) }
     requires tables { AreTables (O.rank order.now) cone.now tables.now }
-    requires searched { IsSearched (O.rank order.now) (O.before order.now) cone.now tables.now given.old branches.old.items Nothing }
+    requires searched { IsSearched (O.rank order.now) (O.before order.now) cone.now tables.now
+        given.old branches.old.items Nothing }
     requires some { 0 < length branches.old.items }
-    ensures searched { OnOk result (IsSearched (O.rank order.now) (O.before order.now) cone.now tables.now given.new branches.new.items Nothing) }
+    ensures searched { OnOk result
+        (IsSearched (O.rank order.now) (O.before order.now) cone.now tables.now given.new
+        branches.new.items Nothing) }
     ensures more { OnOk result (length given.new ≡ length given.old + 1) }
 {
     let at = first_open(

@@ -54,7 +54,8 @@ pub(crate) fn walk_of<O: WalkOrder>(
 ) -> Result<Walk, Memory>
     requires cone { IsCone cone.now }
     requires tables { AreTables (O.rank order.now) cone.now tables.now }
-    requires open { IsOpen (O.rank order.now) (O.before order.now) cone.now tables.now given.now branch.now }
+    requires open { IsOpen (O.rank order.now) (O.before order.now) cone.now tables.now given.now
+        branch.now }
     ensures { IfOk result (IsWalkOf cone.now tables.now given.now branch.now) }
 {
     let _ = order;
@@ -84,9 +85,13 @@ fn precedes<O: WalkOrder>(
     requires cone { IsCone cone.now }
     requires order { count_of cone.now ≤ O.count order.now }
     requires tables { AreTables (O.rank order.now) cone.now tables.now }
-    requires one { IsOpen (O.rank order.now) (O.before order.now) cone.now tables.now given.now one.now }
-    requires other { IsOpen (O.rank order.now) (O.before order.now) cone.now tables.now given.now other.now }
-    ensures { IfOk result (IsTold (O.rank order.now) (O.before order.now) cone.now tables.now given.now one.now other.now) }
+    requires one { IsOpen (O.rank order.now) (O.before order.now) cone.now tables.now given.now
+        one.now }
+    requires other { IsOpen (O.rank order.now) (O.before order.now) cone.now tables.now given.now
+        other.now }
+    ensures { IfOk result
+        (IsTold (O.rank order.now) (O.before order.now) cone.now tables.now given.now one.now
+        other.now) }
 {
     if one.slack != other.slack {
         return Ok(one.slack < other.slack);
@@ -118,9 +123,13 @@ fn is_ahead<O: WalkOrder>(
     requires cone { IsCone cone.now }
     requires order { count_of cone.now ≤ O.count order.now }
     requires tables { AreTables (O.rank order.now) cone.now tables.now }
-    requires one { IsOpen (O.rank order.now) (O.before order.now) cone.now tables.now given.now one.now }
-    requires other { IsOpen (O.rank order.now) (O.before order.now) cone.now tables.now given.now other.now }
-    ensures { IfOk result (IsTold (O.rank order.now) (O.before order.now) cone.now tables.now given.now one.now other.now) }
+    requires one { IsOpen (O.rank order.now) (O.before order.now) cone.now tables.now given.now
+        one.now }
+    requires other { IsOpen (O.rank order.now) (O.before order.now) cone.now tables.now given.now
+        other.now }
+    ensures { IfOk result
+        (IsTold (O.rank order.now) (O.before order.now) cone.now tables.now given.now one.now
+        other.now) }
 {
     if is_behind(one, other) {
         return Ok(false);
@@ -149,9 +158,13 @@ pub(crate) fn first_open<O: WalkOrder>(
     requires cone { IsCone cone.now }
     requires order { count_of cone.now ≤ O.count order.now }
     requires tables { AreTables (O.rank order.now) cone.now tables.now }
-    requires each { AllByRecursion (IsOpen (O.rank order.now) (O.before order.now) cone.now tables.now given.now) branches.now }
+    requires each { AllByRecursion
+        (IsOpen (O.rank order.now) (O.before order.now) cone.now tables.now given.now)
+        branches.now }
     requires some { 0 < length branches.now }
-    ensures { IfOk result (IsFront (O.rank order.now) (O.before order.now) cone.now tables.now given.now branches.now (length branches.now)) }
+    ensures { IfOk result
+        (IsFront (O.rank order.now) (O.before order.now) cone.now tables.now given.now branches.now
+        (length branches.now)) }
 {
     let mut at = 0;
     for place in 1..branches.len() {

@@ -43,7 +43,9 @@ struct Step {
 fn push(forest: Forest, row: Row) -> Result<Forest, RcFault>
     requires { row.node < length forest.places.items }
     ensures rows { IfOk result (λ more. more.rows.items ≡ forest.rows.items ++ row ∷ []) }
-    ensures places { IfOk result (λ more. more.places.items ≡ set forest.places.items row.node (Some (length forest.rows.items))) }
+    ensures places { IfOk result
+        (λ more. more.places.items
+        ≡ set forest.places.items row.node (Some (length forest.rows.items))) }
     ensures err { IfErr result (λ fault. fault ≡ memory) }
 {
     let Forest {
@@ -97,7 +99,10 @@ fn is_used_at(forest: &Forest, index: usize, place: usize) -> bool
 fn is_used(forest: &Forest, index: usize, one: usize, other: usize) -> bool
     requires one { one < length forest.now.rows.items }
     requires other { other < length forest.now.rows.items }
-    ensures { result ≡ (is_used_at forest.now.rows.items index one || is_used_at forest.now.rows.items index other) }
+    ensures { result
+        ≡
+        (is_used_at forest.now.rows.items index one || is_used_at forest.now.rows.items index
+        other) }
 {
     is_used_at(forest, index, one) || is_used_at(forest, index, other)
 }
@@ -120,10 +125,13 @@ fn extend(forest: Forest, segments: &[Segment], step: Step) -> Result<Forest, Rc
     requires part { IsPart segments.now (length forest.places.items) step.place step.home forest }
     requires place { step.place < length forest.rows.items }
     requires index { step.index < length segments.now }
-    requires ends { Links (segment_at segments.now step.index) step.far (row_at forest.rows.items step.place).node }
+    requires ends { Links (segment_at segments.now step.index) step.far
+        (row_at forest.rows.items step.place).node }
     requires far { step.far < length forest.places.items }
     requires free { place_of forest step.far ≡ None }
-    ensures grown { IfOk result (λ more. IsGrownBy segments.now (length forest.places.items) step.place step.home forest more × IsUsed more.rows.items step.index) }
+    ensures grown { IfOk result
+        (λ more. IsGrownBy segments.now (length forest.places.items) step.place step.home forest
+        more × IsUsed more.rows.items step.index) }
     ensures err { IfErr result (λ fault. fault ≡ memory) }
 {
     let row = Row {
@@ -148,9 +156,12 @@ fn come_back(
     requires part { IsPart segments.now (length forest.places.items) step.place step.home forest }
     requires place { step.place < length forest.rows.items }
     requires index { step.index < length segments.now }
-    requires ends { Links (segment_at segments.now step.index) step.far (row_at forest.rows.items step.place).node }
+    requires ends { Links (segment_at segments.now step.index) step.far
+        (row_at forest.rows.items step.place).node }
     requires there { place_of forest step.far ≡ Some there }
-    ensures grown { IfOk result (λ more. IsGrownBy segments.now (length forest.places.items) step.place step.home forest more × IsUsed more.rows.items step.index) }
+    ensures grown { IfOk result
+        (λ more. IsGrownBy segments.now (length forest.places.items) step.place step.home forest
+        more × IsUsed more.rows.items step.index) }
     ensures looped { IfErr result (IsLoopOf segments.now (length forest.places.items)) }
 {
     if is_used(&forest, step.index, step.place, there) {
@@ -164,9 +175,12 @@ fn reach(forest: Forest, segments: &[Segment], step: Step) -> Result<Forest, RcF
     requires part { IsPart segments.now (length forest.places.items) step.place step.home forest }
     requires place { step.place < length forest.rows.items }
     requires index { step.index < length segments.now }
-    requires ends { Links (segment_at segments.now step.index) step.far (row_at forest.rows.items step.place).node }
+    requires ends { Links (segment_at segments.now step.index) step.far
+        (row_at forest.rows.items step.place).node }
     requires far { step.far < length forest.places.items }
-    ensures grown { IfOk result (λ more. IsGrownBy segments.now (length forest.places.items) step.place step.home forest more × IsUsed more.rows.items step.index) }
+    ensures grown { IfOk result
+        (λ more. IsGrownBy segments.now (length forest.places.items) step.place step.home forest
+        more × IsUsed more.rows.items step.index) }
     ensures looped { IfErr result (IsLoopOf segments.now (length forest.places.items)) }
 {
     match place_of(&forest, step.far) {
@@ -187,7 +201,8 @@ fn visit(
     requires place { place < length forest.rows.items }
     requires index { index < length segments.now }
     requires ready { IsReady segments.now (length forest.places.items) }
-    ensures visited { IfOk result (λ more. IsVisited segments.now (length forest.places.items) place home index forest more) }
+    ensures visited { IfOk result
+        (λ more. IsVisited segments.now (length forest.places.items) place home index forest more) }
     ensures looped { IfErr result (IsLoopOf segments.now (length forest.places.items)) }
 {
     let node = row_at(&forest, place).node;
@@ -218,7 +233,9 @@ fn visit_all(
     requires place { place < length forest.rows.items }
     requires indexes { AreIndexes segments.now indexes.now }
     requires ready { IsReady segments.now (length forest.places.items) }
-    ensures visited { IfOk result (λ more. AreVisited segments.now (length forest.places.items) place home indexes.now forest more) }
+    ensures visited { IfOk result
+        (λ more. AreVisited segments.now (length forest.places.items) place home indexes.now forest
+        more) }
     ensures looped { IfErr result (IsLoopOf segments.now (length forest.places.items)) }
 {
     let mut all = forest;
@@ -247,7 +264,8 @@ fn spread(
     requires links { AreIndexed segments.now links.now }
     requires count { length links.now ≡ length forest.places.items }
     requires ready { IsReady segments.now (length forest.places.items) }
-    ensures done { IfOk result (λ more. IsDone segments.now (length forest.places.items) more × IsLonger forest more) }
+    ensures done { IfOk result
+        (λ more. IsDone segments.now (length forest.places.items) more × IsLonger forest more) }
     ensures looped { IfErr result (IsLoopOf segments.now (length forest.places.items)) }
 {
     let mut all = forest;
@@ -273,7 +291,8 @@ fn begin(
     requires links { AreIndexed segments.now links.now }
     requires count { length links.now ≡ length forest.places.items }
     requires ready { IsReady segments.now (length forest.places.items) }
-    ensures done { IfOk result (λ more. IsFurther segments.now (length forest.places.items) node forest more) }
+    ensures done { IfOk result
+        (λ more. IsFurther segments.now (length forest.places.items) node forest more) }
     ensures looped { IfErr result (IsLoopOf segments.now (length forest.places.items)) }
 {
     let first = forest.rows.len();
@@ -301,7 +320,8 @@ fn find_part(
     requires links { AreIndexed segments.now links.now }
     requires count { length links.now ≡ length forest.places.items }
     requires ready { IsReady segments.now (length forest.places.items) }
-    ensures done { IfOk result (λ more. IsFurther segments.now (length forest.places.items) node forest more) }
+    ensures done { IfOk result
+        (λ more. IsFurther segments.now (length forest.places.items) node forest more) }
     ensures looped { IfErr result (IsLoopOf segments.now (length forest.places.items)) }
 {
     match place_of(&forest, node) {

@@ -34,7 +34,8 @@ impl<T: Eq + Hash> Model for Keys<T> {
 
     ghost view = { λ k. k.first.items ++ k.more.keys };
 
-    ghost invariant = { λ k. IsDistinct T.eq (k.first.items ++ k.more.keys) × (length (k.first.items ++ k.more.keys) ≤ 2 ^ 62) };
+    ghost invariant = { λ k. IsDistinct T.eq (k.first.items ++ k.more.keys)
+        × (length (k.first.items ++ k.more.keys) ≤ 2 ^ 62) };
 }
 
 /// The place of a key among those that are looked through.

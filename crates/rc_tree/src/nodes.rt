@@ -36,7 +36,8 @@ impl Nodes {
 
     /// Adds a pin, if it is not there.
     pub(crate) fn insert_pin(&mut self, alloc: Global, pin: &Name) -> Result<(), Memory>
-        ensures { OnOk result (IsJoined (numbered self.old) (rc_pin pin.now ∷ []) (numbered self.new)) }
+        ensures { OnOk result
+            (IsJoined (numbered self.old) (rc_pin pin.now ∷ []) (numbered self.new)) }
     {
         match self.pins.place(pin) {
             Some(_) => Ok(()),
@@ -46,7 +47,8 @@ impl Nodes {
 
     /// Adds an inner node, if it is not there.
     fn insert_inner(&mut self, inner: u32) -> Result<(), Memory>
-        ensures { OnOk result (IsJoined (numbered self.old) (rc_inner inner ∷ []) (numbered self.new)) }
+        ensures { OnOk result
+            (IsJoined (numbered self.old) (rc_inner inner ∷ []) (numbered self.new)) }
     {
         match self.inners.place(&inner) {
             Some(_) => Ok(()),
@@ -118,7 +120,8 @@ impl Nodes {
 
 /// Adds pins.
 fn add_pins(alloc: Global, nodes: &mut Nodes, pins: &[PinCap]) -> Result<(), Memory>
-    ensures { OnOk result (IsJoined (numbered nodes.old) (map (λ p. rc_pin p.pin) pins.now) (numbered nodes.new)) }
+    ensures { OnOk result
+        (IsJoined (numbered nodes.old) (map (λ p. rc_pin p.pin) pins.now) (numbered nodes.new)) }
 {
     for pin in pins {
         nodes.insert_pin(alloc, &pin.pin)?;
@@ -128,7 +131,9 @@ fn add_pins(alloc: Global, nodes: &mut Nodes, pins: &[PinCap]) -> Result<(), Mem
 
 /// Adds the two ends of a resistor.
 fn add_ends(alloc: Global, nodes: &mut Nodes, resistor: &RcRes) -> Result<(), Memory>
-    ensures { OnOk result (IsJoined (numbered nodes.old) (resistor.now.a ∷ resistor.now.b ∷ []) (numbered nodes.new)) }
+    ensures { OnOk result
+        (IsJoined (numbered nodes.old) (resistor.now.a ∷ resistor.now.b ∷ [])
+        (numbered nodes.new)) }
 {
     nodes.insert(alloc, &resistor.a)?;
     nodes.insert(alloc, &resistor.b)?;
@@ -137,7 +142,9 @@ fn add_ends(alloc: Global, nodes: &mut Nodes, resistor: &RcRes) -> Result<(), Me
 
 /// Adds the ends of resistors.
 fn add_resistors(alloc: Global, nodes: &mut Nodes, resistors: &[RcRes]) -> Result<(), Memory>
-    ensures { OnOk result (IsJoined (numbered nodes.old) (flat_map (λ r. r.a ∷ r.b ∷ []) resistors.now) (numbered nodes.new)) }
+    ensures { OnOk result
+        (IsJoined (numbered nodes.old) (flat_map (λ r. r.a ∷ r.b ∷ []) resistors.now)
+        (numbered nodes.new)) }
 {
     for resistor in resistors {
         add_ends(alloc, nodes, resistor)?;
@@ -147,7 +154,8 @@ fn add_resistors(alloc: Global, nodes: &mut Nodes, resistors: &[RcRes]) -> Resul
 
 /// Adds the nodes of capacitances.
 fn add_caps(alloc: Global, nodes: &mut Nodes, caps: &[RcCap]) -> Result<(), Memory>
-    ensures { OnOk result (IsJoined (numbered nodes.old) (map (λ c. c.node) caps.now) (numbered nodes.new)) }
+    ensures { OnOk result
+        (IsJoined (numbered nodes.old) (map (λ c. c.node) caps.now) (numbered nodes.new)) }
 {
     for cap in caps {
         nodes.insert(alloc, &cap.node)?;
@@ -157,7 +165,9 @@ fn add_caps(alloc: Global, nodes: &mut Nodes, caps: &[RcCap]) -> Result<(), Memo
 
 /// Adds the pins of a net, where it is lumped.
 fn add_lumped(alloc: Global, nodes: &mut Nodes, net: &NetRc, pins: &[PinCap]) -> Result<(), Memory>
-    ensures { OnOk result (IsJoined (numbered nodes.old) (if is_lumped net.now then map (λ p. rc_pin p.pin) pins.now else []) (numbered nodes.new)) }
+    ensures { OnOk result
+        (IsJoined (numbered nodes.old)
+        (if is_lumped net.now then map (λ p. rc_pin p.pin) pins.now else []) (numbered nodes.new)) }
 {
     if net.ress.len() == 0 {
         return add_pins(alloc, nodes, pins);
@@ -174,7 +184,8 @@ fn add_tree_nodes(
     pins: &[PinCap],
 ) -> Result<(), Memory>
     requires { numbered nodes.old ≡ [] }
-    ensures nodes { OnOk result (IsJoined [] (tree_nodes net.now root.now pins.now) (numbered nodes.new)) }
+    ensures nodes { OnOk result
+        (IsJoined [] (tree_nodes net.now root.now pins.now) (numbered nodes.new)) }
     ensures root { OnOk result (node_at (numbered nodes.new) 0 ≡ rc_pin root.now) }
 {
     nodes.insert_pin(alloc, root)?;
@@ -191,7 +202,8 @@ pub(crate) fn tree_nodes(
     root: &Name,
     pins: &[PinCap],
 ) -> Result<Nodes, Memory>
-    ensures nodes { IfOk result (λ nodes. IsJoined [] (tree_nodes net.now root.now pins.now) (numbered nodes)) }
+    ensures nodes { IfOk result
+        (λ nodes. IsJoined [] (tree_nodes net.now root.now pins.now) (numbered nodes)) }
     ensures root { IfOk result (λ nodes. node_at (numbered nodes) 0 ≡ rc_pin root.now) }
 {
     let mut nodes = Nodes::new(alloc);

@@ -15,7 +15,8 @@ use timing_defs::Items;
 fn give(totals: &mut Vec<u128>, row: Row, place: usize)
     requires place { place < length totals.old.items }
     requires parent { IfSome row.parent (λ p. p < place) }
-    requires room { IfSome row.parent (λ p. weight_at totals.old.items p + weight_at totals.old.items place ≤ 2 ^ 125) }
+    requires room { IfSome row.parent
+        (λ p. weight_at totals.old.items p + weight_at totals.old.items place ≤ 2 ^ 125) }
     ensures { totals.new.items ≡ given totals.old.items row.parent place }
 {
     if let Some(parent) = row.parent {
@@ -53,7 +54,8 @@ fn subtotals(rows: &[Row], weights: Vec<u128>) -> Vec<u128>
 /// The moment at a place: that of its parent, and the resistance to it times what is below.
 fn moment(moments: &[u128], row: Row, total: u128) -> u128
     requires parent { IfSome row.parent (λ p. p < length moments.now) }
-    requires small { option_map_or (λ p. weight_at moments.now p + row.res * total) row.parent 0 ≤ 2 ^ 125 }
+    requires small { option_map_or (λ p. weight_at moments.now p + row.res * total) row.parent 0 ≤ 2
+        ^ 125 }
     ensures { result ≡ option_map_or (λ p. weight_at moments.now p + row.res * total) row.parent 0 }
 {
     match row.parent {

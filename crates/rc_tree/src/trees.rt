@@ -45,9 +45,16 @@ impl Model for Tree {
 
     ghost Value = { Told };
 
-    ghost view = { λ t. record { nodes = numbered t.nodes; delays = map (λ w. w.delay) t.wires; impulses = map (λ w. w.impulse) t.wires; load = t.load.0 } };
+    ghost view = { λ t. record {
+      nodes = numbered t.nodes;
+      delays = map (λ w. w.delay) t.wires;
+      impulses = map
+          (λ w. w.impulse) t.wires;
+      load = t.load.0;
+    } };
 
-    ghost invariant = { λ t. (length t.wires ≡ length (numbered t.nodes)) × (length t.wires ≤ 65535) };
+    ghost invariant = { λ t. (length t.wires ≡ length (numbered t.nodes))
+        × (length t.wires ≤ 65535) };
 }
 
 /// The forest of segments between `count` nodes.
@@ -66,7 +73,8 @@ fn net_forest(alloc: Global, nodes: &Nodes, net: &NetRc) -> Result<Forest, RcFau
     ensures found { IfOk result (IsForestOf (numbered nodes.now) net.now.ress) }
     ensures apart { IfOk result (λ _. AreApart (numbered nodes.now)) }
     ensures acyclic { IfOk result (λ _. has_cycle net.now ≡ false) }
-    ensures looped { IfErr result (λ fault. (fault ≡ memory) ⊎ ((fault ≡ loop_fault) × (has_cycle net.now ≡ true))) }
+    ensures looped { IfErr result
+        (λ fault. (fault ≡ memory) ⊎ ((fault ≡ loop_fault) × (has_cycle net.now ≡ true))) }
 {
     let segments = segments(alloc, nodes, net.ress.as_slice())?;
     let forest = forest_of(alloc, nodes.len(), segments.as_slice())?;
@@ -83,7 +91,8 @@ fn is_whole(rows: &[Row]) -> bool
 /// Refuses a net with resistors that do not lead from the root to each node.
 fn check_reached(net: &NetRc, forest: &Forest) -> Result<(), RcFault>
     ensures fine { OnOk result (is_reached net.now forest.now.rows.items ≡ true) }
-    ensures err { IfErr result (λ fault. (fault ≡ unreached) × (is_reached net.now forest.now.rows.items ≡ false)) }
+    ensures err { IfErr result
+        (λ fault. (fault ≡ unreached) × (is_reached net.now forest.now.rows.items ≡ false)) }
 {
     if net.ress.len() == 0 {
         return Ok(());
@@ -97,7 +106,8 @@ fn check_reached(net: &NetRc, forest: &Forest) -> Result<(), RcFault>
 /// Refuses more nodes than are allowed.
 fn check_size(nodes: &Nodes) -> Result<(), RcFault>
     ensures fine { OnOk result (length (numbered nodes.now) ≤ 65535) }
-    ensures err { IfErr result (λ fault. (fault ≡ too_large) × (65535 < length (numbered nodes.now))) }
+    ensures err { IfErr result
+        (λ fault. (fault ≡ too_large) × (65535 < length (numbered nodes.now))) }
 {
     if nodes.len() <= MOST_NODES {
         return Ok(());
@@ -109,10 +119,16 @@ fn check_size(nodes: &Nodes) -> Result<(), RcFault>
 fn checked_load(net: &NetRc, pins: &[PinCap]) -> Result<u64, RcFault>
     requires resistances { AllByRecursion (λ r. is_amount (res_of r) ≡ true) net.now.ress }
     requires lump { is_amount net.now.lump.0 ≡ true }
-    requires amounts { AllByRecursion (λ c. is_amount c.cap.0 ≡ true) (pin_charges net.now pins.now) }
-    ensures load { IfOk result (λ load. (pos load ≡ total_load net.now pins.now) × (load ≤ 10 ^ 12)) }
+    requires amounts { AllByRecursion (λ c. is_amount c.cap.0 ≡ true)
+        (pin_charges net.now pins.now) }
+    ensures load { IfOk result
+        (λ load. (pos load ≡ total_load net.now pins.now) × (load ≤ 10 ^ 12)) }
     ensures fine { IfOk result (λ _. is_within (sum_of res_of net.now.ress) ≡ true) }
-    ensures err { IfErr result (λ fault. (fault ≡ out_of_range) × ((not (is_within (sum_of res_of net.now.ress)) || not (is_within (total_load net.now pins.now))) ≡ true)) }
+    ensures err { IfErr result
+        (λ fault. (fault ≡ out_of_range)
+        ×
+        ((not (is_within (sum_of res_of net.now.ress)) || not
+        (is_within (total_load net.now pins.now))) ≡ true)) }
 {
     within(total_resistance(net.ress.as_slice()))?;
     let load = within(total_load(net, pins))?;
@@ -152,7 +168,9 @@ fn wires_of(
     requires founded { IsFounded net.now root.now pins.now (numbered nodes.now) forest.now }
     requires passed { IsPassed net.now pins.now (numbered nodes.now) forest.now load }
     ensures fine { OnOk result (rc_fault net.now root.now pins.now ≡ None) }
-    ensures tree { IfOk result (λ wires. IsTreeOf net.now root.now pins.now (told_of (numbered nodes.now) wires (pos load))) }
+    ensures tree { IfOk result
+        (λ wires. IsTreeOf net.now root.now pins.now
+        (told_of (numbered nodes.now) wires (pos load))) }
     ensures size { IfOk result (λ wires. length wires ≡ length (numbered nodes.now)) }
     ensures fault { IfErr result (IsFaultOf net.now root.now pins.now) }
 {
@@ -183,7 +201,9 @@ fn wires_and_load(
     requires root { node_at (numbered nodes.now) 0 ≡ rc_pin root.now }
     requires measured { IsMeasured net.now root.now pins.now }
     ensures fine { OnOk result (rc_fault net.now root.now pins.now ≡ None) }
-    ensures tree { IfOk result (λ wired. IsTreeOf net.now root.now pins.now (told_of (numbered nodes.now) wired.wires wired.load.0)) }
+    ensures tree { IfOk result
+        (λ wired. IsTreeOf net.now root.now pins.now
+        (told_of (numbered nodes.now) wired.wires wired.load.0)) }
     ensures size { IfOk result (λ wired. length wired.wires ≡ length (numbered nodes.now)) }
     ensures few { IfOk result (λ wired. length wired.wires ≤ 65535) }
     ensures fault { IfErr result (IsFaultOf net.now root.now pins.now) }

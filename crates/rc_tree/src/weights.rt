@@ -90,7 +90,8 @@ fn add_pins(weights: Vec<u128>, nodes: &Nodes, forest: &Forest, pins: &[PinCap])
     requires len { length weights.items ≡ length forest.now.rows.items }
     requires amounts { AllByRecursion (λ c. is_amount c.cap.0 ≡ true) (map charge_of pins.now) }
     requires bound { AreUnder (2 ^ 104) weights.items }
-    ensures { AreAdded (numbered nodes.now) forest.now (map charge_of pins.now) weights.items result.items }
+    ensures { AreAdded (numbered nodes.now) forest.now (map charge_of pins.now) weights.items
+        result.items }
 {
     let mut all = weights;
     for pin in pins {
@@ -109,9 +110,12 @@ pub(crate) fn weights(
     pins: &[PinCap],
 ) -> Result<Vec<u128>, RcFault>
     requires placing { IsPlacing (numbered nodes.now) forest.now }
-    requires amounts { AllByRecursion (λ c. is_amount c.cap.0 ≡ true) (pin_charges net.now pins.now) }
+    requires amounts { AllByRecursion (λ c. is_amount c.cap.0 ≡ true)
+        (pin_charges net.now pins.now) }
     ensures len { IfOk result (λ weights. length weights.items ≡ length forest.now.rows.items) }
-    ensures weighed { IfOk result (λ weights. IsWeighed (numbered nodes.now) forest.now (pin_charges net.now pins.now) (weight_at weights.items)) }
+    ensures weighed { IfOk result
+        (λ weights. IsWeighed (numbered nodes.now) forest.now (pin_charges net.now pins.now)
+        (weight_at weights.items)) }
     ensures err { IfErr result (λ fault. fault ≡ memory) }
 {
     let none = vec![in alloc; 0; forest.rows.len()]?;
@@ -167,7 +171,8 @@ fn total_pins(pins: &[PinCap]) -> u128
 /// All capacitance of a net, in aF.
 pub(crate) fn total_load(net: &NetRc, pins: &[PinCap]) -> u128
     requires lump { is_amount net.now.lump.0 ≡ true }
-    requires amounts { AllByRecursion (λ c. is_amount c.cap.0 ≡ true) (pin_charges net.now pins.now) }
+    requires amounts { AllByRecursion (λ c. is_amount c.cap.0 ≡ true)
+        (pin_charges net.now pins.now) }
     ensures { pos result ≡ total_load net.now pins.now }
 {
     let caps = total_caps(net.caps.as_slice());

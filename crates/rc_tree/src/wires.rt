@@ -55,7 +55,8 @@ fn delays_of(alloc: Global, moments: &[u128]) -> Result<Items<u64>, RcFault>
     requires { AreUnder (2 ^ 125) moments.now }
     ensures delays { IfOk result (λ delays. delays ≡ map micro moments.now) }
     ensures bound { IfOk result (λ delays. AreUnder (10 ^ 12) delays) }
-    ensures err { IfErr result (λ fault. (fault ≡ memory) ⊎ ((fault ≡ out_of_range) × IsAnyOver moments.now)) }
+    ensures err { IfErr result
+        (λ fault. (fault ≡ memory) ⊎ ((fault ≡ out_of_range) × IsAnyOver moments.now)) }
 {
     let mut delays = Items::with_room(alloc, moments.len())?;
     for moment in moments {
@@ -177,8 +178,11 @@ pub(crate) fn wires(
     weights: Vec<u128>,
 ) -> Result<Items<Wire>, RcFault>
     requires { IsLimited forest.now.rows.items forest.now.places.items weights.items }
-    ensures wires { IfOk result (AreWires forest.now.rows.items weights.items forest.now.places.items) }
-    ensures err { IfErr result (λ fault. (fault ≡ memory) ⊎ ((fault ≡ out_of_range) × IsOver forest.now.rows.items weights.items)) }
+    ensures wires { IfOk result
+        (AreWires forest.now.rows.items weights.items forest.now.places.items) }
+    ensures err { IfErr result
+        (λ fault. (fault ≡ memory)
+        ⊎ ((fault ≡ out_of_range) × IsOver forest.now.rows.items weights.items)) }
 {
     let first = moments(alloc, &forest.rows, Vec::from_slice(alloc, &weights)?)?;
     let delays = delays_of(alloc, first.as_slice())?;

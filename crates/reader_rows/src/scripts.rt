@@ -6,7 +6,8 @@ use crate::texts::Text;
 use script_reader::read_script;
 use std::alloc::Global;
 use timing_defs::{
-    Candidate, Command, Eco, Edit, Items, Kind, Name, Query, Script, Split, Tran, Trial,
+    Aim, Candidate, ClosingQuery, Command, Eco, Edit, Items, Kind, Name, Query, Script, Split,
+    Tran, Trial,
 };
 
 fn show_two(mark: &[u8], one: &Name, other: &Name, out: &mut Text) {
@@ -71,8 +72,8 @@ fn show_candidate(candidate: &Candidate, out: &mut Text) {
     show_two(b" ", &candidate.inst, &candidate.cell, out);
 }
 
-fn show_advise(kind: Kind, candidates: &Items<Candidate>, out: &mut Text) {
-    out.kind(b"advise ", kind);
+fn show_advise(mark: &[u8], kind: Kind, candidates: &Items<Candidate>, out: &mut Text) {
+    out.kind(mark, kind);
     for candidate in candidates.as_slice() {
         show_candidate(candidate, out);
     }
@@ -88,6 +89,47 @@ fn show_node_question(query: &Query, out: &mut Text) -> bool {
         _ => return false,
     }
     true
+}
+
+fn show_worst_paths(kind: Kind, count: u32, each: u32, out: &mut Text) {
+    out.kind(b"report_worst_paths ", kind);
+    out.count(b" ", u64::from(count));
+    out.count(b" each ", u64::from(each));
+}
+
+fn show_sizes_wanted(kind: Kind, aim: Aim, insts: &Items<Name>, out: &mut Text) {
+    out.kind(b"advise_sizes ", kind);
+    match aim {
+        Aim::Wns => out.add(b" wns"),
+        Aim::Tns => out.add(b" tns"),
+    }
+    out.names(insts.as_slice());
+}
+
+/// Writes the words of a question that closing timing needs.
+fn show_closing(query: &ClosingQuery, out: &mut Text) {
+    match query {
+        ClosingQuery::Net { net } => out.name(b"report_net ", net),
+        ClosingQuery::Instance { inst } => out.name(b"report_instance ", inst),
+        ClosingQuery::Sizes { inst } => out.name(b"report_sizes ", inst),
+        ClosingQuery::Timing { pin, kind } => show_end(b"report_timing ", pin, *kind, out),
+        ClosingQuery::TimingThrough { pin, kind, pins } => {
+            show_end(b"report_timing_through ", pin, *kind, out);
+            out.names(pins.as_slice());
+        }
+        ClosingQuery::WorstPaths { kind, count, each } => {
+            show_worst_paths(*kind, *count, *each, out);
+        }
+        ClosingQuery::Failing { kind } => out.kind(b"report_failing ", *kind),
+        ClosingQuery::Summary { kind } => out.kind(b"report_summary ", *kind),
+        ClosingQuery::Skew => out.add(b"report_skew"),
+        ClosingQuery::AdviseTns { kind, candidates } => {
+            show_advise(b"advise_tns ", *kind, candidates, out);
+        }
+        ClosingQuery::AdviseSizes { kind, aim, insts } => show_sizes_wanted(
+            *kind, *aim, insts, out,
+        ),
+    }
 }
 
 /// Writes the words of a question, but those of trials.
@@ -110,7 +152,8 @@ fn show_question(query: &Query, out: &mut Text) {
             out.count(b" ", u64::from(*count));
         }
         Query::WhatIf { items } => out.count(b"trials ", items.len() as u64),
-        Query::Advise { kind, candidates } => show_advise(*kind, candidates, out),
+        Query::Advise { kind, candidates } => show_advise(b"advise ", *kind, candidates, out),
+        Query::Closing { query } => show_closing(query, out),
         _ => {
             show_node_question(query, out);
         }

@@ -2,26 +2,27 @@
 
 ghost use Rattle.std.specs.Prelude.{◌≡◌, ◌++◌, OnOk, codes, length};
 ghost use Rattle.std.specs.List.{flat_map};
-ghost use Rattle.timing_defs.specs.Output.{line, number, plainly_told, trial_text, trial_row_text};
+ghost use Rattle.timing_defs.specs.Output.{line, number, singly_told, trial_text, trial_row_text};
 
 use crate::pieces::{push, push_count, push_end};
-use crate::reports::push_plain;
+use crate::reports::push_single;
 use crate::rows::{push_no, push_refused};
 use sta_units::Memory;
 use timing_defs::{Clock, Query, Report, TrialAnswer, TrialRow};
 
-/// A report of a plain question; nothing where there is no question.
-fn push_plainly_told(
+/// A report by its question; nothing where there is no question.
+fn push_singly_told(
     out: &mut Vec<u8>,
     clocks: &[Clock],
     query: &Option<Query>,
     report: &Report,
 ) -> Result<(), Memory>
-    ensures { OnOk result (out.new.items ≡ out.old.items ++ plainly_told clocks.now query.now report.now) }
+    ensures { OnOk result
+        (out.new.items ≡ out.old.items ++ singly_told clocks.now query.now report.now) }
 {
     match query {
         None => Ok(()),
-        Some(query) => push_plain(out, clocks, query, report),
+        Some(query) => push_single(out, clocks, query, report),
     }
 }
 
@@ -31,7 +32,8 @@ fn push_trial(
     query: &Option<Query>,
     answer: &TrialAnswer,
 ) -> Result<(), Memory>
-    ensures { OnOk result (out.new.items ≡ out.old.items ++ trial_text clocks.now query.now answer.now) }
+    ensures { OnOk result
+        (out.new.items ≡ out.old.items ++ trial_text clocks.now query.now answer.now) }
 {
     match answer {
         TrialAnswer::Tried => push(out, b"tried\n"),
@@ -39,7 +41,7 @@ fn push_trial(
         TrialAnswer::Dropped => push(out, b"dropped\n"),
         TrialAnswer::NoDraft => push(out, b"no_draft\n"),
         TrialAnswer::No(fault) => push_no(out, fault),
-        TrialAnswer::Told(report) => push_plainly_told(out, clocks, query, report),
+        TrialAnswer::Told(report) => push_singly_told(out, clocks, query, report),
     }
 }
 
@@ -51,7 +53,8 @@ fn push_trial_row(out: &mut Vec<u8>, clocks: &[Clock], row: &TrialRow) -> Result
 
 #[tactic(auto, using(std::proofs::lemmas::List::drop_more))]
 fn push_trial_rows(out: &mut Vec<u8>, clocks: &[Clock], rows: &[TrialRow]) -> Result<(), Memory>
-    ensures { OnOk result (out.new.items ≡ out.old.items ++ flat_map (trial_row_text clocks.now) rows.now) }
+    ensures { OnOk result
+        (out.new.items ≡ out.old.items ++ flat_map (trial_row_text clocks.now) rows.now) }
 {
     for row in rows {
         push_trial_row(out, clocks, row)?;
@@ -65,7 +68,11 @@ pub(crate) fn push_drafted(
     clocks: &[Clock],
     rows: &[TrialRow],
 ) -> Result<(), Memory>
-    ensures { OnOk result (out.new.items ≡ out.old.items ++ (line (codes "what_if" ++ number (length rows.now)) ++ flat_map (trial_row_text clocks.now) rows.now)) }
+    ensures { OnOk result
+        (out.new.items
+        ≡ out.old.items ++
+        (line (codes "what_if" ++ number (length rows.now)) ++ flat_map (trial_row_text clocks.now)
+        rows.now)) }
 {
     push_count(out, b"what_if", rows.len() as u64)?;
     push_end(out)?;

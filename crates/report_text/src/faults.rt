@@ -7,7 +7,7 @@ ghost use Rattle.timing_defs.specs.Output.{word, place_text, large_text, fault_t
 use crate::pieces::{push, push_names, push_word};
 use sta_units::Memory;
 use std::alloc::Global;
-use timing_defs::{Fault, Items, Large, Name, Place, QueryFault};
+use timing_defs::{Fault, Items, Large, Many, Name, Place, QueryFault};
 
 /// Words and the name behind them.
 fn push_named(out: &mut Vec<u8>, words: &[u8], name: &Name) -> Result<(), Memory>
@@ -19,7 +19,8 @@ fn push_named(out: &mut Vec<u8>, words: &[u8], name: &Name) -> Result<(), Memory
 
 /// The pins of a cycle behind their code.
 fn push_loop(out: &mut Vec<u8>, names: &Items<Name>) -> Result<(), Memory>
-    ensures { OnOk result (out.new.items ≡ out.old.items ++ (codes "E11" ++ flat_map word names.now)) }
+    ensures { OnOk result
+        (out.new.items ≡ out.old.items ++ (codes "E11" ++ flat_map word names.now)) }
 {
     push(out, b"E11")?;
     push_names(out, names.as_slice())
@@ -106,6 +107,9 @@ pub(crate) fn push_query_fault(out: &mut Vec<u8>, fault: &QueryFault) -> Result<
         QueryFault::UnknownPin(name) => push_named(out, b"Q1", name),
         QueryFault::NotEndpoint(name) => push_named(out, b"Q2", name),
         QueryFault::NotClocked(name) => push_named(out, b"Q3", name),
+        QueryFault::UnknownName(name) => push_named(out, b"Q4", name),
+        QueryFault::TooMany(Many::Instances) => push(out, b"Q5 instances"),
+        QueryFault::TooMany(Many::Candidates) => push(out, b"Q5 candidates"),
         QueryFault::Memory => Ok(()),
     }
 }

@@ -13,13 +13,16 @@
 //! linear in these bytes. Want of memory is the only error.
 #![tactic(auto)]
 
+mod closing;
 mod drafts;
 mod errors;
 mod faults;
+mod nets;
 mod outputs;
 mod pieces;
 mod reports;
 mod rows;
+mod timed;
 
 pub use errors::error_bytes;
 pub use faults::fault_bytes;

@@ -53,7 +53,8 @@ fn push_block(
     entries: &Items<Entry>,
 ) -> Result<(), Memory>
     requires { first ≤ 2 ^ 62 }
-    ensures { OnOk result (out.new.items ≡ out.old.items ++ block_text first derates.now entries.now) }
+    ensures { OnOk result
+        (out.new.items ≡ out.old.items ++ block_text first derates.now entries.now) }
 {
     let text = block_text(alloc, first, derates, entries)?;
     push(out, text.as_slice())
@@ -66,7 +67,8 @@ fn push_session(
     number: u64,
     transcript: &Transcript,
 ) -> Result<(), Memory>
-    ensures { OnOk result (out.new.items ≡ out.old.items ++ session_text clocks.now number transcript.now) }
+    ensures { OnOk result
+        (out.new.items ≡ out.old.items ++ session_text clocks.now number transcript.now) }
 {
     let rows = transcript.rows.as_slice();
     push_count(out, b"session", number)?;
@@ -82,7 +84,8 @@ fn push_sessions(
     clocks: &[Clock],
     transcripts: &[Transcript],
 ) -> Result<(), Memory>
-    ensures { OnOk result (out.new.items ≡ out.old.items ++ sessions_text clocks.now 1 transcripts.now) }
+    ensures { OnOk result
+        (out.new.items ≡ out.old.items ++ sessions_text clocks.now 1 transcripts.now) }
 {
     let mut number = 0;
     for transcript in transcripts {
@@ -94,7 +97,9 @@ fn push_sessions(
 
 /// The worst slack and the total negative slack of a kind, behind its word.
 fn push_totals(out: &mut Vec<u8>, kind: &[u8], wns: Option<Fs>, tns: Fs) -> Result<(), Memory>
-    ensures { OnOk result (out.new.items ≡ out.old.items ++ (kind.now ++ word (time_text wns) ++ word (ps_text tns.0))) }
+    ensures { OnOk result
+        (out.new.items
+        ≡ out.old.items ++ (kind.now ++ word (time_text wns) ++ word (ps_text tns.0))) }
 {
     push(out, kind)?;
     push_time(out, wns)?;
@@ -120,7 +125,8 @@ fn push_final(out: &mut Vec<u8>, totals: &Totals) -> Result<(), Memory>
 #[tactic(auto, using(eco_journal::proofs::JournalBack::journal_back))]
 pub fn journal_bytes(alloc: Global, entries: &Items<Entry>) -> Result<Vec<u8>, Memory>
     ensures text { IfOk result (λ bytes. bytes.items ≡ journal_text entries.now) }
-    ensures read { AreEntries entries.now → IfOk result (λ bytes. entries_of bytes.items ≡ Ok entries.now) }
+    ensures read { AreEntries entries.now
+        → IfOk result (λ bytes. entries_of bytes.items ≡ Ok entries.now) }
 {
     let mut out = Vec::new(alloc);
     push_journal(alloc, &mut out, entries.as_slice())?;
@@ -140,7 +146,8 @@ pub fn output_bytes(
     clocks: &Items<Clock>,
     totals: &Totals,
 ) -> Result<Vec<u8>, Memory>
-    ensures { IfOk result (λ bytes. bytes.items ≡ output_text entries.now transcripts.now clocks.now totals.now) }
+    ensures { IfOk result
+        (λ bytes. bytes.items ≡ output_text entries.now transcripts.now clocks.now totals.now) }
 {
     let mut out = Vec::new(alloc);
     push_journal(alloc, &mut out, entries.as_slice())?;
@@ -166,7 +173,9 @@ pub fn output_saved_bytes(
     totals: &Totals,
 ) -> Result<Vec<u8>, Memory>
     requires { first ≤ 2 ^ 62 }
-    ensures { IfOk result (λ bytes. bytes.items ≡ saved_output_text first derates.now entries.now transcripts.now clocks.now totals.now) }
+    ensures { IfOk result
+        (λ bytes. bytes.items
+        ≡ saved_output_text first derates.now entries.now transcripts.now clocks.now totals.now) }
 {
     let mut out = Vec::new(alloc);
     push_block(alloc, &mut out, first, derates, entries)?;

@@ -148,7 +148,10 @@ pub(crate) fn push_ps(out: &mut Vec<u8>, time: Fs) -> Result<(), Memory>
 fn push_rise(out: &mut Vec<u8>, count: u64) -> Result<(), Memory>
     requires low { 10 ^ 6 ≤ count }
     requires high { count < 10 ^ 7 }
-    ensures { OnOk result (out.new.items ≡ out.old.items ++ (word (tran_text Tran.Rise) ++ (word (thousandths_text count) ++ 10 ∷ []))) }
+    ensures { OnOk result
+        (out.new.items
+        ≡ out.old.items ++
+        (word (tran_text Tran.Rise) ++ (word (thousandths_text count) ++ 10 ∷ []))) }
 {
     let thousands = digit(count / 1000 / 10 / 10 / 10);
     let hundreds = digit(count / 1000 / 10 / 10 % 10);
@@ -171,7 +174,10 @@ fn push_rise(out: &mut Vec<u8>, count: u64) -> Result<(), Memory>
 fn push_fall(out: &mut Vec<u8>, count: u64) -> Result<(), Memory>
     requires low { 10 ^ 6 ≤ count }
     requires high { count < 10 ^ 7 }
-    ensures { OnOk result (out.new.items ≡ out.old.items ++ (word (tran_text Tran.Fall) ++ (word (thousandths_text count) ++ 10 ∷ []))) }
+    ensures { OnOk result
+        (out.new.items
+        ≡ out.old.items ++
+        (word (tran_text Tran.Fall) ++ (word (thousandths_text count) ++ 10 ∷ []))) }
 {
     let thousands = digit(count / 1000 / 10 / 10 / 10);
     let hundreds = digit(count / 1000 / 10 / 10 % 10);
@@ -192,7 +198,9 @@ fn push_fall(out: &mut Vec<u8>, count: u64) -> Result<(), Memory>
 /// A transition and thousandths as a time, each behind a blank, and a line feed. Most times have four digits
 /// before the point.
 fn push_tail(out: &mut Vec<u8>, tran: Tran, count: u64) -> Result<(), Memory>
-    ensures { OnOk result (out.new.items ≡ out.old.items ++ (word (tran_text tran) ++ (word (thousandths_text count) ++ 10 ∷ []))) }
+    ensures { OnOk result
+        (out.new.items
+        ≡ out.old.items ++ (word (tran_text tran) ++ (word (thousandths_text count) ++ 10 ∷ []))) }
 {
     if count < 1_000_000 || 10_000_000 <= count {
         push_tran(out, tran)?;
@@ -209,7 +217,9 @@ fn push_tail(out: &mut Vec<u8>, tran: Tran, count: u64) -> Result<(), Memory>
 /// A transition and a time, each behind a blank, and a line feed.
 #[tactic(auto, unfolding(sta_units::specs::Picoseconds::ps_text))]
 pub(crate) fn push_tran_time(out: &mut Vec<u8>, tran: Tran, time: Fs) -> Result<(), Memory>
-    ensures { OnOk result (out.new.items ≡ out.old.items ++ (word (tran_text tran) ++ (word (ps_text time.0) ++ 10 ∷ []))) }
+    ensures { OnOk result
+        (out.new.items
+        ≡ out.old.items ++ (word (tran_text tran) ++ (word (ps_text time.0) ++ 10 ∷ []))) }
 {
     if time.0 < 0 {
         push_tran(out, tran)?;

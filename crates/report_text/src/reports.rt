@@ -4,8 +4,9 @@ ghost use Rattle.std.specs.Prelude.{◌≡◌, ◌++◌, OnOk, codes, length};
 ghost use Rattle.std.specs.List.{flat_map};
 ghost use Rattle.sta_units.specs.Picoseconds.{ps_text};
 ghost use Rattle.timing_defs.specs.declared.reports.Report.TheVariants.{Shown};
-ghost use Rattle.timing_defs.specs.Output.{line, word, number, time_text, kind_text, clock_text, edge_text, query_word, edge_time_text, path_node_text, path_head, path_of, path_text, end_text, advice_text, plain_text, report_text};
+ghost use Rattle.timing_defs.specs.Output.{line, word, number, time_text, kind_text, clock_text, edge_text, query_word, edge_time_text, path_node_text, path_head, path_of, path_text, end_text, advice_text, single_text, report_text};
 
+use crate::closing::push_closing_told;
 use crate::drafts::push_drafted;
 use crate::pieces::{
     push, push_count, push_end, push_kind, push_number, push_ps, push_time, push_tran,
@@ -27,7 +28,12 @@ fn push_clock(out: &mut Vec<u8>, clocks: &[Clock], place: u32) -> Result<(), Mem
 }
 
 /// A launch or capture edge: its clock and its transition.
-fn push_edge(out: &mut Vec<u8>, clocks: &[Clock], clock: u32, tran: Tran) -> Result<(), Memory>
+pub(crate) fn push_edge(
+    out: &mut Vec<u8>,
+    clocks: &[Clock],
+    clock: u32,
+    tran: Tran,
+) -> Result<(), Memory>
     ensures { OnOk result (out.new.items ≡ out.old.items ++ edge_text clocks.now clock tran) }
 {
     push_clock(out, clocks, clock)?;
@@ -44,7 +50,8 @@ fn push_edge_time(out: &mut Vec<u8>, clocks: &[Clock], time: &EdgeTime) -> Resul
 
 #[tactic(auto, using(std::proofs::lemmas::List::drop_more))]
 fn push_edge_times(out: &mut Vec<u8>, clocks: &[Clock], times: &[EdgeTime]) -> Result<(), Memory>
-    ensures { OnOk result (out.new.items ≡ out.old.items ++ flat_map (edge_time_text clocks.now) times.now) }
+    ensures { OnOk result
+        (out.new.items ≡ out.old.items ++ flat_map (edge_time_text clocks.now) times.now) }
 {
     for time in times {
         push_edge_time(out, clocks, time)?;
@@ -61,7 +68,7 @@ fn push_path_node(out: &mut Vec<u8>, node: &PathNode) -> Result<(), Memory>
 }
 
 #[tactic(auto, using(std::proofs::lemmas::List::drop_more))]
-fn push_path_nodes(out: &mut Vec<u8>, nodes: &[PathNode]) -> Result<(), Memory>
+pub(crate) fn push_path_nodes(out: &mut Vec<u8>, nodes: &[PathNode]) -> Result<(), Memory>
     ensures { OnOk result (out.new.items ≡ out.old.items ++ flat_map path_node_text nodes.now) }
 {
     for node in nodes {
@@ -72,7 +79,10 @@ fn push_path_nodes(out: &mut Vec<u8>, nodes: &[PathNode]) -> Result<(), Memory>
 
 /// The slack and the credit of a path.
 fn push_slack(out: &mut Vec<u8>, slack: Fs, credit: Fs) -> Result<(), Memory>
-    ensures { OnOk result (out.new.items ≡ out.old.items ++ (codes " slack" ++ word (ps_text slack.0) ++ codes " credit" ++ word (ps_text credit.0))) }
+    ensures { OnOk result
+        (out.new.items
+        ≡ out.old.items ++
+        (codes " slack" ++ word (ps_text slack.0) ++ codes " credit" ++ word (ps_text credit.0))) }
 {
     push(out, b" slack")?;
     push_ps(out, slack)?;
@@ -82,7 +92,11 @@ fn push_slack(out: &mut Vec<u8>, slack: Fs, credit: Fs) -> Result<(), Memory>
 
 /// The launch and the capture edge of a path.
 fn push_edges(out: &mut Vec<u8>, clocks: &[Clock], path: &Path) -> Result<(), Memory>
-    ensures { OnOk result (out.new.items ≡ out.old.items ++ (codes " from" ++ edge_text clocks.now path.now.launch_clock path.now.launch_tran ++ codes " to" ++ edge_text clocks.now path.now.capture_clock path.now.capture_tran)) }
+    ensures { OnOk result
+        (out.new.items
+        ≡ out.old.items ++
+        (codes " from" ++ edge_text clocks.now path.now.launch_clock path.now.launch_tran
+        ++ codes " to" ++ edge_text clocks.now path.now.capture_clock path.now.capture_tran)) }
 {
     push(out, b" from")?;
     push_edge(out, clocks, path.launch_clock, path.launch_tran)?;
@@ -91,7 +105,7 @@ fn push_edges(out: &mut Vec<u8>, clocks: &[Clock], path: &Path) -> Result<(), Me
 }
 
 /// What the first line of a path says of the path itself.
-fn push_path_head(out: &mut Vec<u8>, clocks: &[Clock], path: &Path) -> Result<(), Memory>
+pub(crate) fn push_path_head(out: &mut Vec<u8>, clocks: &[Clock], path: &Path) -> Result<(), Memory>
     ensures { OnOk result (out.new.items ≡ out.old.items ++ path_head clocks.now path.now) }
 {
     push_slack(out, path.slack, path.credit)?;
@@ -100,7 +114,8 @@ fn push_path_head(out: &mut Vec<u8>, clocks: &[Clock], path: &Path) -> Result<()
 }
 
 fn push_end_of(out: &mut Vec<u8>, kind: Kind, pin: &Name) -> Result<(), Memory>
-    ensures { OnOk result (out.new.items ≡ out.old.items ++ (word (kind_text kind) ++ word pin.now)) }
+    ensures { OnOk result
+        (out.new.items ≡ out.old.items ++ (word (kind_text kind) ++ word pin.now)) }
 {
     push_kind(out, kind)?;
     push_word(out, pin.as_bytes())
@@ -127,12 +142,14 @@ fn push_path_of(out: &mut Vec<u8>, query: &Query) -> Result<(), Memory>
         | Query::Tns { .. }
         | Query::Worst { .. }
         | Query::WhatIf { .. }
-        | Query::Advise { .. } => Ok(()),
+        | Query::Advise { .. }
+        | Query::Closing { .. } => Ok(()),
     }
 }
 
 fn push_path(out: &mut Vec<u8>, clocks: &[Clock], query: &Query, path: &Path) -> Result<(), Memory>
-    ensures { OnOk result (out.new.items ≡ out.old.items ++ path_text clocks.now query.now path.now) }
+    ensures { OnOk result
+        (out.new.items ≡ out.old.items ++ path_text clocks.now query.now path.now) }
 {
     push(out, b"path")?;
     push_path_of(out, query)?;
@@ -148,7 +165,8 @@ fn push_shown(
     query: &Query,
     path: &Option<Path>,
 ) -> Result<(), Memory>
-    ensures { OnOk result (out.new.items ≡ out.old.items ++ plain_text clocks.now query.now (Shown path.now)) }
+    ensures { OnOk result
+        (out.new.items ≡ out.old.items ++ single_text clocks.now query.now (Shown path.now)) }
 {
     match path {
         None => push(out, b"path none\n"),
@@ -166,7 +184,7 @@ fn push_end_row(out: &mut Vec<u8>, row: &EndRow) -> Result<(), Memory>
 }
 
 #[tactic(auto, using(std::proofs::lemmas::List::drop_more))]
-fn push_end_rows(out: &mut Vec<u8>, rows: &[EndRow]) -> Result<(), Memory>
+pub(crate) fn push_end_rows(out: &mut Vec<u8>, rows: &[EndRow]) -> Result<(), Memory>
     ensures { OnOk result (out.new.items ≡ out.old.items ++ flat_map end_text rows.now) }
 {
     for row in rows {
@@ -177,7 +195,10 @@ fn push_end_rows(out: &mut Vec<u8>, rows: &[EndRow]) -> Result<(), Memory>
 
 /// The worst endpoints: how many, and a line for each.
 fn push_ends(out: &mut Vec<u8>, rows: &[EndRow]) -> Result<(), Memory>
-    ensures { OnOk result (out.new.items ≡ out.old.items ++ (line (codes "worst" ++ number (length rows.now)) ++ flat_map end_text rows.now)) }
+    ensures { OnOk result
+        (out.new.items
+        ≡ out.old.items ++
+        (line (codes "worst" ++ number (length rows.now)) ++ flat_map end_text rows.now)) }
 {
     push_count(out, b"worst", rows.len() as u64)?;
     push_end(out)?;
@@ -202,12 +223,14 @@ fn push_query_word(out: &mut Vec<u8>, query: &Query) -> Result<(), Memory>
         Query::Paths { .. } => push(out, b"paths"),
         Query::WhatIf { .. } => push(out, b"what_if"),
         Query::Advise { .. } => push(out, b"advice"),
+        Query::Closing { .. } => Ok(()),
     }
 }
 
 /// The word of a question and one time, or `none`.
 fn push_value(out: &mut Vec<u8>, query: &Query, time: Option<Fs>) -> Result<(), Memory>
-    ensures { OnOk result (out.new.items ≡ out.old.items ++ line (query_word query.now ++ word (time_text time))) }
+    ensures { OnOk result
+        (out.new.items ≡ out.old.items ++ line (query_word query.now ++ word (time_text time))) }
 {
     push_query_word(out, query)?;
     push_time(out, time)?;
@@ -221,7 +244,11 @@ fn push_times(
     query: &Query,
     times: &[EdgeTime],
 ) -> Result<(), Memory>
-    ensures { OnOk result (out.new.items ≡ out.old.items ++ line (query_word query.now ++ number (length times.now) ++ flat_map (edge_time_text clocks.now) times.now)) }
+    ensures { OnOk result
+        (out.new.items
+        ≡ out.old.items ++ line
+        (query_word query.now ++ number (length times.now) ++ flat_map (edge_time_text clocks.now)
+        times.now)) }
 {
     push_query_word(out, query)?;
     push_number(out, times.len() as u64)?;
@@ -236,7 +263,8 @@ fn push_each_path(
     query: &Query,
     paths: &[Path],
 ) -> Result<(), Memory>
-    ensures { OnOk result (out.new.items ≡ out.old.items ++ flat_map (path_text clocks.now query.now) paths.now) }
+    ensures { OnOk result
+        (out.new.items ≡ out.old.items ++ flat_map (path_text clocks.now query.now) paths.now) }
 {
     for path in paths {
         push_path(out, clocks, query, path)?;
@@ -251,7 +279,11 @@ fn push_paths(
     query: &Query,
     paths: &[Path],
 ) -> Result<(), Memory>
-    ensures { OnOk result (out.new.items ≡ out.old.items ++ (line (codes "paths" ++ number (length paths.now)) ++ flat_map (path_text clocks.now query.now) paths.now)) }
+    ensures { OnOk result
+        (out.new.items
+        ≡ out.old.items ++
+        (line (codes "paths" ++ number (length paths.now)) ++ flat_map
+        (path_text clocks.now query.now) paths.now)) }
 {
     push_count(out, b"paths", paths.len() as u64)?;
     push_end(out)?;
@@ -259,7 +291,11 @@ fn push_paths(
 }
 
 fn push_advice(out: &mut Vec<u8>, advice: &Advice) -> Result<(), Memory>
-    ensures { OnOk result (out.new.items ≡ out.old.items ++ line (codes "advice" ++ word advice.now.inst ++ word advice.now.cell ++ word (ps_text advice.now.wns.0))) }
+    ensures { OnOk result
+        (out.new.items
+        ≡ out.old.items ++ line
+        (codes "advice" ++ word advice.now.inst ++ word advice.now.cell ++ word
+        (ps_text advice.now.wns.0))) }
 {
     push(out, b"advice")?;
     push_word(out, advice.inst.as_bytes())?;
@@ -278,32 +314,15 @@ fn push_advised(out: &mut Vec<u8>, advice: &Option<Advice>) -> Result<(), Memory
     }
 }
 
-/// A report of a plain question; nothing of another report.
-pub(crate) fn push_plain(
+/// A report by its question; nothing of the rows of a draft.
+pub(crate) fn push_single(
     out: &mut Vec<u8>,
     clocks: &[Clock],
     query: &Query,
     report: &Report,
 ) -> Result<(), Memory>
-    ensures { OnOk result (out.new.items ≡ out.old.items ++ plain_text clocks.now query.now report.now) }
-{
-    match report {
-        Report::Value(time) => push_value(out, query, *time),
-        Report::Times(times) => push_times(out, clocks, query, times.as_slice()),
-        Report::Shown(path) => push_shown(out, clocks, query, path),
-        Report::Ends(rows) => push_ends(out, rows.as_slice()),
-        Report::Paths(_) | Report::Drafted(_) | Report::Advised(_) => Ok(()),
-    }
-}
-
-/// A report by its question.
-pub(crate) fn push_report(
-    out: &mut Vec<u8>,
-    clocks: &[Clock],
-    query: &Query,
-    report: &Report,
-) -> Result<(), Memory>
-    ensures { OnOk result (out.new.items ≡ out.old.items ++ report_text clocks.now query.now report.now) }
+    ensures { OnOk result
+        (out.new.items ≡ out.old.items ++ single_text clocks.now query.now report.now) }
 {
     match report {
         Report::Value(time) => push_value(out, query, *time),
@@ -311,7 +330,30 @@ pub(crate) fn push_report(
         Report::Shown(path) => push_shown(out, clocks, query, path),
         Report::Ends(rows) => push_ends(out, rows.as_slice()),
         Report::Paths(paths) => push_paths(out, clocks, query, paths.as_slice()),
-        Report::Drafted(rows) => push_drafted(out, clocks, rows.as_slice()),
+        Report::Drafted(_) => Ok(()),
         Report::Advised(advice) => push_advised(out, advice),
+        Report::Closing(report) => push_closing_told(out, clocks, query, report),
+    }
+}
+
+/// A report by its question, the rows of a draft too.
+pub(crate) fn push_report(
+    out: &mut Vec<u8>,
+    clocks: &[Clock],
+    query: &Query,
+    report: &Report,
+) -> Result<(), Memory>
+    ensures { OnOk result
+        (out.new.items ≡ out.old.items ++ report_text clocks.now query.now report.now) }
+{
+    match report {
+        Report::Drafted(rows) => push_drafted(out, clocks, rows.as_slice()),
+        Report::Value(_)
+        | Report::Times(_)
+        | Report::Shown(_)
+        | Report::Ends(_)
+        | Report::Paths(_)
+        | Report::Advised(_)
+        | Report::Closing(_) => push_single(out, clocks, query, report),
     }
 }

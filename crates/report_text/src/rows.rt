@@ -12,7 +12,8 @@ use std::alloc::Global;
 use timing_defs::{Answer, Clock, Fault, Items, Query, QueryFault, Report, Row};
 
 pub(crate) fn push_refused(out: &mut Vec<u8>, fault: &Fault) -> Result<(), Memory>
-    ensures { OnOk result (out.new.items ≡ out.old.items ++ line (codes "refused" ++ word (fault_text fault.now))) }
+    ensures { OnOk result
+        (out.new.items ≡ out.old.items ++ line (codes "refused" ++ word (fault_text fault.now))) }
 {
     push(out, b"refused ")?;
     push_fault(out, fault)?;
@@ -20,7 +21,8 @@ pub(crate) fn push_refused(out: &mut Vec<u8>, fault: &Fault) -> Result<(), Memor
 }
 
 pub(crate) fn push_no(out: &mut Vec<u8>, fault: &QueryFault) -> Result<(), Memory>
-    ensures { OnOk result (out.new.items ≡ out.old.items ++ line (codes "no" ++ word (query_fault_text fault.now))) }
+    ensures { OnOk result
+        (out.new.items ≡ out.old.items ++ line (codes "no" ++ word (query_fault_text fault.now))) }
 {
     push(out, b"no ")?;
     push_query_fault(out, fault)?;
@@ -29,7 +31,8 @@ pub(crate) fn push_no(out: &mut Vec<u8>, fault: &QueryFault) -> Result<(), Memor
 
 /// How many looks did not find the awaited version.
 fn push_not_yet(out: &mut Vec<u8>, looks: usize) -> Result<(), Memory>
-    ensures { OnOk result (out.new.items ≡ out.old.items ++ line (codes "not_yet" ++ number looks)) }
+    ensures { OnOk result
+        (out.new.items ≡ out.old.items ++ line (codes "not_yet" ++ number looks)) }
 {
     push_count(out, b"not_yet", looks as u64)?;
     push_end(out)
@@ -42,7 +45,8 @@ fn push_told(
     query: &Option<Query>,
     report: &Report,
 ) -> Result<(), Memory>
-    ensures { OnOk result (out.new.items ≡ out.old.items ++ told_text clocks.now query.now report.now) }
+    ensures { OnOk result
+        (out.new.items ≡ out.old.items ++ told_text clocks.now query.now report.now) }
 {
     match query {
         None => Ok(()),
@@ -56,7 +60,8 @@ fn push_answer(
     query: &Option<Query>,
     answer: &Answer,
 ) -> Result<(), Memory>
-    ensures { OnOk result (out.new.items ≡ out.old.items ++ answer_text clocks.now query.now answer.now) }
+    ensures { OnOk result
+        (out.new.items ≡ out.old.items ++ answer_text clocks.now query.now answer.now) }
 {
     match answer {
         Answer::Taken => push(out, b"taken\n"),
@@ -81,7 +86,8 @@ fn push_row(out: &mut Vec<u8>, clocks: &[Clock], row: &Row) -> Result<(), Memory
 
 #[tactic(auto, using(std::proofs::lemmas::List::drop_more))]
 pub(crate) fn push_rows(out: &mut Vec<u8>, clocks: &[Clock], rows: &[Row]) -> Result<(), Memory>
-    ensures { OnOk result (out.new.items ≡ out.old.items ++ flat_map (row_text clocks.now) rows.now) }
+    ensures { OnOk result
+        (out.new.items ≡ out.old.items ++ flat_map (row_text clocks.now) rows.now) }
 {
     for row in rows {
         push_row(out, clocks, row)?;

@@ -1,8 +1,10 @@
 -- Answers for nodes of a level that are written to their rows: the definition's rows, of fine nodes.
 
-use Rattle.std.proofs.Common.{◌≡◌, ℕ, ◌-◌, ◌<◌, Bool, true, List, [], ◌∷◌, map, All, Result, Ok, Err, refl, sym, ap, subst, ◌∙◌, inl, inr, arith}
-use Rattle.std.specs.Prelude.{Contains, slice_set, IsOk, if◌then◌else◌, nat_le}
+use Rattle.std.proofs.Common.{◌≡◌, ℕ, ◌-◌, ◌<◌, Bool, true, List, [], ◌∷◌, map, All, length, get_or, Some, Result, Ok, Err, refl, sym, ap, subst, ◌∙◌, inl, inr, arith}
+use Rattle.std.specs.Prelude.{Contains, slice_get, slice_set, IsOk, if◌then◌else◌, nat_le}
 use Rattle.std.proofs.lemmas.Bool.{false≢true}
+use Rattle.std.proofs.lemmas.List.{set-get_or}
+use Rattle.std.proofs.lemmas.Option.{get_or_from_slice_get}
 use Rattle.std.proofs.lemmas.List.Elements.{All-nil, All-cons, All-head, All-tail}
 use Rattle.timing_defs.specs.declared.faults.Fault.{Fault}
 use Rattle.timing_defs.specs.declared.rows.BackRow.{BackRow}
@@ -66,3 +68,12 @@ pub froms_there : (g : Graphed) (s : Stored) → g.stored ≡ s → IsNumbered s
     → (n : ℕ) → n < node_bound g.stored → All (λ (arc : GraphArc). arc.from < node_bound g.stored) (fan_at g.ins n)
 froms_there g s same num linked is =
     froms_low g (subst (λ (x : Stored). IsNumbered x) (sym same) num) (subst (λ (x : Stored). IsLinked x.design) (sym same) linked) is
+
+-- a node of a level has a row
+pub place_low : (g : Graphed) (level : ℕ) (nodes : List ℕ) → All (IsAtLevel g level) nodes → (i d : ℕ) → i < length nodes → get_or nodes i d < node_bound g.stored
+place_low g level nodes at i d low = (at i d low).0
+
+-- a row that is there already need not be written
+pub set_found : (rows : List BackRow) (i : ℕ) (was told : BackRow) → slice_get rows i ≡ Some was → was ≡ told → rows ≡ slice_set rows i told
+set_found rows i was told here same =
+    sym (set-get_or rows i was) ∙ ap (slice_set rows i) (get_or_from_slice_get rows i was was here ∙ same)

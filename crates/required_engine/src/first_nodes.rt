@@ -22,7 +22,8 @@ fn add(nodes: &mut Items<u32>, node: u32) -> Result<(), Memory>
 
 /// Adds nodes.
 fn add_all(nodes: &mut Items<u32>, others: &[u32]) -> Result<(), Memory>
-    ensures { OnOk result ((n : ℕ) → is_in nodes.new n ≡ (is_in nodes.old n || is_in others.now n)) }
+    ensures { OnOk result
+        ((n : ℕ) → is_in nodes.new n ≡ (is_in nodes.old n || is_in others.now n)) }
 {
     for node in others {
         add(nodes, *node)?;
@@ -42,7 +43,8 @@ fn is_node(graph: &Graph, node: u32) -> bool
 
 /// Adds the node at which an arc begins, where it is one of the graph.
 fn add_tail(nodes: &mut Items<u32>, graph: &Graph, arc: &GraphArc) -> Result<(), Memory>
-    ensures { OnOk result ((n : ℕ) → is_in nodes.new n ≡ (is_in nodes.old n || is_tail graph.now.stored n arc.now)) }
+    ensures { OnOk result
+        ((n : ℕ) → is_in nodes.new n ≡ (is_in nodes.old n || is_tail graph.now.stored n arc.now)) }
 {
     if is_node(graph, arc.from) {
         add(nodes, arc.from)
@@ -53,7 +55,9 @@ fn add_tail(nodes: &mut Items<u32>, graph: &Graph, arc: &GraphArc) -> Result<(),
 
 /// Adds the nodes at which arcs begin, where they are nodes of the graph.
 fn add_tails(nodes: &mut Items<u32>, graph: &Graph, arcs: &[GraphArc]) -> Result<(), Memory>
-    ensures { OnOk result ((n : ℕ) → is_in nodes.new n ≡ (is_in nodes.old n || list_any (is_tail graph.now.stored n) arcs.now)) }
+    ensures { OnOk result
+        ((n : ℕ) → is_in nodes.new n
+        ≡ (is_in nodes.old n || list_any (is_tail graph.now.stored n) arcs.now)) }
 {
     for arc in arcs {
         add_tail(nodes, graph, arc)?;
@@ -68,7 +72,9 @@ fn add_tails_at(
     graph: &Graph,
     node: u32,
 ) -> Result<(), Memory>
-    ensures { OnOk result ((n : ℕ) → is_in nodes.new n ≡ (is_in nodes.old n || is_tail_at base.now graph.now.stored n node)) }
+    ensures { OnOk result
+        ((n : ℕ) → is_in nodes.new n
+        ≡ (is_in nodes.old n || is_tail_at base.now graph.now.stored n node)) }
 {
     if node < base.count() {
         add_tails(nodes, graph, base.arcs_in(node))
@@ -84,7 +90,9 @@ fn add_tails_of(
     graph: &Graph,
     others: &[u32],
 ) -> Result<(), Memory>
-    ensures { OnOk result ((n : ℕ) → is_in nodes.new n ≡ (is_in nodes.old n || is_tail_of base.now graph.now.stored others.now n)) }
+    ensures { OnOk result
+        ((n : ℕ) → is_in nodes.new n
+        ≡ (is_in nodes.old n || is_tail_of base.now graph.now.stored others.now n)) }
 {
     for node in others {
         add_tails_at(nodes, base, graph, *node)?;
@@ -100,7 +108,9 @@ fn own_node(
     own: &Name,
     tran: Tran,
 ) -> Result<Option<u32>, Memory>
-    ensures { IfOk result (λ node. (n : ℕ) → option_map_or (λ k. k == n) node false ≡ is_own graph.now.stored inst.now n own.now tran) }
+    ensures { IfOk result
+        (λ node. (n : ℕ) → option_map_or (λ k. k == n) node false
+        ≡ is_own graph.now.stored inst.now n own.now tran) }
 {
     let name = full_name(alloc, &inst.name, own)?;
     Ok(graph.node(&name, tran))
@@ -118,7 +128,9 @@ fn is_that(told: Option<u32>, node: u32) -> bool
 
 /// Adds a node, where it is there.
 fn add_some(nodes: &mut Items<u32>, node: Option<u32>) -> Result<(), Memory>
-    ensures { OnOk result ((n : ℕ) → is_in nodes.new n ≡ (is_in nodes.old n || option_map_or (λ k. k == n) node false)) }
+    ensures { OnOk result
+        ((n : ℕ) → is_in nodes.new n
+        ≡ (is_in nodes.old n || option_map_or (λ k. k == n) node false)) }
 {
     match node {
         Some(node) => add(nodes, node),
@@ -135,7 +147,9 @@ fn add_data(
     clock: u32,
     test: &CellTest,
 ) -> Result<(), Memory>
-    ensures { OnOk result ((n : ℕ) → is_in nodes.new n ≡ (is_in nodes.old n || is_data graph.now.stored inst.now clock n test.now)) }
+    ensures { OnOk result
+        ((n : ℕ) → is_in nodes.new n
+        ≡ (is_in nodes.old n || is_data graph.now.stored inst.now clock n test.now)) }
 {
     let by = own_node(alloc, graph, inst, &test.clock, test.active)?;
     if is_that(by, clock) {
@@ -154,7 +168,9 @@ fn add_inst_data(
     clock: u32,
     tests: &[CellTest],
 ) -> Result<(), Memory>
-    ensures { OnOk result ((n : ℕ) → is_in nodes.new n ≡ (is_in nodes.old n || list_any (is_data graph.now.stored inst.now clock n) tests.now)) }
+    ensures { OnOk result
+        ((n : ℕ) → is_in nodes.new n
+        ≡ (is_in nodes.old n || list_any (is_data graph.now.stored inst.now clock n) tests.now)) }
 {
     for test in tests {
         add_data(alloc, nodes, graph, inst, clock, test)?;
@@ -172,7 +188,9 @@ fn add_clocked_at(
 ) -> Result<(), Memory>
     requires graph { graph.now.stored ≡ store.now }
     requires clock { clock < node_bound graph.now.stored }
-    ensures { OnOk result ((n : ℕ) → is_in nodes.new n ≡ (is_in nodes.old n || is_clocked_at graph.now.stored n clock)) }
+    ensures { OnOk result
+        ((n : ℕ) → is_in nodes.new n
+        ≡ (is_in nodes.old n || is_clocked_at graph.now.stored n clock)) }
 {
     let Some(pin) = graph.pin_of(clock) else {
         return Ok(());
@@ -194,7 +212,9 @@ fn add_clocked_of(
 ) -> Result<(), Memory>
     requires graph { graph.now.stored ≡ store.now }
     requires clocks { All (λ n. n < node_bound graph.now.stored) clocks.now }
-    ensures { OnOk result ((n : ℕ) → is_in nodes.new n ≡ (is_in nodes.old n || is_clocked_of graph.now.stored clocks.now n)) }
+    ensures { OnOk result
+        ((n : ℕ) → is_in nodes.new n
+        ≡ (is_in nodes.old n || is_clocked_of graph.now.stored clocks.now n)) }
 {
     for clock in clocks {
         add_clocked_at(alloc, nodes, store, graph, *clock)?;
@@ -216,7 +236,9 @@ pub(crate) fn first_nodes(
     requires graph { graph.now.stored ≡ store.now }
     requires seeds { All (λ n. n < node_bound graph.now.stored) seeds.now }
     requires changed { All (λ n. n < node_bound graph.now.stored) changed.now }
-    ensures { IfOk result (λ first. (n : ℕ) → is_in first n ≡ is_first_of base.now graph.now seeds.now changed.now n) }
+    ensures { IfOk result
+        (λ first. (n : ℕ) → is_in first n
+        ≡ is_first_of base.now graph.now seeds.now changed.now n) }
 {
     let mut first = Items::new(alloc);
     add_all(&mut first, seeds)?;

@@ -141,7 +141,9 @@ fn with_test(
     clock: u32,
     tran: Tran,
 ) -> Option<i128>
-    ensures { result ≡ outer_some (other_split split) best (Some (told_limit store.now.design (kind_of split) (clock, tran) test.now)) }
+    ensures { result
+        ≡ outer_some (other_split split) best
+        (Some (told_limit store.now.design (kind_of split) (clock, tran) test.now)) }
 {
     let next = limit(store, split.kind(), clock, tran, test);
     outer_some(split.other(), best, Some(next))

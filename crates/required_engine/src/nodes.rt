@@ -61,9 +61,11 @@ fn split_times(
     requires delays { AreDelays store.now delays.now }
     requires node { IsAsked store.now node.now }
     requires ready { AreReady graph.now rows.now node.now.number }
-    requires tests { AreTests store.now tests.now (tests_numbered store.now (kind_of split) node.now.number) }
+    requires tests { AreTests store.now tests.now
+        (tests_numbered store.now (kind_of split) node.now.number) }
     requires needs { is_wide_numbered store.now (kind_of split) node.now.number ≡ false }
-    ensures times { IfOk result (λ times. times ≡ back_times split (back_numbered store.now node.now.number)) }
+    ensures times { IfOk result
+        (λ times. times ≡ back_times split (back_numbered store.now node.now.number)) }
     ensures fine { OnOk result (is_wide_back store.now split node.now.number ≡ false) }
     ensures err { IfErr result (IsUnfit (is_wide_back store.now split node.now.number)) }
 {
@@ -97,13 +99,20 @@ fn both_times(
     requires delays { AreDelays store.now delays.now }
     requires node { IsAsked store.now node.now }
     requires ready { AreReady graph.now rows.now node.now.number }
-    requires setup { AreTests store.now setup.now (tests_numbered store.now Kind.Setup node.now.number) }
-    requires hold { AreTests store.now hold.now (tests_numbered store.now Kind.Hold node.now.number) }
+    requires setup { AreTests store.now setup.now
+        (tests_numbered store.now Kind.Setup node.now.number) }
+    requires hold { AreTests store.now hold.now
+        (tests_numbered store.now Kind.Hold node.now.number) }
     requires setup_needs { is_wide_numbered store.now Kind.Setup node.now.number ≡ false }
     requires hold_needs { is_wide_numbered store.now Kind.Hold node.now.number ≡ false }
     ensures row { IfOk result (λ row. row ≡ back_numbered store.now node.now.number) }
-    ensures fine { OnOk result ((is_wide_back store.now Split.Early node.now.number || is_wide_back store.now Split.Late node.now.number) ≡ false) }
-    ensures err { IfErr result (IsUnfit (is_wide_back store.now Split.Early node.now.number || is_wide_back store.now Split.Late node.now.number)) }
+    ensures fine { OnOk result
+        ((is_wide_back store.now Split.Early node.now.number || is_wide_back store.now Split.Late
+        node.now.number) ≡ false) }
+    ensures err { IfErr result
+        (IsUnfit
+        (is_wide_back store.now Split.Early node.now.number || is_wide_back store.now Split.Late
+        node.now.number)) }
 {
     let early = split_times(alloc, store, graph, delays, rows, Split::Early, node, hold)?;
     let late = split_times(alloc, store, graph, delays, rows, Split::Late, node, setup)?;
@@ -113,7 +122,8 @@ fn both_times(
 /// The fault of a pin: a required time leaves its limit there, or memory is wanting.
 fn fault_at(alloc: Global, store: &Store, pin: u32, unfit: Unfit) -> Fault
     requires { is_number store.now.pins pin ≡ true }
-    ensures { (wide : Bool) (name : List ℕ) → name_at store.now.pins pin ≡ Some name → IsUnfit wide unfit → IsPlaced wide name result }
+    ensures { (wide : Bool) (name : List ℕ) → name_at store.now.pins pin ≡ Some name
+        → IsUnfit wide unfit → IsPlaced wide name result }
 {
     match unfit {
         Unfit::Memory => Fault::Memory,
@@ -142,8 +152,10 @@ fn tested_back(
     requires node { IsAsked store.now node.now }
     requires pin { pin_told store.now node.now.number ≡ Some pin }
     requires ready { AreReady graph.now rows.now node.now.number }
-    requires setup { AreTests store.now setup.now (tests_numbered store.now Kind.Setup node.now.number) }
-    requires hold { AreTests store.now hold.now (tests_numbered store.now Kind.Hold node.now.number) }
+    requires setup { AreTests store.now setup.now
+        (tests_numbered store.now Kind.Setup node.now.number) }
+    requires hold { AreTests store.now hold.now
+        (tests_numbered store.now Kind.Hold node.now.number) }
     requires setup_needs { is_wide_numbered store.now Kind.Setup node.now.number ≡ false }
     requires hold_needs { is_wide_numbered store.now Kind.Hold node.now.number ≡ false }
     ensures row { IfOk result (IsBackRow store.now node.now.number) }

@@ -68,7 +68,9 @@ pub(crate) fn level_rows<H: Threads + Sync, A: Rows + Delayed + Sync, G: Gate>(
     ensures { IfOk result (IsMap (IsAnswerAt graph.now level) nodes.now) }
 {
     let answer = |node: &u32| -> Result<Result<BackRow, Fault>, Memory>
-        requires { (graph.now.stored ≡ store.now) × AreFound store.now (A.rows arrivals.now) (A.delays arrivals.now) × AreDoneFrom graph.now rows.now (level + 1) }
+        requires { (graph.now.stored ≡ store.now)
+            × AreFound store.now (A.rows arrivals.now) (A.delays arrivals.now)
+            × AreDoneFrom graph.now rows.now (level + 1) }
         ensures { IfOk result (IsAnswerAt graph.entry.now level node.now) }
     { Ok(level_answer(alloc, store, graph, arrivals, rows, level, *node)) };
     let threads = worth_threads(nodes.len(), workers);

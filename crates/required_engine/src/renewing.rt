@@ -1,6 +1,6 @@
 //! The pass over the nodes whose required times an edit affects, from the highest level down.
 
-ghost use Rattle.std.specs.Prelude.{ℕ, ◌≡◌, ◌+◌, ◌<◌, ◌≤◌, ◌||◌, ◌&&◌, not, All, map, length, IfErr, OnOk};
+ghost use Rattle.std.specs.Prelude.{ℕ, ◌≡◌, ◌+◌, ◌<◌, ◌≤◌, ◌||◌, ◌&&◌, not, All, map, length, slice_set, IfErr, OnOk};
 ghost use Rattle.std.specs.Cmp.Lexicographic.{pointwise};
 ghost use Rattle.timing_rules.specs.Cones.{same_time, same_back};
 ghost use Rattle.netlist_store.specs.Applying.{IsEditOf};
@@ -67,7 +67,9 @@ fn same_back(a: &BackRow, b: &BackRow) -> bool
 /// Lets nodes wait.
 pub(crate) fn wait_all(queue: &mut LevelQueue, graph: &Graph, nodes: &[u32]) -> Result<(), Memory>
     requires { All (λ n. n < node_bound graph.now.stored) nodes.now }
-    ensures { OnOk result ((k n : ℕ) → waits queue.new k n ≡ (waits queue.old k n || stands_in (top_level graph.now) nodes.now k n)) }
+    ensures { OnOk result
+        ((k n : ℕ) → waits queue.new k n
+        ≡ (waits queue.old k n || stands_in (top_level graph.now) nodes.now k n)) }
 {
     for node in nodes {
         queue.add(from_top(graph.level(*node)), *node)?;
@@ -78,7 +80,9 @@ pub(crate) fn wait_all(queue: &mut LevelQueue, graph: &Graph, nodes: &[u32]) -> 
 /// Lets the nodes wait from which arcs lead.
 fn wait_tails(queue: &mut LevelQueue, graph: &Graph, arcs: &[GraphArc]) -> Result<(), Memory>
     requires { All (λ arc. arc.from < node_bound graph.now.stored) arcs.now }
-    ensures { OnOk result ((k n : ℕ) → waits queue.new k n ≡ (waits queue.old k n || tails_stand graph.now arcs.now k n)) }
+    ensures { OnOk result
+        ((k n : ℕ) → waits queue.new k n
+        ≡ (waits queue.old k n || tails_stand graph.now arcs.now k n)) }
 {
     for arc in arcs {
         queue.add(from_top(graph.level(arc.from)), arc.from)?;
@@ -111,7 +115,12 @@ fn wait_before(
     requires node { node < node_bound graph.now.stored }
     requires count { length rows.now ≡ node_bound graph.now.stored }
     requires low { All (λ arc. arc.from < node_bound graph.now.stored) (fan_at graph.now.ins node) }
-    ensures { OnOk result ((k n : ℕ) → waits queue.new k n ≡ (waits queue.old k n || (not (same_back (back_at before.now node) (back_at rows.now node)) && tails_stand graph.now (fan_at graph.now.ins node) k n))) }
+    ensures { OnOk result
+        ((k n : ℕ) → waits queue.new k n
+        ≡
+        (waits queue.old k n ||
+        (not (same_back (back_at before.now node) (back_at rows.now node)) && tails_stand graph.now
+        (fan_at graph.now.ins node) k n))) }
 {
     if is_other(alloc, before, rows, node) {
         wait_tails(queue, graph, graph.arcs_in(node))
@@ -131,8 +140,11 @@ fn wait_before_all(
 ) -> Result<(), Memory>
     requires nodes { All (λ n. n < node_bound graph.now.stored) nodes.now }
     requires count { length rows.now ≡ node_bound graph.now.stored }
-    requires low { (n : ℕ) → n < node_bound graph.now.stored → All (λ arc. arc.from < node_bound graph.now.stored) (fan_at graph.now.ins n) }
-    ensures { OnOk result ((k n : ℕ) → waits queue.new k n ≡ (waits queue.old k n || tails_of_changed graph.now before.now rows.now nodes.now k n)) }
+    requires low { (n : ℕ) → n < node_bound graph.now.stored
+        → All (λ arc. arc.from < node_bound graph.now.stored) (fan_at graph.now.ins n) }
+    ensures { OnOk result
+        ((k n : ℕ) → waits queue.new k n
+        ≡ (waits queue.old k n || tails_of_changed graph.now before.now rows.now nodes.now k n)) }
 {
     for node in nodes {
         wait_before(alloc, queue, graph, before, rows, *node)?;
@@ -140,30 +152,45 @@ fn wait_before_all(
     Ok(())
 }
 
-/// Writes the answers for nodes of a level to their rows by several threads; refuses with the first
-/// fault among them.
-fn put_answers<H: Threads + Sync>(
-    rt: &H,
+/// Writes the row of a node, where it is another than the one that is there.
+fn put_row(rows: &mut CowTable<BackRow>, node: u32, row: BackRow) -> Result<(), Memory>
+    requires { node < length rows.old }
+    ensures { OnOk result (rows.new ≡ slice_set rows.old node row) }
+{
+    if same_back(rows.get(node as usize), &row) {
+        return Ok(());
+    }
+    rows.set(node as usize, row)
+}
+
+/// Writes the answers for nodes of a level to their rows; refuses with the first fault among them.
+fn put_answers(
     graph: &Graph,
     rows: &mut CowTable<BackRow>,
-    workers: u32,
     level: u32,
     nodes: &[u32],
     found: Items<Result<BackRow, Fault>>,
 ) -> Result<(), Fault>
     requires nodes { All (IsAtLevel graph.now level) nodes.now }
     requires found { IsMap (IsAnswerAt graph.now level) nodes.now found }
-    ensures rows { OnOk result (rows.new ≡ put_all rows.old nodes.now (map (back_numbered graph.now.stored) nodes.now)) }
+    requires count { length rows.old ≡ node_bound graph.now.stored }
+    ensures rows { OnOk result
+        (rows.new ≡ put_all rows.old nodes.now (map (back_numbered graph.now.stored) nodes.now)) }
     ensures fine { OnOk result (All (IsFineAt graph.now.stored) nodes.now) }
     ensures err { IfErr result (IsRangeFault graph.now.stored.design) }
 {
     // The graph and the level are asked for by the contract alone.
     let _ = graph;
     let _ = level;
-    match rows.put_all(rt, workers, nodes, found.into_vec())? {
-        Some(fault) => Err(fault),
-        None => Ok(()),
+    let mut at = 0;
+    for answer in found.into_vec() {
+        match answer {
+            Ok(row) => put_row(rows, nodes[at], row)?,
+            Err(fault) => return Err(fault),
+        }
+        at += 1;
     }
+    Ok(())
 }
 
 /// Counts a step for each of some nodes.
@@ -199,9 +226,12 @@ fn renew_level<H: Threads + Sync, A: Rows + Delayed + Sync, G: Gate, L>(
     requires found { AreFound store.now (A.rows arrivals.now) (A.delays arrivals.now) }
     requires nodes { All (IsAtLevel graph.now level) nodes.now }
     requires done { AreDoneFrom graph.now rows.old (level + 1) }
-    ensures rows { OnOk result (rows.new ≡ put_all rows.old nodes.now (map (back_numbered graph.now.stored) nodes.now)) }
+    ensures rows { OnOk result
+        (rows.new ≡ put_all rows.old nodes.now (map (back_numbered graph.now.stored) nodes.now)) }
     ensures fine { OnOk result (All (IsFineAt graph.now.stored) nodes.now) }
-    ensures marks { OnOk result ((k n : ℕ) → waits queue.new k n ≡ (waits queue.old k n || tails_of_changed graph.now before.now rows.new nodes.now k n)) }
+    ensures marks { OnOk result
+        ((k n : ℕ) → waits queue.new k n
+        ≡ (waits queue.old k n || tails_of_changed graph.now before.now rows.new nodes.now k n)) }
     ensures err { IfErr result (IsRangeFault graph.now.stored.design) }
     ensures steps { steps.new ≡ steps.old + length nodes.now }
 {
@@ -211,7 +241,7 @@ fn renew_level<H: Threads + Sync, A: Rows + Delayed + Sync, G: Gate, L>(
     let found = level_rows(
         rt, alloc, store, graph, arrivals, rows, workers, level, nodes, gate,
     )?;
-    put_answers(rt, graph, rows, workers, level, nodes, found)?;
+    put_answers(graph, rows, level, nodes, found)?;
     wait_before_all(alloc, queue, graph, before, rows, nodes)?;
     Ok(())
 }
@@ -242,11 +272,13 @@ pub(crate) fn renew<H: Threads + Sync, A: Rows + Delayed + Sync, G: Gate, L>(
     requires was { IsBackBase base.now.stored before.now }
     requires first { AreFirst base.now.stored graph.now.stored (touch_of touched.now) first.now }
     requires count { length rows.old ≡ node_bound graph.now.stored }
-    requires rows { (n : ℕ) → n < node_bound graph.now.stored → back_at rows.old n ≡ back_before base.now.stored graph.now.stored n }
+    requires rows { (n : ℕ) → n < node_bound graph.now.stored → back_at rows.old n
+        ≡ back_before base.now.stored graph.now.stored n }
     ensures done { OnOk result (AreDoneFrom graph.now rows.new 0) }
     ensures err { IfErr result (IsRangeFault graph.now.stored.design) }
     ensures least { steps.old ≤ steps.new }
-    ensures steps { steps.new ≤ steps.old + affected_count (back_cone base.now.stored graph.now first.now) }
+    ensures steps { steps.new ≤ steps.old + affected_count
+        (back_cone base.now.stored graph.now first.now) }
 {
     // The ECO is asked for by the contract alone.
     let _ = touched;

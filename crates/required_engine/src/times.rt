@@ -57,7 +57,8 @@ fn in_range(time: i128) -> Result<i64, Unfit>
 
 /// Adds the time of a launch edge, where there is one. `Range` only where it leaves its limit.
 fn add_time(times: &mut EdgeTimes, clock: u32, tran: Tran, time: Option<i128>) -> Result<(), Unfit>
-    ensures times { OnOk result (times.new ≡ times.old ++ option_to_list (option_map (edge_time (clock, tran)) time)) }
+    ensures times { OnOk result
+        (times.new ≡ times.old ++ option_to_list (option_map (edge_time (clock, tran)) time)) }
     ensures fine { OnOk result (within_some time ≡ true) }
     ensures err { IfErr result (IsUnfit (not (within_some time))) }
 {
@@ -83,9 +84,16 @@ fn add_required(
     arrival: &EdgeTime,
 ) -> Result<(), Unfit>
     requires { AreTabled behind.now }
-    ensures times { OnOk result (times.new ≡ times.old ++ option_to_list (option_map (edge_time (edge_of arrival.now)) (over_behind store.now.design split behind.now (edge_of arrival.now)))) }
-    ensures fine { OnOk result (within_some (over_behind store.now.design split behind.now (edge_of arrival.now)) ≡ true) }
-    ensures err { IfErr result (IsUnfit (not (within_some (over_behind store.now.design split behind.now (edge_of arrival.now))))) }
+    ensures times { OnOk result
+        (times.new
+        ≡ times.old ++ option_to_list
+        (option_map (edge_time (edge_of arrival.now))
+        (over_behind store.now.design split behind.now (edge_of arrival.now)))) }
+    ensures fine { OnOk result
+        (within_some (over_behind store.now.design split behind.now (edge_of arrival.now)) ≡ true) }
+    ensures err { IfErr result
+        (IsUnfit
+        (not (within_some (over_behind store.now.design split behind.now (edge_of arrival.now))))) }
 {
     let time = over_behind(store, split, behind, arrival.clock, arrival.tran);
     add_time(times, arrival.clock, arrival.tran, time)
@@ -101,9 +109,16 @@ pub(crate) fn required_times(
     arrived: &[EdgeTime],
 ) -> Result<EdgeTimes, Unfit>
     requires { AreTabled behind.now }
-    ensures times { IfOk result (λ times. times ≡ times_on (over_behind store.now.design split behind.now) (map edge_of arrived.now)) }
-    ensures fine { OnOk result (are_wide_times (over_behind store.now.design split behind.now) (map edge_of arrived.now) ≡ false) }
-    ensures err { IfErr result (IsUnfit (are_wide_times (over_behind store.now.design split behind.now) (map edge_of arrived.now))) }
+    ensures times { IfOk result
+        (λ times. times
+        ≡ times_on (over_behind store.now.design split behind.now) (map edge_of arrived.now)) }
+    ensures fine { OnOk result
+        (are_wide_times (over_behind store.now.design split behind.now) (map edge_of arrived.now)
+        ≡ false) }
+    ensures err { IfErr result
+        (IsUnfit
+        (are_wide_times (over_behind store.now.design split behind.now)
+        (map edge_of arrived.now))) }
 {
     let mut times = EdgeTimes::new(alloc);
     for arrival in arrived {

@@ -29,7 +29,8 @@ use timing_defs::{BackRow, Fault, Rows};
 /// Empties a row, where it is there.
 fn clear(alloc: Global, rows: &mut CowTable<BackRow>, node: usize) -> Result<(), Memory>
     ensures count { OnOk result (length rows.new ≡ length rows.old) }
-    ensures rows { OnOk result ((n : ℕ) → back_at rows.new n ≡ (if node == n then empty_back else back_at rows.old n)) }
+    ensures rows { OnOk result
+        ((n : ℕ) → back_at rows.new n ≡ (if node == n then empty_back else back_at rows.old n)) }
 {
     if node < rows.len() {
         rows.set(node, empty_back(alloc))
@@ -41,7 +42,9 @@ fn clear(alloc: Global, rows: &mut CowTable<BackRow>, node: usize) -> Result<(),
 /// Empties the rows of the nodes of a pin.
 fn clear_pin(alloc: Global, rows: &mut CowTable<BackRow>, pin: u32) -> Result<(), Memory>
     ensures count { OnOk result (length rows.new ≡ length rows.old) }
-    ensures rows { OnOk result ((n : ℕ) → back_at rows.new n ≡ (if pin == pin_under n then empty_back else back_at rows.old n)) }
+    ensures rows { OnOk result
+        ((n : ℕ) → back_at rows.new n
+        ≡ (if pin == pin_under n then empty_back else back_at rows.old n)) }
 {
     let rise = 2 * pin as usize;
     clear(alloc, rows, rise)?;
@@ -51,7 +54,9 @@ fn clear_pin(alloc: Global, rows: &mut CowTable<BackRow>, pin: u32) -> Result<()
 /// Empties the rows of the nodes of pins.
 fn clear_pins(alloc: Global, rows: &mut CowTable<BackRow>, pins: &[u32]) -> Result<(), Memory>
     ensures count { OnOk result (length rows.new ≡ length rows.old) }
-    ensures rows { OnOk result ((n : ℕ) → back_at rows.new n ≡ (if is_in pins.now (pin_under n) then empty_back else back_at rows.old n)) }
+    ensures rows { OnOk result
+        ((n : ℕ) → back_at rows.new n
+        ≡ (if is_in pins.now (pin_under n) then empty_back else back_at rows.old n)) }
 {
     for pin in pins {
         clear_pin(alloc, rows, *pin)?;
@@ -70,7 +75,9 @@ fn begun(
     requires made { IsEditOf base.now.stored (touch_of touched.now) graph.now.stored }
     requires was { AreBackRows base.now.stored before.now }
     ensures count { IfOk result (λ rows. length rows ≡ node_bound graph.now.stored) }
-    ensures rows { IfOk result (λ rows. (n : ℕ) → n < node_bound graph.now.stored → back_at rows n ≡ back_before base.now.stored graph.now.stored n) }
+    ensures rows { IfOk result
+        (λ rows. (n : ℕ) → n < node_bound graph.now.stored → back_at rows n
+        ≡ back_before base.now.stored graph.now.stored n) }
 {
     base.store().laws();
     graph.store().laws();
@@ -105,13 +112,15 @@ fn updated_rows<H: Threads + Sync, A: Rows + Delayed + Sync, G: Gate, L>(
     requires was_rows { AreBackRows base.now.stored before.now }
     requires was_near { AreBacksFine base.now.stored.design }
     requires seeds { AreSeeds base.now.stored graph.now.stored (touch_of touched.now) seeds.now }
-    requires changed { AreThose graph.now.stored (row_differs base.now.stored.design graph.now.stored.design) changed.now }
+    requires changed { AreThose graph.now.stored
+        (row_differs base.now.stored.design graph.now.stored.design) changed.now }
     ensures rows { IfOk result (AreBackRows store.now) }
     ensures fine { OnOk result (AreBacksFine store.now.design) }
     ensures within { IfOk result AreBacksWithin }
     ensures err { IfErr result (IsRangeFault store.now.design) }
     ensures least { steps.old ≤ steps.new }
-    ensures steps { steps.new ≤ steps.old + backward_count base.now.stored.design graph.now.stored.design (touch_of touched.now) }
+    ensures steps { steps.new ≤ steps.old + backward_count base.now.stored.design
+        graph.now.stored.design (touch_of touched.now) }
 {
     store.laws();
     graph.laws();
@@ -163,13 +172,15 @@ impl Required {
         requires was_rows { AreBackRows base.now.stored self.now.rows }
         requires was_near { AreBacksFine base.now.stored.design }
         requires seeds { AreSeeds base.now.stored store.now (touch_of touched.now) seeds.now }
-        requires changed { AreThose store.now (row_differs base.now.stored.design store.now.design) changed.now }
+        requires changed { AreThose store.now (row_differs base.now.stored.design store.now.design)
+            changed.now }
         ensures rows { IfOk result (λ required. AreBackRows store.now required.rows) }
         ensures fine { OnOk result (AreBacksFine store.now.design) }
         ensures within { IfOk result (λ required. AreBacksWithin required.rows) }
         ensures err { IfErr result (IsRangeFault store.now.design) }
         ensures least { steps.old ≤ steps.new }
-        ensures steps { steps.new ≤ steps.old + backward_count base.now.stored.design store.now.design (touch_of touched.now) }
+        ensures steps { steps.new ≤ steps.old + backward_count base.now.stored.design
+            store.now.design (touch_of touched.now) }
     {
         let before = &self.rows;
         let rows = updated_rows(

@@ -10,15 +10,18 @@ use Rattle.timing_defs.specs.declared.codes.ReadFault.{ReadFault}
 use Rattle.timing_defs.specs.declared.edits.Edit.{Edit}
 use Rattle.timing_defs.specs.declared.reports.Candidate.{Candidate}
 use Rattle.timing_defs.specs.declared.reports.Query.{Query, items_hidden-the_row-Trial-0}
-use Rattle.timing_defs.specs.declared.reports.Query.TheVariants.{Slew, At, Rat, Slack, Endpoint, WorstPath, Wns, Tns, Worst, Through, Paths, WhatIf', Advise}
+use Rattle.timing_defs.specs.declared.reports.Query.TheVariants.{Slew, At, Rat, Slack, Endpoint, WorstPath, Wns, Tns, Worst, Through, Paths, WhatIf', Advise, Closing}
 use Rattle.timing_defs.specs.declared.reports.Trial.{Trial}
 use Rattle.timing_defs.specs.declared.reports.Trial.TheVariants.{Drop, Ask as ask_draft}
 use Rattle.timing_defs.specs.declared.scripts.Command.{Command}
 use Rattle.timing_defs.specs.declared.scripts.Command.TheVariants.{Take, Await, Ask, Change}
 use Rattle.timing_defs.specs.declared.scripts.Script.{Script}
 use Rattle.timing_defs.specs.declared.kinds.Kind.{Kind}
-use Rattle.timing_defs.specs.Documents.{is_edit, is_eco, is_count, is_trial, is_question}
-use Rattle.timing_defs.specs.Documents.{is_plain}
+use Rattle.timing_defs.specs.declared.closing.Aim.{Aim}
+use Rattle.timing_defs.specs.declared.closing.ClosingQuery.{ClosingQuery}
+use Rattle.timing_defs.specs.declared.closing.ClosingQuery.TheVariants.{WorstPaths, Skew}
+use Rattle.timing_defs.specs.Documents.{is_edit, is_eco, is_count, is_closing, is_draft_trial}
+use Rattle.script_reader.specs.Words.{may_be_tried}
 use Rattle.sta_text.specs.declared.faults.Wrong.{Wrong}
 use Rattle.sta_text.specs.Faults.{least_from}
 use Rattle.sta_text.proofs.FaultsLemmas.{least_none}
@@ -29,13 +32,15 @@ use Rattle.eco_journal.specs.EditLines.{names, texts_of, edit_of}
 use Rattle.eco_journal.specs.Journal.{Tells}
 use Rattle.eco_journal.proofs.KeptLaws.{line_kept}
 use Rattle.script_reader.specs.declared.commands.Node.{Node}
-use Rattle.script_reader.specs.Commands.{words_in, kind_of, node_of, endpoint_of, only_kind, worst_at, node_asked, node_query, endpoint_asked, endpoint_query, total_asked, total_query, through_at, through_of, paths_at, paths_of, path_query, are_pairs, candidates_of, advise_at, advise_query, first_of_two, awaited, asked, query_of, command_of}
+use Rattle.script_reader.specs.Words.{kind_of, endpoint_of, only_kind, are_pairs, candidates_of}
+use Rattle.script_reader.specs.ClosingCommands.{name_asked, name_query, timing_asked, timing_query, timed_through_at, timed_through_of, each_of, worst_paths_at, worst_paths_of, kind_asked, kind_query, skew_of, advise_tns_at, advise_tns_of, aim_of, sizes_at, advise_sizes_of, first_closing, one_name, closing_of}
+use Rattle.script_reader.specs.Commands.{words_in, node_of, worst_at, node_asked, node_query, endpoint_asked, endpoint_query, total_asked, total_query, through_at, through_of, paths_at, paths_of, path_query, advise_at, advise_query, closing, closing_query, first_of_two, awaited, asked, query_of, command_of}
 use Rattle.script_reader.specs.Scripts.{Event, long, single, change, group_begin, group_end, draft_begin, draft_end, dropped, unknown, is_ascii, is_passed, is_alone, edit_said, command_said, words_said, line_said, too_long, events, Place, outside, inside, drafted, tried, eco, trial, what_if, commands, bad, behind, if_empty, excess, faults, told, script_of}
-use Rattle.script_reader.specs.Answerable.{is_asked, is_answerable, are_answerable}
+use Rattle.script_reader.specs.Answerable.{is_asked, is_read, is_answerable, are_answerable}
 
 -- a command by itself, as a line says it
 abbrev pub is_said : Command → Bool
-is_said (Ask q) = is_question q
+is_said (Ask q) = is_read q
 is_said (Change eco) = is_eco eco
 is_said Take = true
 is_said (Await number looks) = nat_le 1 looks
@@ -88,7 +93,7 @@ await_fine (Some number) (Some looks) h = h looks refl
 -- the questions are such as a script may ask
 abbrev IfAsked : Option Query → Type 0
 IfAsked None = Unit {0}
-IfAsked (Some query) = is_question query ≡ true
+IfAsked (Some query) = is_read query ≡ true
 
 node_fine : (words : List Part) (node : Option Node) → IfAsked (option_and_then (node_asked words) node)
 node_fine words None = tt
@@ -197,17 +202,141 @@ advise_fine words =
     (λ _. tt))
     (λ _. tt)
 
+-- the questions that closing timing needs are of their form
+abbrev IfClosing : Option ClosingQuery → Type 0
+IfClosing None = Unit {0}
+IfClosing (Some query) = is_closing query ≡ true
+
+name_fine : (words : List Part) (name : Option (List ℕ)) → IfClosing (option_and_then (name_asked words) name)
+name_fine words None = tt
+name_fine words (Some name) =
+    cond_both (says words 0 (codes "report_net")) _ _ IfClosing (λ _. refl)
+    (λ _. cond_both (says words 0 (codes "report_instance")) _ _ IfClosing (λ _. refl)
+    (λ _. cond_both (says words 0 (codes "report_sizes")) _ _ IfClosing (λ _. refl) (λ _. tt)))
+
+timing_fine : (words : List Part) (end : Option (List ℕ × Kind)) → IfClosing (option_and_then (timing_asked words) end)
+timing_fine words None = tt
+timing_fine words (Some e) = cond_both (says words 0 (codes "report_timing")) _ _ IfClosing (λ _. refl) (λ _. tt)
+
+kind_fine : (words : List Part) (kind : Option Kind) → IfClosing (option_and_then (kind_asked words) kind)
+kind_fine words None = tt
+kind_fine words (Some kind) =
+    cond_both (says words 0 (codes "report_failing")) _ _ IfClosing (λ _. refl)
+    (λ _. cond_both (says words 0 (codes "report_summary")) _ _ IfClosing (λ _. refl) (λ _. tt))
+
+timed_at_fine : (pin : List ℕ) (pins : List (List ℕ)) (kind : Option Kind) → is_count 16 (length pins) ≡ true → IfClosing (timed_through_at pin pins kind)
+timed_at_fine pin pins None h = tt
+timed_at_fine pin pins (Some kind) h = h
+
+timed_fine : (words : List Part) → IfClosing (timed_through_of words)
+timed_fine words =
+    cond_both (nat_le 4 (length words) && nat_le (length words) 19 && names words 1 && list_all is_word (drop 3 words)) _ _ IfClosing
+    (λ h.
+    let named = and_parts (nat_le 4 (length words) && nat_le (length words) 19 && names words 1) (list_all is_word (drop 3 words)) h in
+    let counted = and_parts (nat_le 4 (length words) && nat_le (length words) 19) (names words 1) named.0 in
+    let bounds = and_parts (nat_le 4 (length words)) (nat_le (length words) 19) counted.0 in
+    timed_at_fine (text words 1) (texts_of (drop 3 words)) (kind_of (text words 2)) (words_counted words bounds.0 bounds.1))
+    (λ _. tt)
+
+-- so many of each endpoint are at most so many of all
+abbrev IfEach : Kind → ℕ → Option ℕ → Type 0
+IfEach kind count each = IfClosing (option_map (λ (n : ℕ). WorstPaths kind count n) each)
+
+within_fine : (kind : Kind) (count : ℕ) (each : Option ℕ) → is_count 100 count ≡ true → IfEach kind count (within 1 count each)
+within_fine kind count None h = tt
+within_fine kind count (Some n) h =
+    cond_both (nat_le 1 n && nat_le n count) (Some n) None (IfEach kind count) (λ k. and_from (is_count 100 count) (is_count count n) h k) (λ _. tt)
+
+each_fine : (words : List Part) (kind : Kind) (count : ℕ) → is_count 100 count ≡ true → IfEach kind count (each_of words count)
+each_fine words kind count h =
+    cond_both (length words == 3) _ _ (IfEach kind count)
+    (λ _. and_from (is_count 100 count) (is_count count 1) h (and_parts (nat_le 1 count) (nat_le count 100) h).0)
+    (λ _. cond_both (length words == 5 && says words 3 (codes "each")) _ _ (IfEach kind count)
+    (λ _. within_fine kind count (number_of (text words 4)) h) (λ _. tt))
+
+worst_paths_fine : (words : List Part) (kind : Option Kind) (count : Option ℕ) → IfClosing (worst_paths_at words kind (within 1 100 count))
+worst_paths_fine words None count = tt
+worst_paths_fine words (Some kind) None = tt
+worst_paths_fine words (Some kind) (Some n) =
+    cond_both (nat_le 1 n && nat_le n 100) (Some n) None (λ count. IfClosing (worst_paths_at words (Some kind) count))
+    (λ h. each_fine words kind n h) (λ _. tt)
+
+tns_at_fine : (candidates : List Candidate) (kind : Option Kind) → is_count 100 (length candidates) ≡ true → IfClosing (advise_tns_at candidates kind)
+tns_at_fine candidates None h = tt
+tns_at_fine candidates (Some kind) h = h
+
+tns_fine : (words : List Part) → IfClosing (advise_tns_of words)
+tns_fine words =
+    cond_both (nat_le 4 (length words) && nat_le (length words) 202 && are_pairs (drop 2 words)) _ _ IfClosing
+    (λ h.
+    let paired = and_parts (nat_le 4 (length words) && nat_le (length words) 202) (are_pairs (drop 2 words)) h in
+    let bounds = and_parts (nat_le 4 (length words)) (nat_le (length words) 202) paired.0 in
+    tns_at_fine (candidates_of (drop 2 words)) (kind_of (text words 1)) (candidates_counted words bounds.0 bounds.1 paired.1))
+    (λ _. tt)
+
+-- behind three words of 4 or more stands one at least
+one_counted : (words : List Part) → nat_le 4 (length words) ≡ true → nat_le 1 (length (texts_of (drop 3 words))) ≡ true
+one_counted words some =
+    let low : 4 ≤ length words = leb-true 4 (length words) some in
+    let count : length (texts_of (drop 3 words)) ≡ length words - 3 = length-map (drop 3 words) (λ (w : Part). w.text) ∙ length-drop 3 words in
+    le-leb 1 (length (texts_of (drop 3 words))) (omega (arith, low, count))
+
+sizes_at_fine : (insts : List (List ℕ)) (kind : Option Kind) (aim : Option Aim) → nat_le 1 (length insts) ≡ true → IfClosing (sizes_at insts kind aim)
+sizes_at_fine insts None aim h = tt
+sizes_at_fine insts (Some kind) None h = tt
+sizes_at_fine insts (Some kind) (Some aim) h = h
+
+sizes_fine : (words : List Part) → IfClosing (advise_sizes_of words)
+sizes_fine words =
+    cond_both (nat_le 4 (length words) && list_all is_word (drop 3 words)) _ _ IfClosing
+    (λ h. sizes_at_fine (texts_of (drop 3 words)) (kind_of (text words 1)) (aim_of (text words 2))
+    (one_counted words (and_parts (nat_le 4 (length words)) (list_all is_word (drop 3 words)) h).0))
+    (λ _. tt)
+
+first_fine : (first other : Option ClosingQuery) → IfClosing first → IfClosing other → IfClosing (first_closing first other)
+first_fine None other h k = k
+first_fine (Some query) other h k = h
+
+closing_said : (words : List Part) → IfClosing (closing_of words)
+closing_said words =
+    cond_both (says words 0 (codes "report_timing_through")) _ _ IfClosing (λ _. timed_fine words)
+    (λ _. cond_both (says words 0 (codes "report_worst_paths")) _ _ IfClosing
+    (λ _. worst_paths_fine words (kind_of (text words 1)) (number_of (text words 2)))
+    (λ _. cond_both (says words 0 (codes "report_skew")) _ _ IfClosing
+    (λ _. cond_both (length words == 1) (Some Skew) None IfClosing (λ _. refl) (λ _. tt))
+    (λ _. cond_both (says words 0 (codes "advise_tns")) _ _ IfClosing (λ _. tns_fine words)
+    (λ _. cond_both (says words 0 (codes "advise_sizes")) _ _ IfClosing (λ _. sizes_fine words)
+    (λ _. first_fine (name_query words) (first_closing (timing_query words) (kind_query words)) (name_fine words (one_name words))
+    (first_fine (timing_query words) (kind_query words) (timing_fine words (endpoint_of words)) (kind_fine words (only_kind words))))))))
+
+closed_fine : (query : Option ClosingQuery) → IfClosing query → IfAsked (option_map closing query)
+closed_fine None h = tt
+closed_fine (Some query) h = h
+
 two_fine : (first other : Option Query) → IfAsked first → IfAsked other → IfAsked (first_of_two first other)
 two_fine None other h k = k
 two_fine (Some query) other h k = h
 
+-- the questions that are tried behind each
+abbrev behind_paths : List Part → Option Query
+behind_paths words = first_of_two (advise_query words) (closing_query words)
+
+abbrev behind_totals : List Part → Option Query
+behind_totals words = first_of_two (path_query words) (behind_paths words)
+
+abbrev behind_ends : List Part → Option Query
+behind_ends words = first_of_two (total_query words) (behind_totals words)
+
+abbrev behind_nodes : List Part → Option Query
+behind_nodes words = first_of_two (endpoint_query words) (behind_ends words)
+
 query_fine : (words : List Part) → IfAsked (query_of words)
 query_fine words =
-    two_fine (node_query words) (first_of_two (endpoint_query words) (first_of_two (total_query words) (first_of_two (path_query words) (advise_query words))))
-    (node_fine words (node_of words))
-    (two_fine (endpoint_query words) (first_of_two (total_query words) (first_of_two (path_query words) (advise_query words))) (end_fine words (endpoint_of words))
-    (two_fine (total_query words) (first_of_two (path_query words) (advise_query words)) (total_fine words)
-    (two_fine (path_query words) (advise_query words) (path_fine words) (advise_fine words))))
+    two_fine (node_query words) (behind_nodes words) (node_fine words (node_of words))
+    (two_fine (endpoint_query words) (behind_ends words) (end_fine words (endpoint_of words))
+    (two_fine (total_query words) (behind_totals words) (total_fine words)
+    (two_fine (path_query words) (behind_paths words) (path_fine words)
+    (two_fine (advise_query words) (closing_query words) (advise_fine words) (closed_fine (closing_of words) (closing_said words))))))
 
 asked_fine : (query : Option Query) → IfAsked query → IfSome (option_map asked query)
 asked_fine None h = tt
@@ -258,8 +387,8 @@ behind_none limit before n rest h = by_cases (nat_le limit before) refl h
     by_cases true e g = absurd (cc)
     by_cases false e g = (e, g)
 
--- a question that a line asks may be asked, and of a draft where it is plain
-asked_said : (q : Query) → is_question q ≡ true → is_asked q ≡ true
+-- a question that a line asks may be asked, and of a draft where it is about none
+asked_said : (q : Query) → is_read q ≡ true → is_asked q ≡ true
 asked_said (Slew pin split tran) h = refl
 asked_said (At pin split tran) h = refl
 asked_said (Rat pin split tran) h = refl
@@ -273,8 +402,9 @@ asked_said (Through pin kind pins) h = h
 asked_said (Paths pin kind count) h = h
 asked_said (WhatIf' shape trials) h = h
 asked_said (Advise kind candidates) h = h
+asked_said (Closing query) h = h
 
-pub trial_said : (q : Query) → is_question q ≡ true → is_plain q ≡ true → is_trial (ask_draft q) ≡ true
+pub trial_said : (q : Query) → is_read q ≡ true → may_be_tried q ≡ true → is_draft_trial (ask_draft q) ≡ true
 trial_said (Slew pin split tran) h plain = refl
 trial_said (At pin split tran) h plain = refl
 trial_said (Rat pin split tran) h plain = refl
@@ -284,10 +414,11 @@ trial_said (WorstPath pin kind) h plain = refl
 trial_said (Wns kind) h plain = refl
 trial_said (Tns kind) h plain = refl
 trial_said (Worst kind count) h plain = h
-trial_said (Through pin kind pins) h plain = absurd (false≢true plain)
-trial_said (Paths pin kind count) h plain = absurd (false≢true plain)
+trial_said (Through pin kind pins) h plain = h
+trial_said (Paths pin kind count) h plain = h
 trial_said (WhatIf' shape trials) h plain = absurd (false≢true plain)
-trial_said (Advise kind candidates) h plain = absurd (false≢true plain)
+trial_said (Advise kind candidates) h plain = h
+trial_said (Closing query) h plain = h
 
 pub answerable_said : (c : Command) → is_said c ≡ true → is_answerable c ≡ true
 answerable_said Take h = refl
@@ -299,20 +430,20 @@ answerable_said (Change eco) h = h
 abbrev IsOpen : Place → Type 0
 IsOpen outside = Unit {0}
 IsOpen (inside begin edits) = (list_all is_edit edits ≡ true) × (length edits ≤ 1000)
-IsOpen (drafted begin trials) = (list_all is_trial trials ≡ true) × (length trials ≤ 100)
+IsOpen (drafted begin trials) = (list_all is_draft_trial trials ≡ true) × (length trials ≤ 100)
 IsOpen (tried begin trials group edits) =
-    (list_all is_trial trials ≡ true) × (nat_le 100 (length trials) ≡ false) × (list_all is_edit edits ≡ true) × (length edits ≤ 1000)
+    (list_all is_draft_trial trials ≡ true) × (nat_le 100 (length trials) ≡ false) × (list_all is_edit edits ≡ true) × (length edits ≤ 1000)
 
 pub eco_made : (edits : List Edit) → 1 ≤ length edits → length edits ≤ 1000 → list_all is_edit edits ≡ true → is_eco (record { edits = edits }) ≡ true
 eco_made edits some few good = rw (le-leb 1 (length edits) some, le-leb (length edits) 1000 few, good) refl
 
-draft_counted : (trials : List Trial) → 1 ≤ length trials → length trials ≤ 100 → list_all is_trial trials ≡ true
-    → (is_count 100 (length trials) && list_all is_trial trials) ≡ true
+draft_counted : (trials : List Trial) → 1 ≤ length trials → length trials ≤ 100 → list_all is_draft_trial trials ≡ true
+    → (is_count 100 (length trials) && list_all is_draft_trial trials) ≡ true
 draft_counted trials some few good = rw (le-leb 1 (length trials) some, le-leb (length trials) 100 few, good) refl
 
-pub draft_made : (trials : List Trial) → 1 ≤ length trials → length trials ≤ 100 → list_all is_trial trials ≡ true → is_answerable (what_if trials) ≡ true
+pub draft_made : (trials : List Trial) → 1 ≤ length trials → length trials ≤ 100 → list_all is_draft_trial trials ≡ true → is_answerable (what_if trials) ≡ true
 draft_made trials some few good =
-    ap (λ (xs : List Trial). is_count 100 (length xs) && list_all is_trial xs) (items_hidden-the_row-Trial-0 trials)
+    ap (λ (xs : List Trial). is_count 100 (length xs) && list_all is_draft_trial xs) (items_hidden-the_row-Trial-0 trials)
     ∙ draft_counted trials some few good
 
 ended : {X : Type 0} (begin : ℕ) (xs : List X) (rest : List Wrong) → if_empty begin xs rest ≡ [] → (1 ≤ length xs) × (rest ≡ [])
@@ -326,7 +457,7 @@ one_longer most xs x room = grind (arith, nat_tests, length-append xs (x ∷ [])
 pub all_longer : {X : Type 0} (good : X → Bool) (xs : List X) (x : X) → list_all good xs ≡ true → good x ≡ true → list_all good (xs ++ x ∷ []) ≡ true
 all_longer good xs x h k = rw (list_all-append good xs (x ∷ [])) (rw (h, k) refl)
 
--- a question that is no plain one has a fault in a draft
+-- a question about a draft has a fault in a draft
 plain_kept : (plain : Bool) (n : ℕ) (xs : List Wrong) (cs : List Command) → (plain ≡ true → xs ≡ [] → list_all is_answerable cs ≡ true)
     → cond plain xs (bad n ∷ []) ≡ [] → list_all is_answerable (cond plain cs []) ≡ true
 plain_kept true n xs cs kept h = kept refl h
@@ -362,23 +493,23 @@ commands_kept count (inside begin edits) (group_end n ∷ es) stands fine h =
     and_from (is_answerable (eco edits)) (list_all is_answerable (commands outside es)) (eco_made edits closed.0 stands.1 stands.0)
     (commands_kept (count + 1) outside es tt (behind_fine (group_end n) es fine) closed.1)
 commands_kept count (drafted begin trials) (single n (Ask q) ∷ es) stands fine h =
-    let both = and_parts (is_question q) (list_all is_fine es) fine.all in
-    plain_kept (is_plain q) n (behind 100 (length trials) n ++ faults count (drafted begin (trials ++ ask_draft q ∷ [])) es)
+    let both = and_parts (is_read q) (list_all is_fine es) fine.all in
+    plain_kept (may_be_tried q) n (behind 100 (length trials) n ++ faults count (drafted begin (trials ++ ask_draft q ∷ [])) es)
     (commands (drafted begin (trials ++ ask_draft q ∷ [])) es)
     (λ plain none.
     let room = behind_none 100 (length trials) n (faults count (drafted begin (trials ++ ask_draft q ∷ [])) es) none in
     commands_kept count (drafted begin (trials ++ ask_draft q ∷ [])) es
-    (all_longer is_trial trials (ask_draft q) stands.0 (trial_said q both.0 plain), one_longer 100 trials (ask_draft q) room.0) (done es both.1) room.1)
+    (all_longer is_draft_trial trials (ask_draft q) stands.0 (trial_said q both.0 plain), one_longer 100 trials (ask_draft q) room.0) (done es both.1) room.1)
     h
 commands_kept count (drafted begin trials) (change n e ∷ es) stands fine h =
     let both = and_parts (is_edit e) (list_all is_fine es) fine.all in
     let one : Trial = trial (e ∷ []) in
     let room = behind_none 100 (length trials) n (faults count (drafted begin (trials ++ one ∷ [])) es) h in
     commands_kept count (drafted begin (trials ++ one ∷ [])) es
-    (all_longer is_trial trials one stands.0 (eco_made (e ∷ []) (omega arith) (omega arith) (rw both.0 refl)), one_longer 100 trials one room.0) (done es both.1) room.1
+    (all_longer is_draft_trial trials one stands.0 (eco_made (e ∷ []) (omega arith) (omega arith) (rw both.0 refl)), one_longer 100 trials one room.0) (done es both.1) room.1
 commands_kept count (drafted begin trials) (dropped n ∷ es) stands fine h =
     let room = behind_none 100 (length trials) n (faults count (drafted begin (trials ++ Drop ∷ [])) es) h in
-    commands_kept count (drafted begin (trials ++ Drop ∷ [])) es (all_longer is_trial trials Drop stands.0 refl, one_longer 100 trials Drop room.0)
+    commands_kept count (drafted begin (trials ++ Drop ∷ [])) es (all_longer is_draft_trial trials Drop stands.0 refl, one_longer 100 trials Drop room.0)
     (behind_fine (dropped n) es fine) room.1
 commands_kept count (drafted begin trials) (group_begin n ∷ es) stands fine h =
     let room = behind_none 100 (length trials) n (faults count (tried begin trials n []) es) h in
@@ -395,7 +526,7 @@ commands_kept count (tried begin trials group edits) (change n e ∷ es) stands 
 commands_kept count (tried begin trials group edits) (group_end n ∷ es) stands fine h =
     let closed = ended group edits (faults count (drafted begin (trials ++ trial edits ∷ [])) es) h in
     commands_kept count (drafted begin (trials ++ trial edits ∷ [])) es
-    (all_longer is_trial trials (trial edits) stands.0 (eco_made edits closed.0 stands.3 stands.2), one_longer 100 trials (trial edits) stands.1)
+    (all_longer is_draft_trial trials (trial edits) stands.0 (eco_made edits closed.0 stands.3 stands.2), one_longer 100 trials (trial edits) stands.1)
     (behind_fine (group_end n) es fine) closed.1
 commands_kept count place es stands fine h = refl
 

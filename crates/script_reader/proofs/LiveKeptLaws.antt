@@ -10,11 +10,13 @@ use Rattle.timing_defs.specs.declared.reports.Trial.{Trial}
 use Rattle.timing_defs.specs.declared.reports.Trial.TheVariants.{Drop, Ask as ask_draft}
 use Rattle.timing_defs.specs.declared.scripts.Command.{Command}
 use Rattle.timing_defs.specs.declared.scripts.Command.TheVariants.{Take, Await, Ask, Change}
-use Rattle.timing_defs.specs.Documents.{is_edit, is_trial, is_question, is_plain}
+use Rattle.timing_defs.specs.Documents.{is_edit, is_draft_trial}
+use Rattle.script_reader.specs.Words.{may_be_tried}
 use Rattle.sta_text.specs.declared.faults.Wrong.{Wrong}
 use Rattle.script_reader.specs.declared.live.Item.{Item}
 use Rattle.script_reader.specs.Scripts.{Event, long, single, change, group_begin, group_end, draft_begin, draft_end, dropped, unknown, line_said, Place, outside, inside, drafted, tried, eco, trial, bad, excess}
 use Rattle.script_reader.specs.Live.{LivePlace, stands, passing_eco, passing_draft, Behind, goes_on, fails, given_up, unfit, crowded, if_room, group_closed, draft_closed, trial_closed, live_event, live_said, live_events, live_line, live_end, item_list, items, place_behind, all_items}
+use Rattle.script_reader.specs.Answerable.{is_read}
 use Rattle.script_reader.specs.LiveKept.{can_be_answered, CanBeAnswered, IsKeptPlace, IsKeptLive, IsKeptBehind}
 use Rattle.script_reader.proofs.KeptLaws.{is_said, is_fine, AreFine, done, pick, line_fine, eco_made, draft_made, answerable_said, trial_said, all_longer, one_longer}
 
@@ -39,18 +41,18 @@ room_kept limit before n place next h = by_cases (nat_le limit before) refl
     by_cases true e = given_kept place (excess n)
     by_cases false e = (h e, tt)
 
-more_kept : (n begin : ℕ) (trials : List Trial) (t : Trial) → list_all is_trial trials ≡ true → is_trial t ≡ true
+more_kept : (n begin : ℕ) (trials : List Trial) (t : Trial) → list_all is_draft_trial trials ≡ true → is_draft_trial t ≡ true
     → IsKeptBehind (if_room 100 (length trials) n (drafted begin trials) (drafted begin (trials ++ t ∷ [])))
 more_kept n begin trials t good one =
     room_kept 100 (length trials) n (drafted begin trials) (drafted begin (trials ++ t ∷ []))
-    (λ room. (all_longer is_trial trials t good one, one_longer 100 trials t room))
+    (λ room. (all_longer is_draft_trial trials t good one, one_longer 100 trials t room))
 
 -- a question in a draft
-draft_asked : (n begin : ℕ) (trials : List Trial) (q : Query) → list_all is_trial trials ≡ true → is_question q ≡ true
-    → IsKeptBehind (cond (is_plain q) (if_room 100 (length trials) n (drafted begin trials) (drafted begin (trials ++ ask_draft q ∷ []))) (unfit (drafted begin trials) n))
-draft_asked n begin trials q good may = by_cases (is_plain q) refl
+draft_asked : (n begin : ℕ) (trials : List Trial) (q : Query) → list_all is_draft_trial trials ≡ true → is_read q ≡ true
+    → IsKeptBehind (cond (may_be_tried q) (if_room 100 (length trials) n (drafted begin trials) (drafted begin (trials ++ ask_draft q ∷ []))) (unfit (drafted begin trials) n))
+draft_asked n begin trials q good may = by_cases (may_be_tried q) refl
   where
-    by_cases : (b : Bool) → is_plain q ≡ b
+    by_cases : (b : Bool) → may_be_tried q ≡ b
         → IsKeptBehind (cond b (if_room 100 (length trials) n (drafted begin trials) (drafted begin (trials ++ ask_draft q ∷ []))) (unfit (drafted begin trials) n))
     by_cases true plain = more_kept n begin trials (ask_draft q) good (trial_said q may plain)
     by_cases false plain = given_kept (drafted begin trials) (bad n)
@@ -67,7 +69,7 @@ trial_kept : (begin group : ℕ) (trials : List Trial) (edits : List Edit) → I
     → IsKeptBehind (trial_closed begin trials group edits)
 trial_kept begin group trials [] still = (tt, tt)
 trial_kept begin group trials (e ∷ es) still =
-    ((all_longer is_trial trials (trial (e ∷ es)) still.0 (eco_made (e ∷ es) (omega arith) still.3 still.2), one_longer 100 trials (trial (e ∷ es)) still.1), tt)
+    ((all_longer is_draft_trial trials (trial (e ∷ es)) still.0 (eco_made (e ∷ es) (omega arith) still.3 still.2), one_longer 100 trials (trial (e ∷ es)) still.1), tt)
 
 event_kept : (place : LivePlace) (e : Event) → IsKeptLive place → is_fine e ≡ true → IsKeptBehind (live_event place e)
 event_kept (stands outside) (long n) still fine = (tt, tt)

@@ -14,7 +14,7 @@ use Rattle.timing_defs.specs.declared.reports.Trial.TheVariants.{Drop, Ask as as
 use Rattle.timing_defs.specs.declared.scripts.Command.{Command}
 use Rattle.timing_defs.specs.declared.scripts.Command.TheVariants.{Ask}
 use Rattle.timing_defs.specs.declared.scripts.Script.{Script}
-use Rattle.timing_defs.specs.Documents.{is_plain}
+use Rattle.script_reader.specs.Words.{may_be_tried}
 use Rattle.sta_text.specs.declared.faults.Wrong.{Wrong}
 use Rattle.sta_text.specs.Faults.{least_from, told_fault}
 use Rattle.sta_text.proofs.FaultsLemmas.{least_none}
@@ -141,7 +141,7 @@ Steps n count place e rest = Stepping n count place (live_event (stands place) e
 -- a question in a draft
 question : (n count begin : ℕ) (trials : List Trial) (m : ℕ) (q : Query) (rest : List Event) → Steps n count (drafted begin trials) (single m (Ask q)) rest
 unfolding commands faults
-question n count begin trials m q rest = elim (cases_Bool (is_plain q)) [
+question n count begin trials m q rest = elim (cases_Bool (may_be_tried q)) [
   | inl hit ↦ room n 100 (length trials) count (drafted begin trials) (drafted begin (trials ++ ask_draft q ∷ [])) _ _ _ rest tt tt (λ s. s) m
       (rw hit refl) (rw hit refl) (rw hit refl)
   | inr miss ↦ stops passing_draft (bad m) [] (λ _. refl) (rw miss refl) (rw miss refl)

@@ -3,7 +3,6 @@ use Rattle.std.specs.Prelude.{ℕ, List, [], ◌∷◌, Bool, true, false, ◌==
 use Rattle.std.specs.List.{list_all}
 use Rattle.std.specs.Str.{bytes_eq}
 use Rattle.timing_defs.specs.declared.kinds.Kind.{Kind}
-use Rattle.timing_defs.specs.declared.kinds.Kind.TheVariants.{Setup, Hold}
 use Rattle.timing_defs.specs.declared.kinds.Split.{Split}
 use Rattle.timing_defs.specs.declared.kinds.Split.TheVariants.{Early, Late}
 use Rattle.timing_defs.specs.declared.kinds.Tran.{Tran}
@@ -11,7 +10,8 @@ use Rattle.timing_defs.specs.declared.kinds.Tran.TheVariants.{Rise, Fall}
 use Rattle.timing_defs.specs.declared.texts.Style.TheVariants.{Script as script_style}
 use Rattle.timing_defs.specs.declared.reports.Candidate.{Candidate}
 use Rattle.timing_defs.specs.declared.reports.Query.{Query}
-use Rattle.timing_defs.specs.declared.reports.Query.TheVariants.{Slew, At, Rat, Slack, Endpoint, WorstPath, Wns, Tns, Worst, Through, Paths, Advise}
+use Rattle.timing_defs.specs.declared.closing.ClosingQuery.{ClosingQuery}
+use Rattle.timing_defs.specs.declared.reports.Query.TheVariants.{Slew, At, Rat, Slack, Endpoint, WorstPath, Wns, Tns, Worst, Through, Paths, Advise, Closing}
 use Rattle.timing_defs.specs.declared.scripts.Command.{Command}
 use Rattle.timing_defs.specs.declared.scripts.Command.TheVariants.{Take, Await, Ask}
 use Rattle.script_reader.specs.declared.commands.Node.{Node}
@@ -19,6 +19,8 @@ use Rattle.sta_text.specs.Tokens.{Tok, tokens_of}
 use Rattle.eco_journal.specs.Lines.{Part}
 use Rattle.eco_journal.specs.Words.{text, says, is_word, number_of, within}
 use Rattle.eco_journal.specs.EditLines.{names, texts_of}
+use Rattle.script_reader.specs.Words.{kind_of, endpoint_of, only_kind, are_pairs, candidates_of}
+use Rattle.script_reader.specs.ClosingCommands.{closing_of}
 
 abbrev pub word_of : Tok → Part
 word_of token = record { text = token.text; at = token.start }
@@ -33,9 +35,6 @@ split_of word = (if bytes_eq word (codes "early") then Some Early else (if bytes
 abbrev pub tran_of : List ℕ → Option Tran
 tran_of word = (if bytes_eq word (codes "rise") then Some Rise else (if bytes_eq word (codes "fall") then Some Fall else None))
 
-abbrev pub kind_of : List ℕ → Option Kind
-kind_of word = (if bytes_eq word (codes "setup") then Some Setup else (if bytes_eq word (codes "hold") then Some Hold else None))
-
 abbrev pub node_at : List ℕ → Option Split → Option Tran → Option Node
 node_at pin None tran = None
 node_at pin (Some split) None = None
@@ -45,15 +44,6 @@ node_at pin (Some split) (Some tran) = Some (record { pin = pin; split = split; 
 abbrev pub node_of : List Part → Option Node
 node_of words =
     (if length words == 4 && names words 1 then node_at (text words 1) (split_of (text words 2)) (tran_of (text words 3)) else None)
-
--- PIN KIND behind a command
-abbrev pub endpoint_of : List Part → Option (List ℕ × Kind)
-endpoint_of words =
-    (if length words == 3 && names words 1 then option_map (λ (kind : Kind). (text words 1, kind)) (kind_of (text words 2)) else None)
-
--- KIND behind a command
-abbrev pub only_kind : List Part → Option Kind
-only_kind words = (if length words == 2 then kind_of (text words 1) else None)
 
 abbrev pub worst_at : Option Kind → Option ℕ → Option Query
 worst_at None count = None
@@ -124,17 +114,6 @@ path_query words =
     (if says words 0 (codes "report_through") then through_of words else
     (if says words 0 (codes "report_paths") then paths_of words else None))
 
--- names in pairs, the one of an instance and that of a cell
-abbrev pub are_pairs : List Part → Bool
-are_pairs [] = true
-are_pairs (inst ∷ []) = false
-are_pairs (inst ∷ cell ∷ words) = is_word inst && is_word cell && are_pairs words
-
-abbrev pub candidates_of : List Part → List Candidate
-candidates_of [] = []
-candidates_of (inst ∷ []) = []
-candidates_of (inst ∷ cell ∷ words) = record { inst = inst.text; cell = cell.text } ∷ candidates_of words
-
 abbrev pub advise_at : List Candidate → Option Kind → Option Query
 advise_at candidates None = None
 advise_at candidates (Some kind) = Some (Advise kind candidates)
@@ -155,11 +134,19 @@ abbrev pub first_of_two : Option Query → Option Query → Option Query
 first_of_two None other = other
 first_of_two (Some q) other = Some q
 
+-- a question that closing timing needs
+abbrev pub closing : ClosingQuery → Query
+closing q = Closing q
+
+abbrev pub closing_query : List Part → Option Query
+closing_query words = option_map closing (closing_of words)
+
 -- the question of a line
 abbrev pub query_of : List Part → Option Query
 query_of words =
     first_of_two (node_query words)
-    (first_of_two (endpoint_query words) (first_of_two (total_query words) (first_of_two (path_query words) (advise_query words))))
+    (first_of_two (endpoint_query words) (first_of_two (total_query words) (first_of_two (path_query words)
+    (first_of_two (advise_query words) (closing_query words)))))
 
 abbrev pub awaited : Option ℕ → Option ℕ → Option Command
 awaited None looks = None

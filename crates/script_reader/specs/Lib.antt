@@ -1,3 +1,5 @@
+pub mod Words
+pub mod ClosingCommands
 pub mod Commands
 pub mod Scripts
 pub mod Progress

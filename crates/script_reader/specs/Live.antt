@@ -7,7 +7,7 @@ use Rattle.timing_defs.specs.declared.reports.Trial.{Trial}
 use Rattle.timing_defs.specs.declared.reports.Trial.TheVariants.{Drop, Ask as ask_draft}
 use Rattle.timing_defs.specs.declared.scripts.Command.{Command}
 use Rattle.timing_defs.specs.declared.scripts.Command.TheVariants.{Ask}
-use Rattle.timing_defs.specs.Documents.{is_plain}
+use Rattle.script_reader.specs.Words.{may_be_tried}
 use Rattle.sta_text.specs.declared.faults.Wrong.{Wrong}
 use Rattle.script_reader.specs.declared.live.Item.{Item}
 use Rattle.script_reader.specs.declared.live.Item.TheVariants.{Asked, Faulty}
@@ -116,7 +116,7 @@ group_event begin edits e = unfit (inside begin edits) (line_of e)
 abbrev pub draft_event : ℕ → List Trial → Event → Behind
 draft_event begin trials (long n) = crowded (drafted begin trials) n
 draft_event begin trials (single n (Ask q)) =
-    (if is_plain q then more_trials n begin trials (ask_draft q) else unfit (drafted begin trials) n)
+    (if may_be_tried q then more_trials n begin trials (ask_draft q) else unfit (drafted begin trials) n)
 draft_event begin trials (change n e) = more_trials n begin trials (trial (e ∷ []))
 draft_event begin trials (dropped n) = more_trials n begin trials Drop
 draft_event begin trials (group_begin n) =

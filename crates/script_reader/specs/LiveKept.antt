@@ -1,7 +1,7 @@
 -- What a session asks line by line is as engines answer it.
 use Rattle.std.specs.Prelude.{◌≡◌, ◌≤◌, Bool, true, false, nat_le, length, IfSome, ⊤}
 use Rattle.std.specs.List.{list_all}
-use Rattle.timing_defs.specs.Documents.{is_edit, is_eco, is_trial}
+use Rattle.timing_defs.specs.Documents.{is_edit, is_eco, is_draft_trial}
 use Rattle.timing_defs.specs.declared.scripts.Command.{Command}
 use Rattle.timing_defs.specs.declared.scripts.Command.TheVariants.{Take, Await, Ask, Change}
 use Rattle.script_reader.specs.declared.live.Item.{Item}
@@ -25,9 +25,9 @@ CanBeAnswered (Faulty wrong) = ⊤
 abbrev pub IsKeptPlace : Place → Type 0
 IsKeptPlace outside = ⊤
 IsKeptPlace (inside begin edits) = (list_all is_edit edits ≡ true) × (length edits ≤ 1000)
-IsKeptPlace (drafted begin trials) = (list_all is_trial trials ≡ true) × (length trials ≤ 100)
+IsKeptPlace (drafted begin trials) = (list_all is_draft_trial trials ≡ true) × (length trials ≤ 100)
 IsKeptPlace (tried begin trials group edits) =
-    (list_all is_trial trials ≡ true) × (nat_le 100 (length trials) ≡ false) × (list_all is_edit edits ≡ true) × (length edits ≤ 1000)
+    (list_all is_draft_trial trials ≡ true) × (nat_le 100 (length trials) ≡ false) × (list_all is_edit edits ≡ true) × (length edits ≤ 1000)
 
 abbrev pub IsKeptLive : LivePlace → Type 0
 IsKeptLive (stands place) = IsKeptPlace place

@@ -11,7 +11,7 @@ use Rattle.timing_defs.specs.declared.reports.Trial.TheVariants.{Try, Drop, Ask 
 use Rattle.timing_defs.specs.declared.scripts.Command.{Command}
 use Rattle.timing_defs.specs.declared.scripts.Command.TheVariants.{Take, Await, Ask, Change}
 use Rattle.timing_defs.specs.declared.scripts.Script.{Script}
-use Rattle.timing_defs.specs.Documents.{is_plain}
+use Rattle.script_reader.specs.Words.{may_be_tried}
 use Rattle.sta_text.specs.Bytes.{begins}
 use Rattle.sta_text.specs.declared.faults.Wrong.{Wrong}
 use Rattle.sta_text.specs.Faults.{least_from, told_fault}
@@ -104,7 +104,7 @@ commands outside (draft_begin n ∷ es) = commands (drafted n []) es
 commands (inside begin edits) (change n e ∷ es) = commands (inside begin (edits ++ e ∷ [])) es
 commands (inside begin edits) (group_end n ∷ es) = eco edits ∷ commands outside es
 commands (drafted begin trials) (single n (Ask q) ∷ es) =
-    (if is_plain q then commands (drafted begin (trials ++ ask_draft q ∷ [])) es else [])
+    (if may_be_tried q then commands (drafted begin (trials ++ ask_draft q ∷ [])) es else [])
 commands (drafted begin trials) (change n e ∷ es) = commands (drafted begin (trials ++ trial (e ∷ []) ∷ [])) es
 commands (drafted begin trials) (dropped n ∷ es) = commands (drafted begin (trials ++ Drop ∷ [])) es
 commands (drafted begin trials) (group_begin n ∷ es) = commands (tried begin trials n []) es
@@ -155,7 +155,7 @@ faults count (inside begin edits) (dropped n ∷ es) = bad n ∷ []
 faults count (inside begin edits) (unknown n ∷ es) = bad n ∷ []
 faults count (drafted begin trials) [] = bad begin ∷ []
 faults count (drafted begin trials) (single n (Ask q) ∷ es) =
-    (if is_plain q then behind 100 (length trials) n ++ faults count (drafted begin (trials ++ ask_draft q ∷ [])) es else bad n ∷ [])
+    (if may_be_tried q then behind 100 (length trials) n ++ faults count (drafted begin (trials ++ ask_draft q ∷ [])) es else bad n ∷ [])
 faults count (drafted begin trials) (single n Take ∷ es) = bad n ∷ []
 faults count (drafted begin trials) (single n (Await number looks) ∷ es) = bad n ∷ []
 faults count (drafted begin trials) (single n (Change edits) ∷ es) = bad n ∷ []

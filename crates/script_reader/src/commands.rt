@@ -7,8 +7,11 @@ ghost use Rattle.timing_defs.specs.Names.{is_name};
 ghost use Rattle.eco_journal.specs.Lines.{part_of};
 ghost use Rattle.eco_journal.specs.Words.{is_word, number_of, within};
 ghost use Rattle.eco_journal.specs.EditLines.{texts_of};
-ghost use Rattle.script_reader.specs.Commands.{words_in, split_of, tran_of, kind_of, node_of, endpoint_of, only_kind, worst_of, node_query, endpoint_query, total_query, through_of, paths_of, path_query, are_pairs, candidates_of, advise_of, advise_query, query_of, await_of, take_of, command_of};
+ghost use Rattle.script_reader.specs.Words.{kind_of, endpoint_of, only_kind, are_pairs, candidates_of};
+ghost use Rattle.script_reader.specs.ClosingCommands.{closing_of};
+ghost use Rattle.script_reader.specs.Commands.{words_in, split_of, tran_of, node_of, worst_of, node_query, endpoint_query, total_query, through_of, paths_of, path_query, advise_of, advise_query, closing_query, query_of, await_of, take_of, command_of};
 
+use crate::closing::closing_of;
 use eco_journal::{Span, number_of, says, text_at, within};
 use sta_text::Cursor;
 use sta_units::Memory;
@@ -22,13 +25,13 @@ const LOOK_LIMIT: u64 = 1_000;
 const WORST_LIMIT: u64 = 100;
 
 /// The greatest number of pins of a `report_through`.
-const PIN_LIMIT: usize = 16;
+pub(crate) const PIN_LIMIT: usize = 16;
 
 /// The greatest number of paths of a `report_paths`.
-const PATH_LIMIT: u64 = 100;
+pub(crate) const PATH_LIMIT: u64 = 100;
 
 /// The greatest number of candidates of an `advise`.
-const CANDIDATE_LIMIT: usize = 100;
+pub(crate) const CANDIDATE_LIMIT: usize = 100;
 
 /// A node: a pin, a split and a transition.
 #[derive(Drop)]
@@ -53,14 +56,14 @@ pub(crate) fn words_in<'a>(alloc: Global, line: &'a [u8]) -> Result<Items<Span<'
     Ok(words)
 }
 
-fn is(word: &[u8], wanted: &[u8]) -> bool
+pub(crate) fn is(word: &[u8], wanted: &[u8]) -> bool
     ensures { result ≡ bytes_eq word.now wanted.now }
 {
     word == wanted
 }
 
 /// The number that a word writes, where it lies in a range.
-fn number_in(word: &[u8], low: u64, high: u64) -> Option<u64>
+pub(crate) fn number_in(word: &[u8], low: u64, high: u64) -> Option<u64>
     ensures value { result ≡ within low high (number_of word.now) }
     ensures within { IfSome result (λ n. n ≤ high) }
 {
@@ -91,7 +94,7 @@ fn tran_of(word: &[u8]) -> Option<Tran>
     }
 }
 
-fn kind_of(word: &[u8]) -> Option<Kind>
+pub(crate) fn kind_of(word: &[u8]) -> Option<Kind>
     ensures { result ≡ kind_of word.now }
 {
     if is(word, b"setup") {
@@ -120,7 +123,7 @@ fn node_of(alloc: Global, words: &[Span<'_>]) -> Result<Option<Node>, Memory>
 }
 
 /// PIN KIND behind a command.
-fn endpoint_of(alloc: Global, words: &[Span<'_>]) -> Result<Option<(Name, Kind)>, Memory>
+pub(crate) fn endpoint_of(alloc: Global, words: &[Span<'_>]) -> Result<Option<(Name, Kind)>, Memory>
     ensures { IfOk result (λ found. found ≡ endpoint_of (map part_of words.now)) }
 {
     if words.len() != 3 {
@@ -136,7 +139,7 @@ fn endpoint_of(alloc: Global, words: &[Span<'_>]) -> Result<Option<(Name, Kind)>
 }
 
 /// KIND behind a command.
-fn only_kind(words: &[Span<'_>]) -> Option<Kind>
+pub(crate) fn only_kind(words: &[Span<'_>]) -> Option<Kind>
     ensures { result ≡ only_kind (map part_of words.now) }
 {
     if words.len() != 2 {
@@ -215,8 +218,11 @@ fn total_query(words: &[Span<'_>]) -> Option<Query>
 
 /// The words as names; none where one is no name.
 #[tactic(auto, using(std::proofs::lemmas::List::drop_more))]
-fn names_of(alloc: Global, words: &[Span<'_>]) -> Result<Option<Items<Name>>, Memory>
-    ensures { IfOk result (λ found. MatchOption found (list_all is_word (map part_of words.now) ≡ false) (λ names. (list_all is_word (map part_of words.now) ≡ true) × (names ≡ texts_of (map part_of words.now)))) }
+pub(crate) fn names_of(alloc: Global, words: &[Span<'_>]) -> Result<Option<Items<Name>>, Memory>
+    ensures { IfOk result
+        (λ found. MatchOption found (list_all is_word (map part_of words.now) ≡ false)
+        (λ names. (list_all is_word (map part_of words.now) ≡ true)
+        × (names ≡ texts_of (map part_of words.now)))) }
 {
     let mut names = Items::new(alloc);
     for word in words {
@@ -286,7 +292,10 @@ fn path_query(alloc: Global, words: &[Span<'_>]) -> Result<Option<Query>, Memory
 
 /// A candidate of a resize; none where a word is no name.
 fn candidate_of(alloc: Global, inst: &[u8], cell: &[u8]) -> Result<Option<Candidate>, Memory>
-    ensures { IfOk result (λ found. MatchOption found (is_name inst.now && is_name cell.now ≡ false) (λ it. (is_name inst.now && is_name cell.now ≡ true) × (it ≡ record { inst = inst.now; cell = cell.now }))) }
+    ensures { IfOk result
+        (λ found. MatchOption found (is_name inst.now && is_name cell.now ≡ false)
+        (λ it. (is_name inst.now && is_name cell.now ≡ true)
+        × (it ≡ record { inst = inst.now; cell = cell.now }))) }
 {
     let Some(inst) = Name::from_bytes(alloc, inst)? else {
         return Ok(None);
@@ -299,8 +308,14 @@ fn candidate_of(alloc: Global, inst: &[u8], cell: &[u8]) -> Result<Option<Candid
 }
 
 /// The candidates that words name in pairs; none where a word is no name or stands alone.
-fn candidates_of(alloc: Global, words: &[Span<'_>]) -> Result<Option<Items<Candidate>>, Memory>
-    ensures { IfOk result (λ found. MatchOption found (are_pairs (map part_of words.now) ≡ false) (λ cs. (are_pairs (map part_of words.now) ≡ true) × (cs ≡ candidates_of (map part_of words.now)))) }
+pub(crate) fn candidates_of(
+    alloc: Global,
+    words: &[Span<'_>],
+) -> Result<Option<Items<Candidate>>, Memory>
+    ensures { IfOk result
+        (λ found. MatchOption found (are_pairs (map part_of words.now) ≡ false)
+        (λ cs. (are_pairs (map part_of words.now) ≡ true)
+        × (cs ≡ candidates_of (map part_of words.now)))) }
 {
     let mut candidates = Items::new(alloc);
     let mut left = words;
@@ -345,6 +360,16 @@ fn advise_query(alloc: Global, words: &[Span<'_>]) -> Result<Option<Query>, Memo
     }
 }
 
+/// The question of a line that closing timing needs.
+fn closing_query(alloc: Global, words: &[Span<'_>]) -> Result<Option<Query>, Memory>
+    ensures { IfOk result (λ query. query ≡ closing_query (map part_of words.now)) }
+{
+    match closing_of(alloc, words)? {
+        Some(query) => Ok(Some(Query::Closing { query })),
+        None => Ok(None),
+    }
+}
+
 /// The question of a line.
 fn query_of(alloc: Global, words: &[Span<'_>]) -> Result<Option<Query>, Memory>
     ensures { IfOk result (λ query. query ≡ query_of (map part_of words.now)) }
@@ -361,7 +386,10 @@ fn query_of(alloc: Global, words: &[Span<'_>]) -> Result<Option<Query>, Memory>
     if let Some(query) = path_query(alloc, words)? {
         return Ok(Some(query));
     }
-    advise_query(alloc, words)
+    if let Some(query) = advise_query(alloc, words)? {
+        return Ok(Some(query));
+    }
+    closing_query(alloc, words)
 }
 
 /// `await N L`.

@@ -1,8 +1,8 @@
 //! The trials of a draft, line by line.
 
 ghost use Rattle.std.specs.Prelude.{◌≡◌, ◌++◌, ◌∷◌, [], List, true, length, IfOk};
-ghost use Rattle.timing_defs.specs.Documents.{is_plain};
 ghost use Rattle.timing_defs.specs.declared.scripts.Command.TheVariants.{Ask};
+ghost use Rattle.script_reader.specs.Words.{may_be_tried};
 ghost use Rattle.script_reader.specs.Scripts.{Event, single, change, group_begin, group_end, draft_end, drafted, trial};
 ghost use Rattle.script_reader.specs.Progress.{said_events, in_draft, in_draft_group, behind_progress, behind_limit, whole};
 
@@ -18,28 +18,19 @@ use timing_defs::{Command, Eco, Edit, Items, Query, Trial};
 /// The greatest number of trials of a draft.
 pub(crate) const TRIAL_LIMIT: usize = 100;
 
-/// Whether a draft may be asked a question.
-pub(crate) fn is_plain(query: &Query) -> bool
-    ensures { result ≡ is_plain query.now }
+/// Whether a draft may be asked a question: any but one about a draft.
+pub(crate) fn may_be_tried(query: &Query) -> bool
+    ensures { result ≡ may_be_tried query.now }
 {
-    match query {
-        Query::Through { .. } | Query::Paths { .. } | Query::WhatIf { .. } | Query::Advise { .. } =>
-            false,
-        Query::Slew { .. }
-        | Query::At { .. }
-        | Query::Rat { .. }
-        | Query::Slack { .. }
-        | Query::Endpoint { .. }
-        | Query::WorstPath { .. }
-        | Query::Wns { .. }
-        | Query::Tns { .. }
-        | Query::Worst { .. } => true,
-    }
+    !matches!(query, Query::WhatIf { .. })
 }
 
 /// The state behind a trial that a line says.
 fn tried(draft: Draft, progress: Progress, line: usize, trial: Trial) -> Result<State, Memory>
-    ensures { IfOk result (λ next. (rest : List Event) → whole next rest ≡ behind_limit progress 100 (length draft.trials) line (drafted draft.begin (draft.trials ++ trial ∷ [])) rest) }
+    ensures { IfOk result
+        (λ next. (rest : List Event) → whole next rest
+        ≡ behind_limit progress 100 (length draft.trials) line
+        (drafted draft.begin (draft.trials ++ trial ∷ [])) rest) }
 {
     let progress = limited(progress, TRIAL_LIMIT, draft.trials.len(), line);
     match with_trial(draft, trial) {
@@ -60,7 +51,9 @@ fn edit_tried(
     line: usize,
     edit: Edit,
 ) -> Result<State, Memory>
-    ensures { IfOk result (λ next. (rest : List Event) → whole next rest ≡ behind_progress progress (in_draft draft) (change line edit ∷ rest)) }
+    ensures { IfOk result
+        (λ next. (rest : List Event) → whole next rest
+        ≡ behind_progress progress (in_draft draft) (change line edit ∷ rest)) }
 {
     match eco_of(alloc, edit) {
         Ok(eco) => tried(draft, progress, line, Trial::Try(eco)),
@@ -80,9 +73,11 @@ fn question_tried(
     line: usize,
     query: Query,
 ) -> Result<State, Memory>
-    ensures { IfOk result (λ next. (rest : List Event) → whole next rest ≡ behind_progress progress (in_draft draft) (single line (Ask query) ∷ rest)) }
+    ensures { IfOk result
+        (λ next. (rest : List Event) → whole next rest
+        ≡ behind_progress progress (in_draft draft) (single line (Ask query) ∷ rest)) }
 {
-    if is_plain(&query) {
+    if may_be_tried(&query) {
         tried(draft, progress, line, Trial::Ask(query))
     } else {
         draft.discard();
@@ -98,7 +93,9 @@ fn command_tried(
     line: usize,
     command: Command,
 ) -> Result<State, Memory>
-    ensures { IfOk result (λ next. (rest : List Event) → whole next rest ≡ behind_progress progress (in_draft draft) (single line command ∷ rest)) }
+    ensures { IfOk result
+        (λ next. (rest : List Event) → whole next rest
+        ≡ behind_progress progress (in_draft draft) (single line command ∷ rest)) }
 {
     match command {
         Command::Ask(query) => question_tried(draft, progress, line, query),
@@ -112,7 +109,8 @@ fn command_tried(
 /// The state behind the begin of a group of a draft.
 #[tactic(auto, unfolding(crate::specs::Scripts::faults, crate::specs::Scripts::commands))]
 fn draft_group_begun(alloc: Global, draft: Draft, progress: Progress, line: usize) -> State
-    ensures { (rest : List Event) → whole result rest ≡ behind_progress progress (in_draft draft) (group_begin line ∷ rest) }
+    ensures { (rest : List Event) → whole result rest
+        ≡ behind_progress progress (in_draft draft) (group_begin line ∷ rest) }
 {
     let progress = limited(progress, TRIAL_LIMIT, draft.trials.len(), line);
     let group = Group {
@@ -125,7 +123,9 @@ fn draft_group_begun(alloc: Global, draft: Draft, progress: Progress, line: usiz
 /// The state behind the end of a draft.
 #[tactic(auto, unfolding(crate::specs::Scripts::faults, crate::specs::Scripts::commands))]
 fn draft_ended(draft: Draft, progress: Progress, line: usize) -> Result<State, Memory>
-    ensures { IfOk result (λ next. (rest : List Event) → whole next rest ≡ behind_progress progress (in_draft draft) (draft_end line ∷ rest)) }
+    ensures { IfOk result
+        (λ next. (rest : List Event) → whole next rest
+        ≡ behind_progress progress (in_draft draft) (draft_end line ∷ rest)) }
 {
     let Draft { begin, trials } = draft;
     if trials.is_empty() {
@@ -144,7 +144,9 @@ pub(crate) fn draft_line(
     line: usize,
     said: Said,
 ) -> Result<State, Memory>
-    ensures { IfOk result (λ next. (rest : List Event) → whole next rest ≡ behind_progress progress (in_draft draft) (said_events line said ++ rest)) }
+    ensures { IfOk result
+        (λ next. (rest : List Event) → whole next rest
+        ≡ behind_progress progress (in_draft draft) (said_events line said ++ rest)) }
 {
     match said {
         Said::Passed => Ok(State::InDraft(draft, progress)),
@@ -169,7 +171,9 @@ fn draft_group_edit(
     line: usize,
     edit: Edit,
 ) -> Result<State, Memory>
-    ensures { IfOk result (λ next. (rest : List Event) → whole next rest ≡ behind_progress progress (in_draft_group draft group) (change line edit ∷ rest)) }
+    ensures { IfOk result
+        (λ next. (rest : List Event) → whole next rest
+        ≡ behind_progress progress (in_draft_group draft group) (change line edit ∷ rest)) }
 {
     let progress = limited(progress, EDIT_LIMIT, group.edits.len(), line);
     match with_edit(group, edit) {
@@ -190,7 +194,9 @@ fn draft_group_ended(
     progress: Progress,
     line: usize,
 ) -> Result<State, Memory>
-    ensures { IfOk result (λ next. (rest : List Event) → whole next rest ≡ behind_progress progress (in_draft_group draft group) (group_end line ∷ rest)) }
+    ensures { IfOk result
+        (λ next. (rest : List Event) → whole next rest
+        ≡ behind_progress progress (in_draft_group draft group) (group_end line ∷ rest)) }
 {
     let Group { begin, edits } = group;
     if edits.is_empty() {
@@ -215,7 +221,9 @@ pub(crate) fn draft_group_line(
     line: usize,
     said: Said,
 ) -> Result<State, Memory>
-    ensures { IfOk result (λ next. (rest : List Event) → whole next rest ≡ behind_progress progress (in_draft_group draft group) (said_events line said ++ rest)) }
+    ensures { IfOk result
+        (λ next. (rest : List Event) → whole next rest
+        ≡ behind_progress progress (in_draft_group draft group) (said_events line said ++ rest)) }
 {
     match said {
         Said::Passed => Ok(State::InDraftGroup(draft, group, progress)),

@@ -2,6 +2,7 @@
 //! line.
 #![tactic(auto)]
 
+mod closing;
 mod commands;
 mod drafts;
 mod laws;

@@ -60,7 +60,8 @@ fn is_alone(words: &[Span<'_>], word: &[u8]) -> bool
 
 /// What a line says that is an edit, or nothing that a script may say.
 fn edit_said(alloc: Global, words: &[Span<'_>]) -> Result<Said, Memory>
-    ensures { IfOk result (λ s. (n : ℕ) → edit_said n (edit_of true (map part_of words.now)) ≡ said_events n s) }
+    ensures { IfOk result
+        (λ s. (n : ℕ) → edit_said n (edit_of true (map part_of words.now)) ≡ said_events n s) }
 {
     match read_edit(alloc, words, true) {
         Ok(edit) => Ok(Said::Changes(edit)),

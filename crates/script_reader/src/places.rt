@@ -8,7 +8,7 @@ ghost use Rattle.script_reader.specs.Progress.{said_events, in_group, in_draft, 
 ghost use Rattle.script_reader.specs.Live.{stands, passing_eco, passing_draft, goes_on, asks, fails, more_trials, group_closed, draft_closed, trial_closed, group_event, draft_event, trial_event, live_event, live_said, live_line, live_end};
 ghost use Rattle.script_reader.specs.LivePlaces.{place_of, behind_step};
 
-use crate::drafts::{TRIAL_LIMIT, is_plain};
+use crate::drafts::{TRIAL_LIMIT, may_be_tried};
 use crate::lines::{Said, read_line};
 use crate::live::Item;
 use crate::scripts::LINE_LIMIT;
@@ -127,7 +127,8 @@ fn edit_asked(alloc: Global, edit: Edit) -> Result<Step, Memory>
 
 /// What a line outside says.
 fn outside_said(alloc: Global, line: usize, said: Said) -> Result<Step, Memory>
-    ensures { IfOk result (λ step. behind_step step ≡ live_said (stands outside) (said_events line said)) }
+    ensures { IfOk result
+        (λ step. behind_step step ≡ live_said (stands outside) (said_events line said)) }
 {
     match said {
         Said::Passed => Ok(goes_on(Standing::Outside)),
@@ -158,7 +159,8 @@ fn is_full_draft(draft: &Draft) -> bool
 
 /// An edit of a group.
 fn group_edited(group: Group, line: usize, edit: Edit) -> Result<Step, Memory>
-    ensures { IfOk result (λ step. behind_step step ≡ group_event group.begin group.edits (change line edit)) }
+    ensures { IfOk result
+        (λ step. behind_step step ≡ group_event group.begin group.edits (change line edit)) }
 {
     if is_full(&group) {
         group.discard();
@@ -186,7 +188,8 @@ fn group_ended(group: Group) -> Step
 
 /// What a line in a group says.
 fn group_said(group: Group, line: usize, said: Said) -> Result<Step, Memory>
-    ensures { IfOk result (λ step. behind_step step ≡ live_said (stands (in_group group)) (said_events line said)) }
+    ensures { IfOk result
+        (λ step. behind_step step ≡ live_said (stands (in_group group)) (said_events line said)) }
 {
     match said {
         Said::Passed => Ok(goes_on(Standing::InGroup(group))),
@@ -206,7 +209,8 @@ fn group_said(group: Group, line: usize, said: Said) -> Result<Step, Memory>
 
 /// One trial more of a draft.
 fn trial_added(draft: Draft, line: usize, trial: Trial) -> Result<Step, Memory>
-    ensures { IfOk result (λ step. behind_step step ≡ more_trials line draft.begin draft.trials trial) }
+    ensures { IfOk result
+        (λ step. behind_step step ≡ more_trials line draft.begin draft.trials trial) }
 {
     if is_full_draft(&draft) {
         draft.discard();
@@ -221,7 +225,8 @@ fn trial_added(draft: Draft, line: usize, trial: Trial) -> Result<Step, Memory>
 
 /// An edit by itself in a draft, which is tried.
 fn edit_tried(alloc: Global, draft: Draft, line: usize, edit: Edit) -> Result<Step, Memory>
-    ensures { IfOk result (λ step. behind_step step ≡ draft_event draft.begin draft.trials (change line edit)) }
+    ensures { IfOk result
+        (λ step. behind_step step ≡ draft_event draft.begin draft.trials (change line edit)) }
 {
     match eco_of(alloc, edit) {
         Ok(eco) => trial_added(draft, line, Trial::Try(eco)),
@@ -234,7 +239,8 @@ fn edit_tried(alloc: Global, draft: Draft, line: usize, edit: Edit) -> Result<St
 
 /// A command in a draft, which takes plain questions alone.
 fn command_tried(draft: Draft, line: usize, command: Command) -> Result<Step, Memory>
-    ensures { IfOk result (λ step. behind_step step ≡ draft_event draft.begin draft.trials (single line command)) }
+    ensures { IfOk result
+        (λ step. behind_step step ≡ draft_event draft.begin draft.trials (single line command)) }
 {
     match command {
         Command::Ask(query) => question_tried(draft, line, query),
@@ -247,9 +253,11 @@ fn command_tried(draft: Draft, line: usize, command: Command) -> Result<Step, Me
 
 /// A question in a draft.
 fn question_tried(draft: Draft, line: usize, query: Query) -> Result<Step, Memory>
-    ensures { IfOk result (λ step. behind_step step ≡ draft_event draft.begin draft.trials (single line (Ask query))) }
+    ensures { IfOk result
+        (λ step. behind_step step
+        ≡ draft_event draft.begin draft.trials (single line (Ask query))) }
 {
-    if is_plain(&query) {
+    if may_be_tried(&query) {
         trial_added(draft, line, Trial::Ask(query))
     } else {
         draft.discard();
@@ -285,7 +293,8 @@ fn draft_ended(draft: Draft) -> Step
 
 /// What a line in a draft says.
 fn draft_said(alloc: Global, draft: Draft, line: usize, said: Said) -> Result<Step, Memory>
-    ensures { IfOk result (λ step. behind_step step ≡ live_said (stands (in_draft draft)) (said_events line said)) }
+    ensures { IfOk result
+        (λ step. behind_step step ≡ live_said (stands (in_draft draft)) (said_events line said)) }
 {
     match said {
         Said::Passed => Ok(goes_on(Standing::InDraft(draft))),
@@ -303,7 +312,9 @@ fn draft_said(alloc: Global, draft: Draft, line: usize, said: Said) -> Result<St
 
 /// An edit of a group of a draft.
 fn draft_group_edited(draft: Draft, group: Group, line: usize, edit: Edit) -> Result<Step, Memory>
-    ensures { IfOk result (λ step. behind_step step ≡ trial_event draft.begin draft.trials group.begin group.edits (change line edit)) }
+    ensures { IfOk result
+        (λ step. behind_step step
+        ≡ trial_event draft.begin draft.trials group.begin group.edits (change line edit)) }
 {
     if is_full(&group) {
         draft.discard();
@@ -322,7 +333,8 @@ fn draft_group_edited(draft: Draft, group: Group, line: usize, edit: Edit) -> Re
 
 /// The end of a group of a draft, which is tried.
 fn draft_group_ended(draft: Draft, group: Group) -> Result<Step, Memory>
-    ensures { IfOk result (λ step. behind_step step ≡ trial_closed draft.begin draft.trials group.begin group.edits) }
+    ensures { IfOk result
+        (λ step. behind_step step ≡ trial_closed draft.begin draft.trials group.begin group.edits) }
 {
     let Group { begin, edits } = group;
     if edits.is_empty() {
@@ -347,7 +359,9 @@ fn draft_group_unfit(draft: Draft, group: Group, place: Standing, line: usize) -
 
 /// What a line in a group of a draft says. The draft's end gives it up, and ends it.
 fn draft_group_said(draft: Draft, group: Group, line: usize, said: Said) -> Result<Step, Memory>
-    ensures { IfOk result (λ step. behind_step step ≡ live_said (stands (in_draft_group draft group)) (said_events line said)) }
+    ensures { IfOk result
+        (λ step. behind_step step
+        ≡ live_said (stands (in_draft_group draft group)) (said_events line said)) }
 {
     match said {
         Said::Passed => Ok(goes_on(Standing::InDraftGroup(draft, group))),
@@ -396,7 +410,8 @@ fn passing_draft_said(said: Said) -> Step
 
 /// What a line says at its place.
 fn said_at(alloc: Global, place: Standing, line: usize, said: Said) -> Result<Step, Memory>
-    ensures { IfOk result (λ step. behind_step step ≡ live_said (place_of place) (said_events line said)) }
+    ensures { IfOk result
+        (λ step. behind_step step ≡ live_said (place_of place) (said_events line said)) }
 {
     match place {
         Standing::Outside => outside_said(alloc, line, said),

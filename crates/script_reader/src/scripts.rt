@@ -28,7 +28,9 @@ const COMMAND_LIMIT: usize = 10_000;
 /// The state behind a command of one line.
 #[tactic(auto, unfolding(crate::specs::Scripts::faults, crate::specs::Scripts::commands))]
 fn with_command(progress: Progress, line: usize, command: Command) -> Result<State, Memory>
-    ensures { IfOk result (λ next. (rest : List Event) → whole next rest ≡ behind_progress progress outside (single line command ∷ rest)) }
+    ensures { IfOk result
+        (λ next. (rest : List Event) → whole next rest
+        ≡ behind_progress progress outside (single line command ∷ rest)) }
 {
     let count = progress.commands.len();
     with_pushed(limited(progress, COMMAND_LIMIT, count, line), command)
@@ -37,7 +39,9 @@ fn with_command(progress: Progress, line: usize, command: Command) -> Result<Sta
 /// The state behind an edit by itself, which is a command.
 #[tactic(auto, unfolding(crate::specs::Scripts::faults, crate::specs::Scripts::commands))]
 fn with_change(alloc: Global, progress: Progress, line: usize, edit: Edit) -> Result<State, Memory>
-    ensures { IfOk result (λ next. (rest : List Event) → whole next rest ≡ behind_progress progress outside (change line edit ∷ rest)) }
+    ensures { IfOk result
+        (λ next. (rest : List Event) → whole next rest
+        ≡ behind_progress progress outside (change line edit ∷ rest)) }
 {
     match eco_of(alloc, edit) {
         Ok(eco) => with_command(progress, line, Command::Change(eco)),
@@ -51,7 +55,8 @@ fn with_change(alloc: Global, progress: Progress, line: usize, edit: Edit) -> Re
 /// The state behind the begin of a group.
 #[tactic(auto, unfolding(crate::specs::Scripts::faults, crate::specs::Scripts::commands))]
 fn group_begun(alloc: Global, progress: Progress, line: usize) -> State
-    ensures { (rest : List Event) → whole result rest ≡ behind_progress progress outside (group_begin line ∷ rest) }
+    ensures { (rest : List Event) → whole result rest
+        ≡ behind_progress progress outside (group_begin line ∷ rest) }
 {
     let count = progress.commands.len();
     let progress = limited(progress, COMMAND_LIMIT, count, line);
@@ -65,7 +70,8 @@ fn group_begun(alloc: Global, progress: Progress, line: usize) -> State
 /// The state behind the begin of a draft.
 #[tactic(auto, unfolding(crate::specs::Scripts::faults, crate::specs::Scripts::commands))]
 fn draft_begun(alloc: Global, progress: Progress, line: usize) -> State
-    ensures { (rest : List Event) → whole result rest ≡ behind_progress progress outside (draft_begin line ∷ rest) }
+    ensures { (rest : List Event) → whole result rest
+        ≡ behind_progress progress outside (draft_begin line ∷ rest) }
 {
     let count = progress.commands.len();
     let progress = limited(progress, COMMAND_LIMIT, count, line);
@@ -79,7 +85,9 @@ fn draft_begun(alloc: Global, progress: Progress, line: usize) -> State
 /// The state behind what a line outside a group says.
 #[tactic(auto, unfolding(crate::specs::Scripts::faults, crate::specs::Scripts::commands))]
 fn outside_line(alloc: Global, progress: Progress, line: usize, said: Said) -> Result<State, Memory>
-    ensures { IfOk result (λ next. (rest : List Event) → whole next rest ≡ behind_progress progress outside (said_events line said ++ rest)) }
+    ensures { IfOk result
+        (λ next. (rest : List Event) → whole next rest
+        ≡ behind_progress progress outside (said_events line said ++ rest)) }
 {
     match said {
         Said::Passed => Ok(State::Outside(progress)),
@@ -94,7 +102,9 @@ fn outside_line(alloc: Global, progress: Progress, line: usize, said: Said) -> R
 /// The state behind an edit of a group.
 #[tactic(auto, unfolding(crate::specs::Scripts::faults, crate::specs::Scripts::commands))]
 fn group_edit(group: Group, progress: Progress, line: usize, edit: Edit) -> Result<State, Memory>
-    ensures { IfOk result (λ next. (rest : List Event) → whole next rest ≡ behind_progress progress (in_group group) (change line edit ∷ rest)) }
+    ensures { IfOk result
+        (λ next. (rest : List Event) → whole next rest
+        ≡ behind_progress progress (in_group group) (change line edit ∷ rest)) }
 {
     let progress = limited(progress, EDIT_LIMIT, group.edits.len(), line);
     match with_edit(group, edit) {
@@ -109,7 +119,9 @@ fn group_edit(group: Group, progress: Progress, line: usize, edit: Edit) -> Resu
 /// The state behind the end of a group.
 #[tactic(auto, unfolding(crate::specs::Scripts::faults, crate::specs::Scripts::commands))]
 fn group_ended(group: Group, progress: Progress, line: usize) -> Result<State, Memory>
-    ensures { IfOk result (λ next. (rest : List Event) → whole next rest ≡ behind_progress progress (in_group group) (group_end line ∷ rest)) }
+    ensures { IfOk result
+        (λ next. (rest : List Event) → whole next rest
+        ≡ behind_progress progress (in_group group) (group_end line ∷ rest)) }
 {
     let Group { begin, edits } = group;
     if edits.is_empty() {
@@ -122,7 +134,9 @@ fn group_ended(group: Group, progress: Progress, line: usize) -> Result<State, M
 /// The state behind what a line in a group says.
 #[tactic(auto, unfolding(crate::specs::Scripts::faults, crate::specs::Scripts::commands))]
 fn group_line(group: Group, progress: Progress, line: usize, said: Said) -> Result<State, Memory>
-    ensures { IfOk result (λ next. (rest : List Event) → whole next rest ≡ behind_progress progress (in_group group) (said_events line said ++ rest)) }
+    ensures { IfOk result
+        (λ next. (rest : List Event) → whole next rest
+        ≡ behind_progress progress (in_group group) (said_events line said ++ rest)) }
 {
     match said {
         Said::Passed => Ok(State::InGroup(group, progress)),
@@ -143,7 +157,8 @@ fn group_line(group: Group, progress: Progress, line: usize, said: Said) -> Resu
 /// The progress at a line of these bytes.
 #[tactic(auto, using(crate::proofs::ProgressLemmas::long_more))]
 fn measured(progress: Progress, number: usize, line: &[u8]) -> Progress
-    ensures { (place : Place) (rest : List Event) → behind_progress result place rest ≡ behind_progress progress place (too_long number line.now ++ rest) }
+    ensures { (place : Place) (rest : List Event) → behind_progress result place rest
+        ≡ behind_progress progress place (too_long number line.now ++ rest) }
 {
     if line.len() <= LINE_LIMIT {
         progress
@@ -160,7 +175,9 @@ fn behind(
     line: &[u8],
     said: Said,
 ) -> Result<State, Memory>
-    ensures { IfOk result (λ next. (rest : List Event) → whole next rest ≡ whole state (too_long number line.now ++ (said_events number said ++ rest))) }
+    ensures { IfOk result
+        (λ next. (rest : List Event) → whole next rest
+        ≡ whole state (too_long number line.now ++ (said_events number said ++ rest))) }
 {
     match state {
         State::Outside(progress) => {
@@ -181,7 +198,9 @@ fn behind(
 
 /// The state behind a line.
 fn step(alloc: Global, state: State, number: usize, line: &[u8]) -> Result<State, Memory>
-    ensures { IfOk result (λ next. (rest : List Event) → whole next rest ≡ whole state (too_long number line.now ++ (line_said number line.now ++ rest))) }
+    ensures { IfOk result
+        (λ next. (rest : List Event) → whole next rest
+        ≡ whole state (too_long number line.now ++ (line_said number line.now ++ rest))) }
 {
     match read_line(alloc, line) {
         Ok(said) => behind(alloc, state, number, line, said),

@@ -111,7 +111,8 @@ pub(crate) fn noted(progress: Progress, code: Code, line: usize) -> Progress
 /// The state behind a line that may not stand there, with its fault at a line.
 #[tactic(auto, using(crate::proofs::ProgressLemmas::stopping))]
 pub(crate) fn stopped(progress: Progress, line: usize) -> State
-    ensures { (rest : List Event) (all : List Command) → whole result rest ≡ told (least_from progress.fault (bad line ∷ [])) all }
+    ensures { (rest : List Event) (all : List Command) → whole result rest
+        ≡ told (least_from progress.fault (bad line ∷ [])) all }
 {
     State::Stopped(noted(progress, Code::ScriptBadCommand, line))
 }
@@ -120,7 +121,8 @@ pub(crate) fn stopped(progress: Progress, line: usize) -> State
 #[tactic(auto, using(crate::proofs::ProgressLemmas::excess_more))]
 pub(crate) fn limited(progress: Progress, limit: usize, before: usize, line: usize) -> Progress
     ensures commands { result.commands ≡ progress.commands }
-    ensures fault { (rest : List Wrong) → least_from result.fault rest ≡ least_from progress.fault (behind limit before line ++ rest) }
+    ensures fault { (rest : List Wrong) → least_from result.fault rest
+        ≡ least_from progress.fault (behind limit before line ++ rest) }
 {
     if limit <= before {
         noted(progress, Code::ScriptTooLong, line)
@@ -132,7 +134,8 @@ pub(crate) fn limited(progress: Progress, limit: usize, before: usize, line: usi
 /// The state behind one command more.
 #[tactic(auto, using(crate::proofs::ProgressLemmas::pushed))]
 pub(crate) fn with_pushed(progress: Progress, command: Command) -> Result<State, Memory>
-    ensures { IfOk result (λ next. (rest : List Event) → whole next rest ≡ behind_command progress command rest) }
+    ensures { IfOk result
+        (λ next. (rest : List Event) → whole next rest ≡ behind_command progress command rest) }
 {
     let Progress {
         mut commands,

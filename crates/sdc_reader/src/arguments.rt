@@ -44,7 +44,8 @@ fn end(out: &mut Vec<Event>, line: Line) -> Result<(), Stop>
 
 /// Takes an option without a value.
 fn flag(out: &mut Vec<Event>, line: Line, flag: Flag, at: usize) -> Result<Line, Stop>
-    ensures { Steps result (flag_step (clash line flag) line flag at) (λ l. argument l) out.old.items out.new.items }
+    ensures { Steps result (flag_step (clash line flag) line flag at) (λ l. argument l)
+        out.old.items out.new.items }
 {
     match line.clash(flag) {
         None => {
@@ -66,7 +67,8 @@ fn valued(
     at: usize,
 ) -> Result<Line, Stop>
     requires { has_value choice ≡ true }
-    ensures { Takes result size (option_step choice line at) (λ l. argument l) cursor.old cursor.new out.old.items out.new.items }
+    ensures { Takes result size (option_step choice line at) (λ l. argument l) cursor.old cursor.new
+        out.old.items out.new.items }
 {
     match choice {
         Choice::Name => name(alloc, cursor, size, out, line),
@@ -89,7 +91,8 @@ fn option(
     choice: Choice,
     at: usize,
 ) -> Result<More, Stop>
-    ensures { Takes result size (option_step choice line at) more_place cursor.old cursor.new out.old.items out.new.items }
+    ensures { Takes result size (option_step choice line at) more_place cursor.old cursor.new
+        out.old.items out.new.items }
 {
     match choice {
         Choice::Flag(option) => Ok(flag(out, line, option, at)?.more()),
@@ -109,7 +112,8 @@ fn option(
 
 /// Refuses what a command has no place for.
 fn surplus(out: &mut Vec<Event>, line: Line, token: &Token<'_>) -> Stop
-    ensures { (size : ℕ) (tokens : List Tok) → result ≡ Stop.Refused → out.new.items ≡ stepped size (surplus_step line (tok_of token.now)) tokens out.old.items }
+    ensures { (size : ℕ) (tokens : List Tok) → result ≡ Stop.Refused → out.new.items
+        ≡ stepped size (surplus_step line (tok_of token.now)) tokens out.old.items }
 {
     if line.command.is_derate() && is_word(token) {
         return leave_out(out, token.start);
@@ -125,7 +129,8 @@ fn number(
     quantity: Quantity,
     token: &Token<'_>,
 ) -> Result<Line, Stop>
-    ensures { Steps result (plain_step (asks.Number quantity) line (tok_of token.now)) (λ l. argument l) out.old.items out.new.items }
+    ensures { Steps result (plain_step (asks.Number quantity) line (tok_of token.now))
+        (λ l. argument l) out.old.items out.new.items }
 {
     if !is_word(token) {
         return Err(unfit(out, token.start));
@@ -144,7 +149,8 @@ fn plain(
     line: Line,
     token: &Token<'_>,
 ) -> Result<Line, Stop>
-    ensures { Takes result size (plain_step (asked line) line (tok_of token.now)) (λ l. argument l) cursor.old cursor.new out.old.items out.new.items }
+    ensures { Takes result size (plain_step (asked line) line (tok_of token.now)) (λ l. argument l)
+        cursor.old cursor.new out.old.items out.new.items }
 {
     match line.asked() {
         Asked::Number(quantity) => {
@@ -167,7 +173,8 @@ fn word(
 ) -> Result<More, Stop>
     requires word { is_word (tok_of token.now) ≡ true }
     requires more { ends_command (tok_of token.now) ≡ false }
-    ensures { Takes result size (argument_step line (tok_of token.now)) more_place cursor.old cursor.new out.old.items out.new.items }
+    ensures { Takes result size (argument_step line (tok_of token.now)) more_place cursor.old
+        cursor.new out.old.items out.new.items }
 {
     if is_variable(token.text) {
         return Err(leave_out(out, token.start));
@@ -190,7 +197,8 @@ fn mark(
 ) -> Result<More, Stop>
     requires word { is_word (tok_of token.now) ≡ false }
     requires more { ends_command (tok_of token.now) ≡ false }
-    ensures { Takes result size (argument_step line (tok_of token.now)) more_place cursor.old cursor.new out.old.items out.new.items }
+    ensures { Takes result size (argument_step line (tok_of token.now)) more_place cursor.old
+        cursor.new out.old.items out.new.items }
 {
     if line.command.is_derate() && is_mark(token, b"[") {
         return Err(leave_out(out, token.start));
@@ -208,7 +216,8 @@ fn argument_from(
     line: Line,
     token: &Token<'_>,
 ) -> Result<Option<More>, Stop>
-    ensures { Takes result size (argument_step line (tok_of token.now)) place_behind cursor.old cursor.new out.old.items out.new.items }
+    ensures { Takes result size (argument_step line (tok_of token.now)) place_behind cursor.old
+        cursor.new out.old.items out.new.items }
 {
     if ends_command(token) {
         end(out, line)?;
@@ -222,7 +231,10 @@ fn argument_from(
 
 /// Whether the token is a word that is passed over.
 fn passes_over(more: More, token: &Token<'_>) -> bool
-    ensures { result ≡ (more.passes_word && is_word (tok_of token.now) && not (is_option (tok_of token.now).text)) }
+    ensures { result
+        ≡
+        (more.passes_word && is_word (tok_of token.now) && not
+        (is_option (tok_of token.now).text)) }
 {
     more.passes_word && is_word(token) && !is_option(token.text)
 }
@@ -236,7 +248,8 @@ fn argument(
     out: &mut Vec<Event>,
     more: More,
 ) -> Result<Option<More>, Stop>
-    ensures reads { Reads result size (more_place more) place_behind cursor.old cursor.new out.old.items out.new.items }
+    ensures reads { Reads result size (more_place more) place_behind cursor.old cursor.new
+        out.old.items out.new.items }
     ensures shorter { IfOk result (λ found. OnSome found (length cursor.new < length cursor.old)) }
 {
     match cursor.next() {
@@ -261,7 +274,8 @@ pub(crate) fn arguments(
     out: &mut Vec<Event>,
     line: Line,
 ) -> Result<(), Stop>
-    ensures { Reads result size (argument line) (λ _. command) cursor.old cursor.new out.old.items out.new.items }
+    ensures { Reads result size (argument line) (λ _. command) cursor.old cursor.new out.old.items
+        out.new.items }
 {
     let mut more = line.more();
     'each: while let Some(next) = argument(alloc, cursor, size, out, more)? {

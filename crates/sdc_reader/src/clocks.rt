@@ -51,7 +51,9 @@ fn has_name(clocks: &[Clock], draft: &Draft) -> bool
 }
 
 fn has_port(clocks: &[Clock], draft: &Draft) -> bool
-    ensures { result ≡ option_map_or (λ port. list_any (is_clock_at port) clocks.now) (first (named draft.now)) false }
+    ensures { result
+        ≡ option_map_or (λ port. list_any (is_clock_at port) clocks.now) (first (named draft.now))
+        false }
 {
     match draft.port() {
         Some(port) => is_on_port(clocks, port),
@@ -91,7 +93,8 @@ fn clock_with(
     period: i64,
     times: (i64, i64),
 ) -> Result<Clock, Memory>
-    ensures { IfOk result (λ clock. clock ≡ clock_with name.now (first (named draft.now)) period times) }
+    ensures { IfOk result
+        (λ clock. clock ≡ clock_with name.now (first (named draft.now)) period times) }
 {
     Ok(Clock {
         name: name.copied(alloc)?,
@@ -105,7 +108,10 @@ fn clock_with(
 }
 
 fn clock_of(alloc: Global, draft: &Draft, name: &Name, period: i64) -> Result<Option<Clock>, Memory>
-    ensures { IfOk result (λ clock. clock ≡ option_map (clock_with name.now (first (named draft.now)) period) (edges period draft.now.wave)) }
+    ensures { IfOk result
+        (λ clock. clock
+        ≡ option_map (clock_with name.now (first (named draft.now)) period)
+        (edges period draft.now.wave)) }
 {
     match edges(period, draft.wave) {
         Some(times) => Ok(Some(clock_with(alloc, draft, name, period, times)?)),
@@ -116,7 +122,8 @@ fn clock_of(alloc: Global, draft: &Draft, name: &Name, period: i64) -> Result<Op
 /// The clock of the command. One whose period is missing is created all the same, with the least
 /// period, since what follows may name it.
 fn clock_of_period(alloc: Global, draft: &Draft) -> Result<Option<Clock>, Memory>
-    ensures { IfOk result (λ clock. clock ≡ clock_of_period draft.now (clock_name draft.now) draft.now.period) }
+    ensures { IfOk result
+        (λ clock. clock ≡ clock_of_period draft.now (clock_name draft.now) draft.now.period) }
 {
     match draft.clock_name() {
         Some(name) => match draft.period {
@@ -251,7 +258,8 @@ pub(crate) fn uncertain_clocks(
     draft: &Draft,
     clocks: &[Clock],
 ) -> Result<Items<Clock>, Memory>
-    ensures { IfOk result (λ found. found ≡ uncertain_clocks draft.now draft.now.number clocks.now) }
+    ensures { IfOk result
+        (λ found. found ≡ uncertain_clocks draft.now draft.now.number clocks.now) }
 {
     match draft.number {
         Figure::Value(value) => uncertain_all(alloc, draft, value, clocks),

@@ -55,14 +55,16 @@ pub(crate) fn refuse(out: &mut Vec<Event>, code: Code, at: usize) -> Stop
 
 /// A word does not fit, or is missing.
 pub(crate) fn unfit(out: &mut Vec<Event>, at: usize) -> Stop
-    ensures { result ≡ Stop.Refused → out.new.items ≡ out.old.items ++ fault Code.SdcBadWord at ∷ [] }
+    ensures { result ≡ Stop.Refused → out.new.items
+        ≡ out.old.items ++ fault Code.SdcBadWord at ∷ [] }
 {
     refuse(out, Code::SdcBadWord, at)
 }
 
 /// A command or an option is left out.
 pub(crate) fn leave_out(out: &mut Vec<Event>, at: usize) -> Stop
-    ensures { result ≡ Stop.Refused → out.new.items ≡ out.old.items ++ fault Code.SdcLeftOut at ∷ [] }
+    ensures { result ≡ Stop.Refused → out.new.items
+        ≡ out.old.items ++ fault Code.SdcLeftOut at ∷ [] }
 {
     refuse(out, Code::SdcLeftOut, at)
 }
@@ -73,7 +75,10 @@ pub(crate) fn any<'a>(
     size: usize,
     out: &mut Vec<Event>,
 ) -> Result<Token<'a>, Stop>
-    ensures { MatchResult result (λ t. (cursor.old ≡ tok_of t ∷ cursor.new) × (out.new.items ≡ out.old.items)) (λ stop. stop ≡ Stop.Refused → (cursor.old ≡ []) × (out.new.items ≡ out.old.items ++ fault Code.SdcBadWord size ∷ [])) }
+    ensures { MatchResult result
+        (λ t. (cursor.old ≡ tok_of t ∷ cursor.new) × (out.new.items ≡ out.old.items))
+        (λ stop. stop ≡ Stop.Refused → (cursor.old ≡ [])
+        × (out.new.items ≡ out.old.items ++ fault Code.SdcBadWord size ∷ [])) }
 {
     match cursor.next() {
         Some(token) => Ok(token),
@@ -102,7 +107,13 @@ pub(crate) fn value_code(token: &Token<'_>) -> Code
 /// Checks that the token is a word where a value is asked, outside lists.
 #[tactic(auto, unfolding(crate::specs::Grammar::is_value))]
 pub(crate) fn check_value(out: &mut Vec<Event>, token: &Token<'_>) -> Result<(), Stop>
-    ensures { MatchResult result (λ _. (is_value (tok_of token.now) ≡ true) × (is_word (tok_of token.now) ≡ true) × (out.new.items ≡ out.old.items)) (λ stop. stop ≡ Stop.Refused → (is_value (tok_of token.now) ≡ false) × (out.new.items ≡ out.old.items ++ fault (value_code (tok_of token.now)) token.now.start ∷ [])) }
+    ensures { MatchResult result
+        (λ _. (is_value (tok_of token.now) ≡ true) × (is_word (tok_of token.now) ≡ true)
+        × (out.new.items ≡ out.old.items))
+        (λ stop. stop ≡ Stop.Refused → (is_value (tok_of token.now) ≡ false)
+        ×
+        (out.new.items
+        ≡ out.old.items ++ fault (value_code (tok_of token.now)) token.now.start ∷ [])) }
 {
     if is_value(token) {
         return Ok(());
@@ -133,7 +144,12 @@ pub(crate) fn check_object(
     getter: Getter,
     token: &Token<'_>,
 ) -> Result<(), Stop>
-    ensures { MatchResult result (λ _. (is_object getter token.now.text.now ≡ true) × (out.new.items ≡ out.old.items)) (λ stop. stop ≡ Stop.Refused → (is_object getter token.now.text.now ≡ false) × (out.new.items ≡ out.old.items ++ fault (object_code token.now.text.now) token.now.start ∷ [])) }
+    ensures { MatchResult result
+        (λ _. (is_object getter token.now.text.now ≡ true) × (out.new.items ≡ out.old.items))
+        (λ stop. stop ≡ Stop.Refused → (is_object getter token.now.text.now ≡ false)
+        ×
+        (out.new.items
+        ≡ out.old.items ++ fault (object_code token.now.text.now) token.now.start ∷ [])) }
 {
     if is_object(getter, token.text) {
         return Ok(());
@@ -150,7 +166,10 @@ pub(crate) fn push_object(
     token: &Token<'_>,
 ) -> Result<(), Stop>
     requires { is_word (tok_of token.now) ≡ true }
-    ensures { MatchResult result (λ _. out.new.items ≡ out.old.items ++ event.Object role getter token.now.text.now token.now.start ∷ []) (λ stop. stop ≡ Stop.Memory) }
+    ensures { MatchResult result
+        (λ _. out.new.items
+        ≡ out.old.items ++ event.Object role getter token.now.text.now token.now.start ∷ [])
+        (λ stop. stop ≡ Stop.Memory) }
 {
     let name = name_of(alloc, token.text)?;
     out.push(Event::Object(role, getter, name, token.start))?;

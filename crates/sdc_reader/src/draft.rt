@@ -192,7 +192,9 @@ impl Draft {
 
     /// A waveform begins.
     pub(crate) fn begin_wave(&mut self, at: usize)
-        ensures { self.new ≡ record self.old { wave = record { at = Some at; rise = figures.Absent; fall = figures.Absent } } }
+        ensures { self.new
+            ≡ record self.old
+            { wave = record { at = Some at; rise = figures.Absent; fall = figures.Absent } } }
     {
         self.wave = Wave {
             at: Some(at),
@@ -253,14 +255,16 @@ impl Draft {
 
     /// The port of a clock.
     pub(crate) fn port(&self) -> Option<&Name>
-        ensures { MatchOption result (first (named self.now) ≡ None) (λ port. first (named self.now) ≡ Some port.now) }
+        ensures { MatchOption result (first (named self.now) ≡ None)
+            (λ port. first (named self.now) ≡ Some port.now) }
     {
         self.named().first()
     }
 
     /// The name of a clock: its own, or that of its port.
     pub(crate) fn clock_name(&self) -> Option<&Name>
-        ensures { MatchOption result (clock_name self.now ≡ None) (λ name. clock_name self.now ≡ Some name.now) }
+        ensures { MatchOption result (clock_name self.now ≡ None)
+            (λ name. clock_name self.now ≡ Some name.now) }
     {
         match &self.name {
             Some(name) => Some(name),

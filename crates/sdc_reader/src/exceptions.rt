@@ -39,7 +39,8 @@ fn push_if(
     draft: &Draft,
     effect: Effect,
 ) -> Result<(), Memory>
-    ensures { OnOk result (exceptions.new ≡ exceptions.old ++ exception_if chosen draft.now effect) }
+    ensures { OnOk result
+        (exceptions.new ≡ exceptions.old ++ exception_if chosen draft.now effect) }
 {
     if !chosen {
         return Ok(());
@@ -77,7 +78,8 @@ pub(crate) fn push_multicycle(
     exceptions: &mut Items<Exception>,
     draft: &Draft,
 ) -> Result<(), Memory>
-    ensures { OnOk result (exceptions.new ≡ exceptions.old ++ multicycles draft.now draft.now.number) }
+    ensures { OnOk result
+        (exceptions.new ≡ exceptions.old ++ multicycles draft.now draft.now.number) }
 {
     let hold = draft.flags.hold;
     let Figure::Value(value) = draft.number else {

@@ -21,7 +21,8 @@ use timing_defs::Code;
 /// Notes a fault where the test holds.
 #[tactic(auto, unfolding(sta_text::specs::Faults::least_from))]
 fn note_if(test: bool, code: Code, at: usize, best: Option<Wrong>) -> Option<Wrong>
-    ensures { (rest : List Wrong) → least_from result rest ≡ least_from best (fault_if test code at ++ rest) }
+    ensures { (rest : List Wrong) → least_from result rest
+        ≡ least_from best (fault_if test code at ++ rest) }
 {
     if test {
         lesser(best, Wrong { code, at })
@@ -70,7 +71,8 @@ fn lacks(draft: &Draft) -> bool
 
 /// Notes a waveform that does not fit into its period.
 fn note_wave(draft: &Draft, best: Option<Wrong>) -> Option<Wrong>
-    ensures { (rest : List Wrong) → least_from result rest ≡ least_from best (misfit_at draft.now.wave.at draft.now ++ rest) }
+    ensures { (rest : List Wrong) → least_from result rest
+        ≡ least_from best (misfit_at draft.now.wave.at draft.now ++ rest) }
 {
     match draft.wave.at {
         None => best,
@@ -83,7 +85,8 @@ fn note_wave(draft: &Draft, best: Option<Wrong>) -> Option<Wrong>
 
 /// Notes what is wrong with a clock.
 fn note_clock(set: &Interpreter, best: Option<Wrong>) -> Option<Wrong>
-    ensures { (rest : List Wrong) → least_from result rest ≡ least_from best (clock_faults set.now set.now.draft ++ rest) }
+    ensures { (rest : List Wrong) → least_from result rest
+        ≡ least_from best (clock_faults set.now set.now.draft ++ rest) }
 {
     let draft = &set.draft;
     let clocks = set.clocks.as_slice();
@@ -105,7 +108,8 @@ fn is_beyond(hold: bool, number: Figure) -> bool
 
 /// Notes what is wrong with a command that is complete.
 fn note_complete(set: &Interpreter, best: Option<Wrong>) -> Option<Wrong>
-    ensures { (rest : List Wrong) → least_from result rest ≡ least_from best (complete_faults set.now.draft.command set.now set.now.draft ++ rest) }
+    ensures { (rest : List Wrong) → least_from result rest
+        ≡ least_from best (complete_faults set.now.draft.command set.now set.now.draft ++ rest) }
 {
     let draft = &set.draft;
     match draft.command {
@@ -123,7 +127,8 @@ fn note_complete(set: &Interpreter, best: Option<Wrong>) -> Option<Wrong>
 
 /// Notes what the end of a command shows.
 fn note_end(size: usize, whole: bool, set: &Interpreter, best: Option<Wrong>) -> Option<Wrong>
-    ensures { (rest : List Wrong) → least_from result rest ≡ least_from best (found size whole set.now events.End ++ rest) }
+    ensures { (rest : List Wrong) → least_from result rest
+        ≡ least_from best (found size whole set.now events.End ++ rest) }
 {
     let complete = note_complete(set, best);
     let test = whole && lacks(&set.draft);
@@ -139,7 +144,8 @@ pub(crate) fn note(
     event: &Event,
     best: Option<Wrong>,
 ) -> Option<Wrong>
-    ensures { (rest : List Wrong) → least_from result rest ≡ least_from best (found size whole set.now event.now ++ rest) }
+    ensures { (rest : List Wrong) → least_from result rest
+        ≡ least_from best (found size whole set.now event.now ++ rest) }
 {
     match event {
         Event::Number(quantity, word, at) => {

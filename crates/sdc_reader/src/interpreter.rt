@@ -200,7 +200,9 @@ impl Interpreter {
         getter: Getter,
         name: &Name,
     ) -> Result<(), Memory>
-        ensures { OnOk result (self.new ≡ record self.old { draft = with_object role getter name.now self.old.draft }) }
+        ensures { OnOk result
+            (self.new
+            ≡ record self.old { draft = with_object role getter name.now self.old.draft }) }
     {
         self.draft.add_object(alloc, role, getter, name)
     }
@@ -248,7 +250,11 @@ impl Interpreter {
 
     /// What is set at ports.
     fn port_settings(&self, alloc: Global) -> Result<PortSettings, Memory>
-        ensures { IfOk result (λ set. (set.inputs ≡ (constraints self.now).inputs) × (set.outputs ≡ (constraints self.now).outputs) × (set.slews ≡ (constraints self.now).slews) × (set.loads ≡ (constraints self.now).loads)) }
+        ensures { IfOk result
+            (λ set. (set.inputs ≡ (constraints self.now).inputs)
+            × (set.outputs ≡ (constraints self.now).outputs)
+            × (set.slews ≡ (constraints self.now).slews)
+            × (set.loads ≡ (constraints self.now).loads)) }
     {
         let inputs = self.inputs.delays(alloc)?;
         let outputs = self.outputs.delays(alloc)?;

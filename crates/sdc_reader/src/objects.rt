@@ -24,7 +24,8 @@ fn listed_word(
     token: &Token<'_>,
 ) -> Result<(), Stop>
     requires { is_mark (tok_of token.now) (codes "}") ≡ false }
-    ensures { Steps result (listed_step list filled (tok_of token.now)) (λ _. listed list true) out.old.items out.new.items }
+    ensures { Steps result (listed_step list filled (tok_of token.now)) (λ _. listed list true)
+        out.old.items out.new.items }
 {
     if !is_word(token) || (list.role.is_single() && filled) {
         return Err(unfit(out, token.start));
@@ -43,7 +44,8 @@ fn more_listed(
     list: Listing,
     filled: bool,
 ) -> Result<bool, Stop>
-    ensures reads { Reads result size (listed list filled) (λ more. list_place list more) cursor.old cursor.new out.old.items out.new.items }
+    ensures reads { Reads result size (listed list filled) (λ more. list_place list more) cursor.old
+        cursor.new out.old.items out.new.items }
     ensures shorter { IfOk result (λ _. length cursor.new < length cursor.old) }
 {
     let token = any(cursor, size, out)?;
@@ -65,7 +67,8 @@ fn closing(
     out: &mut Vec<Event>,
     line: Line,
 ) -> Result<Line, Stop>
-    ensures { Reads result size (closing line) (λ l. argument l) cursor.old cursor.new out.old.items out.new.items }
+    ensures { Reads result size (closing line) (λ l. argument l) cursor.old cursor.new out.old.items
+        out.new.items }
 {
     let token = any(cursor, size, out)?;
     if is_mark(&token, b"]") {
@@ -83,7 +86,8 @@ fn list(
     out: &mut Vec<Event>,
     list: Listing,
 ) -> Result<Line, Stop>
-    ensures { Reads result size (listed list false) (λ l. argument l) cursor.old cursor.new out.old.items out.new.items }
+    ensures { Reads result size (listed list false) (λ l. argument l) cursor.old cursor.new
+        out.old.items out.new.items }
 {
     let mut filled = false;
     'each: while more_listed(alloc, cursor, size, out, list, filled)? {
@@ -106,7 +110,8 @@ fn got(
     role: Role,
     getter: Getter,
 ) -> Result<Line, Stop>
-    ensures { Reads result size (got line role getter) (λ l. argument l) cursor.old cursor.new out.old.items out.new.items }
+    ensures { Reads result size (got line role getter) (λ l. argument l) cursor.old cursor.new
+        out.old.items out.new.items }
 {
     let token = any(cursor, size, out)?;
     if is_mark(&token, b"{") {
@@ -134,7 +139,8 @@ fn brackets(
     line: Line,
     role: Role,
 ) -> Result<Line, Stop>
-    ensures { Reads result size (getting line role) (λ l. argument l) cursor.old cursor.new out.old.items out.new.items }
+    ensures { Reads result size (getting line role) (λ l. argument l) cursor.old cursor.new
+        out.old.items out.new.items }
 {
     let token = any(cursor, size, out)?;
     check_value(out, &token)?;
@@ -164,7 +170,8 @@ fn named_word(
 ) -> Result<Line, Stop>
     requires list { is_mark (tok_of token.now) (codes "{") ≡ false }
     requires brackets { is_mark (tok_of token.now) (codes "[") ≡ false }
-    ensures { Steps result (named_step line role (tok_of token.now)) (λ l. argument l) out.old.items out.new.items }
+    ensures { Steps result (named_step line role (tok_of token.now)) (λ l. argument l) out.old.items
+        out.new.items }
 {
     check_value(out, token)?;
     check_object(out, Getter::Plain, token)?;
@@ -183,7 +190,8 @@ pub(crate) fn named(
     role: Role,
     token: &Token<'_>,
 ) -> Result<Line, Stop>
-    ensures { Takes result size (named_step line role (tok_of token.now)) (λ l. argument l) cursor.old cursor.new out.old.items out.new.items }
+    ensures { Takes result size (named_step line role (tok_of token.now)) (λ l. argument l)
+        cursor.old cursor.new out.old.items out.new.items }
 {
     if is_mark(token, b"{") {
         out.push(Event::Objects(role))?;
@@ -213,7 +221,8 @@ pub(crate) fn objects(
     line: Line,
     role: Role,
 ) -> Result<Line, Stop>
-    ensures { Reads result size (objects line role) (λ l. argument l) cursor.old cursor.new out.old.items out.new.items }
+    ensures { Reads result size (objects line role) (λ l. argument l) cursor.old cursor.new
+        out.old.items out.new.items }
 {
     let token = any(cursor, size, out)?;
     named(alloc, cursor, size, out, line, role, &token)

@@ -50,7 +50,8 @@ fn is_accepted(events: &[Event]) -> bool
 #[tactic(auto, unfolding(crate::specs::Meaning::last, crate::specs::Faults::faults, sta_text::specs::Faults::least_from), using(std::proofs::lemmas::List::drop_more, crate::proofs::ClockLemmas::after_limit))]
 fn carry_out(alloc: Global, events: &[Event], size: usize, units: Units) -> Result<Outcome, Memory>
     ensures set { IfOk result (λ outcome. outcome.set ≡ last (start units) events.now) }
-    ensures fault { IfOk result (λ outcome. outcome.fault ≡ least_from None (faults_of size units events.now)) }
+    ensures fault { IfOk result
+        (λ outcome. outcome.fault ≡ least_from None (faults_of size units events.now)) }
 {
     let whole = is_accepted(events);
     let mut set = Interpreter::new(alloc, units);
@@ -65,7 +66,10 @@ fn carry_out(alloc: Global, events: &[Event], size: usize, units: Units) -> Resu
 /// The constraints of a text, or its least fault.
 #[tactic(auto, using(sta_text::proofs::FaultsLemmas::least_none))]
 fn whole_constraints(alloc: Global, bytes: &[u8], units: &Units) -> Result<Constraints, ReadFault>
-    ensures { MatchResult result (λ c. (faults_of (length bytes.now) units.now (events_of bytes.now) ≡ []) × (c ≡ constraints_of units.now (events_of bytes.now))) (λ e. Fails e (faults_of (length bytes.now) units.now (events_of bytes.now))) }
+    ensures { MatchResult result
+        (λ c. (faults_of (length bytes.now) units.now (events_of bytes.now) ≡ [])
+        × (c ≡ constraints_of units.now (events_of bytes.now)))
+        (λ e. Fails e (faults_of (length bytes.now) units.now (events_of bytes.now))) }
 {
     let events = events_of(alloc, bytes)?;
     let outcome = carry_out(alloc, events.as_slice(), bytes.len(), *units)?;
@@ -111,7 +115,10 @@ pub fn read_constraints(
     bytes: &[u8],
     units: &Units,
 ) -> Result<Constraints, ReadFault>
-    ensures value { MatchResult result (λ c. (faults_of (length bytes.now) units.now (events_of bytes.now) ≡ []) × (c ≡ constraints_of units.now (events_of bytes.now))) (λ e. Fails e (faults_of (length bytes.now) units.now (events_of bytes.now))) }
+    ensures value { MatchResult result
+        (λ c. (faults_of (length bytes.now) units.now (events_of bytes.now) ≡ [])
+        × (c ≡ constraints_of units.now (events_of bytes.now)))
+        (λ e. Fails e (faults_of (length bytes.now) units.now (events_of bytes.now))) }
     ensures kept { IfOk result (λ c. are_constraints c ≡ true) }
 {
     whole_constraints(alloc, bytes, units)

@@ -92,7 +92,8 @@ impl PortTable {
         fall: bool,
         amount: Amount,
     ) -> Result<(), Memory>
-        ensures { OnOk result (self.new ≡ written_if chosen (corner port.now late fall) amount self.old) }
+        ensures { OnOk result
+            (self.new ≡ written_if chosen (corner port.now late fall) amount self.old) }
     {
         if !chosen {
             return Ok(());

@@ -20,7 +20,8 @@ use timing_defs::{Code, Style};
 /// Takes a token of a command that is passed over; whether the command goes on.
 #[tactic(auto, unfolding(crate::specs::Grammar::events))]
 fn pass(cursor: &mut Cursor<'_>, out: &mut Vec<Event>) -> Result<bool, Stop>
-    ensures reads { ReadsAny result passed_over passed_place cursor.old cursor.new out.old.items out.new.items }
+    ensures reads { ReadsAny result passed_over passed_place cursor.old cursor.new out.old.items
+        out.new.items }
     ensures shorter { IfOk result (λ more. IsTrue more → length cursor.new < length cursor.old) }
 {
     match cursor.next() {
@@ -39,7 +40,8 @@ fn pass(cursor: &mut Cursor<'_>, out: &mut Vec<Event>) -> Result<bool, Stop>
 
 /// Passes over the rest of a command.
 fn passed_over(cursor: &mut Cursor<'_>, out: &mut Vec<Event>) -> Result<(), Stop>
-    ensures { ReadsAny result passed_over (λ _. command) cursor.old cursor.new out.old.items out.new.items }
+    ensures { ReadsAny result passed_over (λ _. command) cursor.old cursor.new out.old.items
+        out.new.items }
 {
     'each: while pass(cursor, out)? {}
     Ok(())
@@ -48,7 +50,8 @@ fn passed_over(cursor: &mut Cursor<'_>, out: &mut Vec<Event>) -> Result<(), Stop
 /// Takes the variable that a command sets.
 #[tactic(auto, unfolding(crate::specs::Grammar::events))]
 fn variable(cursor: &mut Cursor<'_>, size: usize, out: &mut Vec<Event>) -> Result<(), Stop>
-    ensures { Reads result size variable (λ _. passed_over) cursor.old cursor.new out.old.items out.new.items }
+    ensures { Reads result size variable (λ _. passed_over) cursor.old cursor.new out.old.items
+        out.new.items }
 {
     let token = any(cursor, size, out)?;
     if !is_word(&token) {
@@ -72,7 +75,8 @@ fn known(
     word: &[u8],
     at: usize,
 ) -> Result<(), Stop>
-    ensures { Takes result size (known_step (command_of word.now) at) (λ _. command) cursor.old cursor.new out.old.items out.new.items }
+    ensures { Takes result size (known_step (command_of word.now) at) (λ _. command) cursor.old
+        cursor.new out.old.items out.new.items }
 {
     match command_of(word) {
         None => Err(refuse(out, Code::SdcUnknownCommand, at)),
@@ -92,7 +96,8 @@ fn command_named(
     word: &[u8],
     at: usize,
 ) -> Result<(), Stop>
-    ensures { Takes result size (command_step word.now at) (λ _. command) cursor.old cursor.new out.old.items out.new.items }
+    ensures { Takes result size (command_step word.now at) (λ _. command) cursor.old cursor.new
+        out.old.items out.new.items }
 {
     if is_variable(word) || is_left_out(word) {
         return Err(leave_out(out, at));
@@ -115,7 +120,8 @@ fn command(
     out: &mut Vec<Event>,
     token: &Token<'_>,
 ) -> Result<(), Stop>
-    ensures { Takes result size (step command (tok_of token.now)) (λ _. command) cursor.old cursor.new out.old.items out.new.items }
+    ensures { Takes result size (step command (tok_of token.now)) (λ _. command) cursor.old
+        cursor.new out.old.items out.new.items }
 {
     if ends_command(token) {
         return Ok(());
@@ -134,7 +140,9 @@ fn commands(
     size: usize,
     out: &mut Vec<Event>,
 ) -> Result<(), Stop>
-    ensures { MatchResult result (λ _. out.new.items ≡ whole size command cursor.old out.old.items) (λ stop. stop ≡ Stop.Refused → out.new.items ≡ whole size command cursor.old out.old.items) }
+    ensures { MatchResult result (λ _. out.new.items ≡ whole size command cursor.old out.old.items)
+        (λ stop. stop ≡ Stop.Refused → out.new.items
+        ≡ whole size command cursor.old out.old.items) }
 {
     'each: while let Some(token) = cursor.next() {
         command(alloc, cursor, size, out, &token)?;

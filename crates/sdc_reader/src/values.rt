@@ -21,7 +21,8 @@ pub(crate) fn name(
     out: &mut Vec<Event>,
     line: Line,
 ) -> Result<Line, Stop>
-    ensures { Reads result size (name_value line) (λ l. argument l) cursor.old cursor.new out.old.items out.new.items }
+    ensures { Reads result size (name_value line) (λ l. argument l) cursor.old cursor.new
+        out.old.items out.new.items }
 {
     let token = any(cursor, size, out)?;
     check_value(out, &token)?;
@@ -38,7 +39,8 @@ pub(crate) fn period(
     out: &mut Vec<Event>,
     line: Line,
 ) -> Result<Line, Stop>
-    ensures { Reads result size (period_value line) (λ l. argument l) cursor.old cursor.new out.old.items out.new.items }
+    ensures { Reads result size (period_value line) (λ l. argument l) cursor.old cursor.new
+        out.old.items out.new.items }
 {
     let token = any(cursor, size, out)?;
     check_value(out, &token)?;
@@ -55,7 +57,8 @@ pub(crate) fn time(
     out: &mut Vec<Event>,
     line: Line,
 ) -> Result<Line, Stop>
-    ensures { Reads result size (time_value line) (λ l. argument l) cursor.old cursor.new out.old.items out.new.items }
+    ensures { Reads result size (time_value line) (λ l. argument l) cursor.old cursor.new
+        out.old.items out.new.items }
 {
     let token = any(cursor, size, out)?;
     check_value(out, &token)?;
@@ -76,7 +79,8 @@ pub(crate) fn capacitance(
     out: &mut Vec<Event>,
     line: Line,
 ) -> Result<Line, Stop>
-    ensures { Reads result size (capacitance_value line) (λ l. argument l) cursor.old cursor.new out.old.items out.new.items }
+    ensures { Reads result size (capacitance_value line) (λ l. argument l) cursor.old cursor.new
+        out.old.items out.new.items }
 {
     let token = any(cursor, size, out)?;
     check_value(out, &token)?;
@@ -97,7 +101,8 @@ fn wave_open(
     out: &mut Vec<Event>,
     line: Line,
 ) -> Result<Line, Stop>
-    ensures { Reads result size (wave_open line) (λ l. wave_rise l) cursor.old cursor.new out.old.items out.new.items }
+    ensures { Reads result size (wave_open line) (λ l. wave_rise l) cursor.old cursor.new
+        out.old.items out.new.items }
 {
     let token = any(cursor, size, out)?;
     if is_mark(&token, b"{") {
@@ -117,7 +122,8 @@ fn wave_rise(
     out: &mut Vec<Event>,
     line: Line,
 ) -> Result<Line, Stop>
-    ensures { Reads result size (wave_rise line) (λ l. wave_fall l) cursor.old cursor.new out.old.items out.new.items }
+    ensures { Reads result size (wave_rise line) (λ l. wave_fall l) cursor.old cursor.new
+        out.old.items out.new.items }
 {
     let token = any(cursor, size, out)?;
     if !is_word(&token) {
@@ -137,7 +143,8 @@ fn wave_fall(
     out: &mut Vec<Event>,
     line: Line,
 ) -> Result<Line, Stop>
-    ensures { Reads result size (wave_fall line) (λ l. wave_close l) cursor.old cursor.new out.old.items out.new.items }
+    ensures { Reads result size (wave_fall line) (λ l. wave_close l) cursor.old cursor.new
+        out.old.items out.new.items }
 {
     let token = any(cursor, size, out)?;
     if !is_word(&token) {
@@ -156,7 +163,8 @@ fn wave_close(
     out: &mut Vec<Event>,
     line: Line,
 ) -> Result<Line, Stop>
-    ensures { Reads result size (wave_close line) (λ l. argument l) cursor.old cursor.new out.old.items out.new.items }
+    ensures { Reads result size (wave_close line) (λ l. argument l) cursor.old cursor.new
+        out.old.items out.new.items }
 {
     let token = any(cursor, size, out)?;
     if is_mark(&token, b"}") {
@@ -173,7 +181,8 @@ pub(crate) fn waveform(
     out: &mut Vec<Event>,
     line: Line,
 ) -> Result<Line, Stop>
-    ensures { Reads result size (wave_open line) (λ l. argument l) cursor.old cursor.new out.old.items out.new.items }
+    ensures { Reads result size (wave_open line) (λ l. argument l) cursor.old cursor.new
+        out.old.items out.new.items }
 {
     let opened = wave_open(cursor, size, out, line)?;
     let risen = wave_rise(alloc, cursor, size, out, opened)?;

@@ -2,7 +2,7 @@
 
 use Rattle.std.proofs.Common.{◌≡◌, true, ◌||◌, refl}
 use Rattle.timing_defs.specs.declared.reports.Query.{Query}
-use Rattle.timing_defs.specs.declared.reports.Query.TheVariants.{Slew, At, Rat, Slack, Endpoint, WorstPath, Wns, Tns, Worst, Through, Paths, WhatIf', Advise}
+use Rattle.timing_defs.specs.declared.reports.Query.TheVariants.{Slew, At, Rat, Slack, Endpoint, WorstPath, Wns, Tns, Worst, Through, Paths, WhatIf', Advise, Closing}
 use Rattle.timing_defs.specs.declared.scripts.Command.{Command}
 use Rattle.timing_defs.specs.declared.scripts.Command.TheVariants.{Take, Await, Ask, Change}
 use Rattle.timing_defs.specs.Documents.{is_plain}
@@ -25,6 +25,7 @@ asks (Through pin kind pins) k = k
 asks (Paths pin kind count) k = k
 asks (WhatIf' shape trials) k = k
 asks (Advise kind candidates) k = k
+asks (Closing query) k = k
 
 pub runs : (c : Command) → can_be_answered c ≡ true → is_runnable c ≡ true
 runs Take h = refl

@@ -85,8 +85,13 @@ fn step_session(
 ) -> Result<(), Memory>
     requires within { session.old.next < 2 ^ 32 - 1 }
     requires room { newest < 2 ^ 64 - 1 }
-    ensures session_ok { OnOk result (session.new ≡ session_after newest (next_command script.now session.old) event session.old) }
-    ensures entries_ok { OnOk result (entries.new ≡ entries_after newest (next_command script.now session.old) event session.old entries.old) }
+    ensures session_ok { OnOk result
+        (session.new
+        ≡ session_after newest (next_command script.now session.old) event session.old) }
+    ensures entries_ok { OnOk result
+        (entries.new
+        ≡ entries_after newest (next_command script.now session.old) event session.old
+        entries.old) }
     ensures session_err { OnErr result (session.new ≡ session.old) }
     ensures entries_err { OnErr result (entries.new ≡ entries.old) }
 {
@@ -115,8 +120,12 @@ fn step_sessions(
     requires low { first ≤ 2 ^ 62 }
     requires runnable { IsTrue (list_all is_runnable scripts.now) }
     requires within { AreWithin scripts.now sessions.old }
-    ensures ok { OnOk result (state first entries.new scripts.now sessions.new ≡ happens (state first entries.old scripts.now sessions.old) event) }
-    ensures err { OnErr result (state first entries.new scripts.now sessions.new ≡ state first entries.old scripts.now sessions.old) }
+    ensures ok { OnOk result
+        (state first entries.new scripts.now sessions.new
+        ≡ happens (state first entries.old scripts.now sessions.old) event) }
+    ensures err { OnErr result
+        (state first entries.new scripts.now sessions.new
+        ≡ state first entries.old scripts.now sessions.old) }
 {
     let newest = first + entries.as_slice().len() as u64;
     let Some(place) = place_of(event) else {
@@ -143,8 +152,12 @@ fn step_lists(
     requires low { first ≤ 2 ^ 62 }
     requires runnable { IsTrue (list_all is_runnable scripts.now) }
     requires within { AreWithin scripts.now sessions.old }
-    ensures ok { OnOk result (state first entries.new scripts.now sessions.new ≡ happens (state first entries.old scripts.now sessions.old) event) }
-    ensures err { OnErr result (state first entries.new scripts.now sessions.new ≡ state first entries.old scripts.now sessions.old) }
+    ensures ok { OnOk result
+        (state first entries.new scripts.now sessions.new
+        ≡ happens (state first entries.old scripts.now sessions.old) event) }
+    ensures err { OnErr result
+        (state first entries.new scripts.now sessions.new
+        ≡ state first entries.old scripts.now sessions.old) }
 {
     let mut parts = take_out(alloc, sessions);
     let stepped = step_sessions(alloc, first, entries, scripts, parts.as_mut_slice(), event);
@@ -202,7 +215,8 @@ impl Core {
         requires low { first ≤ 2 ^ 62 }
         requires several { (1 ≤ length scripts) × (length scripts ≤ 16) }
         requires runnable { IsTrue (list_all is_runnable scripts) }
-        ensures state { IfOk result (λ core. state_of core ≡ after_all (opening first scripts) events.now) }
+        ensures state { IfOk result
+            (λ core. state_of core ≡ after_all (opening first scripts) events.now) }
         ensures reached { IfOk result (λ core. IsReached (state_of core)) }
         ensures law { IfOk result (λ core. AreLawful (state_of core)) }
     {

@@ -87,7 +87,8 @@ impl CoreSession {
 
     /// Looks at the newest version, and begins the draft on it.
     fn look_and_draft(&mut self, number: u64) -> Result<(), Memory>
-        ensures ok { OnOk result (self.new ≡ record (with_look number self.old) { draft = draft_on number }) }
+        ensures ok { OnOk result
+            (self.new ≡ record (with_look number self.old) { draft = draft_on number }) }
         ensures err { OnErr result (self.new ≡ self.old) }
     {
         self.look(number)?;
@@ -97,7 +98,8 @@ impl CoreSession {
 
     /// Takes a snapshot of the newest version, where the session may.
     pub(crate) fn take(&mut self, script: &Script, newest: u64) -> Result<(), Memory>
-        ensures ok { OnOk result (self.new ≡ after_take newest (next_command script.now self.old) self.old) }
+        ensures ok { OnOk result
+            (self.new ≡ after_take newest (next_command script.now self.old) self.old) }
         ensures err { OnErr result (self.new ≡ self.old) }
     {
         match self.next_command(script) {
@@ -122,7 +124,15 @@ impl CoreSession {
     /// The next command has its row at `number`: the looks are spent, the draft ends. Takes no memory.
     fn go_on(&mut self, alloc: Global, number: u64)
         requires { self.old.next < 2 ^ 32 - 1 }
-        ensures { self.new ≡ record { next = self.old.next + 1; held = Some number; looks = []; draft = None; rows = self.old.rows } }
+        ensures { self.new
+            ≡ record {
+              next = self.old.next + 1;
+              held = Some number;
+              looks = [];
+              draft = None;
+              rows =
+                  self.old.rows;
+            } }
     {
         self.next += 1;
         self.held = Some(number);
@@ -182,8 +192,13 @@ impl CoreSession {
     ) -> Result<(), Memory>
         requires within { self.old.next < 2 ^ 32 - 1 }
         requires room { newest < 2 ^ 64 - 1 }
-        ensures session_ok { OnOk result (self.new ≡ after_publish newest (next_command script.now self.old) self.old.draft self.old) }
-        ensures entries_ok { OnOk result (entries.new ≡ entries_after newest (next_command script.now self.old) (Event.Publish session) self.old entries.old) }
+        ensures session_ok { OnOk result
+            (self.new
+            ≡ after_publish newest (next_command script.now self.old) self.old.draft self.old) }
+        ensures entries_ok { OnOk result
+            (entries.new
+            ≡ entries_after newest (next_command script.now self.old) (Event.Publish session)
+            self.old entries.old) }
         ensures session_err { OnErr result (self.new ≡ self.old) }
         ensures entries_err { OnErr result (entries.new ≡ entries.old) }
     {
@@ -205,7 +220,8 @@ impl CoreSession {
         script: &Script,
         held: u64,
     ) -> Result<Option<RowSort>, Memory>
-        ensures { IfOk result (λ sort. sort ≡ answer_to (next_command script.now self.now) held self.now) }
+        ensures { IfOk result
+            (λ sort. sort ≡ answer_to (next_command script.now self.now) held self.now) }
     {
         match self.next_command(script) {
             Some(Command::Take) if !self.looks.is_empty() => Ok(Some(RowSort::Taken)),
@@ -221,7 +237,8 @@ impl CoreSession {
     /// Answers the next command at the version that is held, where the session may.
     pub(crate) fn answer(&mut self, alloc: Global, script: &Script) -> Result<(), Memory>
         requires { self.old.next < 2 ^ 32 - 1 }
-        ensures ok { OnOk result (self.new ≡ after_answer (next_command script.now self.old) self.old.held self.old) }
+        ensures ok { OnOk result
+            (self.new ≡ after_answer (next_command script.now self.old) self.old.held self.old) }
         ensures err { OnErr result (self.new ≡ self.old) }
     {
         let Some(held) = self.held else {

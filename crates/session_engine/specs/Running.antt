@@ -6,13 +6,13 @@ use Rattle.std.specs.List.{list_all}
 use mathlib.Core.List.{IsPrefix}
 use Rattle.timing_defs.specs.declared.design.Design.{Design}
 use Rattle.timing_defs.specs.declared.reports.Query.{Query}
-use Rattle.timing_defs.specs.declared.reports.Query.TheVariants.{Through, Paths, WhatIf', Advise}
+use Rattle.timing_defs.specs.declared.reports.Query.TheVariants.{Through, Paths, WhatIf', Advise, Closing}
 use Rattle.timing_defs.specs.declared.scripts.Command.{Command}
 use Rattle.timing_defs.specs.declared.scripts.Command.TheVariants.{Take, Await, Ask, Change}
 use Rattle.timing_defs.specs.declared.scripts.Script.{Script}
 use Rattle.timing_defs.specs.declared.scripts.Row.{Row}
 use Rattle.timing_defs.specs.declared.scripts.Transcript.{Transcript}
-use Rattle.timing_defs.specs.Documents.{is_eco, is_count, is_trial}
+use Rattle.timing_defs.specs.Documents.{is_eco, is_count, is_closing, is_draft_trial}
 use Rattle.timing_defs.specs.Trials.{trials_in}
 use Rattle.timing_defs.specs.Documents.{is_plain}
 use Rattle.timing_rules.specs.Sessions.{OrderedFrom, AreTrue, Legal, GrewBy, mark_of, row_looks, added_entries}
@@ -20,12 +20,13 @@ use Rattle.session_engine.specs.Versions.{Versioned}
 use Rattle.session_engine.specs.Looking.{Sight}
 
 -- a question beyond the plain ones: the worst path through 1 to 16 pins, 1 to 100 worst paths, 1 to 100 trials on a
--- draft, or 1 to 100 candidates of a resize
+-- draft, 1 to 100 candidates of a resize, or one that closing timing needs
 abbrev pub is_further : Query → Bool
 is_further (Through pin kind pins) = is_count 16 (length pins)
 is_further (Paths pin kind count) = is_count 100 count
-is_further (WhatIf' shape trials) = is_count 100 (length (trials_in trials)) && list_all is_trial (trials_in trials)
+is_further (WhatIf' shape trials) = is_count 100 (length (trials_in trials)) && list_all is_draft_trial (trials_in trials)
 is_further (Advise kind candidates) = is_count 100 (length candidates)
+is_further (Closing query) = is_closing query
 is_further q = false
 
 -- a command that is answered: it waits with a look at least, asks a plain or a further question, or has an ECO of its form

@@ -81,7 +81,9 @@ fn wait<R: Wait, G: Gate>(
     requires seat { IsSeatOf meant board.now seat.old }
     requires held { Holds seat.old.view (arc_value held) }
     ensures same { IsSame seat.old seat.new }
-    ensures waits { IfOk result (λ got. Waits seat.old.view (arc_value held) number looks seat.new.view (arc_value got.0) got.1) }
+    ensures waits { IfOk result
+        (λ got. Waits seat.old.view (arc_value held) number looks seat.new.view (arc_value got.0)
+        got.1) }
     ensures holds { IfOk result (λ got. Holds seat.new.view (arc_value got.0)) }
     ensures looked { OnErr result (Looked seat.old.view seat.new.view) }
 {
@@ -152,7 +154,10 @@ fn offered<R: Wait>(
     requires base { Holds seat.old.view base.now }
     requires next { (eco : Eco) × IsNext base.now who eco (arc_value next.now) }
     ensures same { IsSame seat.old seat.new }
-    ensures offers { IfOk result (λ newest. (eco : Eco) → IsNext base.now who eco (arc_value next.now) → Offers seat.old.view (entry_by who eco) seat.new.view (arc_value next.now) (option_map arc_value newest)) }
+    ensures offers { IfOk result
+        (λ newest. (eco : Eco) → IsNext base.now who eco (arc_value next.now)
+        → Offers seat.old.view (entry_by who eco) seat.new.view (arc_value next.now)
+        (option_map arc_value newest)) }
     ensures looked { OnErr result (Looked seat.old.view seat.new.view) }
 {
     publish(rt, board, seat, base, who, next.clone()?)
@@ -173,7 +178,9 @@ fn offer<R: Wait, G: Gate>(
     requires base { Holds seat.old.view (arc_value base) }
     requires next { (eco : Eco) × IsNext (arc_value base) who eco (arc_value next) }
     ensures same { IsSame seat.old seat.new }
-    ensures tried { IfOk result (λ tried. (eco : Eco) → IsNext (arc_value base) who eco (arc_value next) → Tried who seat.old.view (arc_value base) eco seat.new.view tried) }
+    ensures tried { IfOk result
+        (λ tried. (eco : Eco) → IsNext (arc_value base) who eco (arc_value next)
+        → Tried who seat.old.view (arc_value base) eco seat.new.view tried) }
     ensures looked { OnErr result (Looked seat.old.view seat.new.view) }
 {
     let offered = offered(rt, who, board, seat, &base, &next);
@@ -262,7 +269,8 @@ fn change<H: Threads + Wait + Sync, G: Gate>(
     requires some { 1 ≤ workers }
     requires most { workers ≤ 32 }
     ensures same { IsSame seat.old seat.new }
-    ensures changes { IfOk result (λ got. Changes who seat.old.view eco.now seat.new.view (arc_value got.0) got.1) }
+    ensures changes { IfOk result
+        (λ got. Changes who seat.old.view eco.now seat.new.view (arc_value got.0) got.1) }
     ensures holds { IfOk result (λ got. Holds seat.new.view (arc_value got.0)) }
     ensures looked { OnErr result (Looked seat.old.view seat.new.view) }
 {
@@ -335,7 +343,9 @@ pub(crate) fn answer<H: Threads + Wait + Sync, G: Gate, X: Further>(
     requires some { 1 ≤ workers }
     requires most { workers ≤ 32 }
     ensures same { IsSame seat.old seat.new }
-    ensures answers { IfOk result (λ got. Answers who seat.old.view (arc_value held) command.now seat.new.view (arc_value got.0) got.1) }
+    ensures answers { IfOk result
+        (λ got. Answers who seat.old.view (arc_value held) command.now seat.new.view
+        (arc_value got.0) got.1) }
     ensures holds { IfOk result (λ got. Holds seat.new.view (arc_value got.0)) }
     ensures looked { OnErr result (Looked seat.old.view seat.new.view) }
 {

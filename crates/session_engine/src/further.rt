@@ -2,7 +2,6 @@
 
 ghost use Rattle.std.specs.Prelude.{◌≡◌, ◌⊎◌, true, Some, IfOk, IfErr};
 ghost use Rattle.std.specs.Thread.{IsSync};
-ghost use Rattle.timing_defs.specs.Documents.{is_plain};
 ghost use Rattle.timing_rules.specs.Questions.{Told, query_fault};
 ghost use Rattle.session_engine.specs.Running.{is_further};
 
@@ -33,24 +32,7 @@ pub trait Further {
         requires store { store.now ≡ analysis.now.stored }
         requires further { is_further q.now ≡ true }
         ensures told { IfOk result (Told analysis.now.stored.design q.now) }
-        ensures refused { IfErr result (λ x. (x ≡ QueryFault.Memory) ⊎ (query_fault analysis.now.stored.design q.now ≡ Some x)) };
-}
-
-/// Whether a question is plain.
-pub(crate) fn is_plain(q: &Query) -> bool
-    ensures { result ≡ is_plain q.now }
-{
-    match q {
-        Query::Through { .. } | Query::Paths { .. } | Query::WhatIf { .. } | Query::Advise { .. } =>
-            false,
-        Query::Slew { .. }
-        | Query::At { .. }
-        | Query::Rat { .. }
-        | Query::Slack { .. }
-        | Query::Endpoint { .. }
-        | Query::WorstPath { .. }
-        | Query::Wns { .. }
-        | Query::Tns { .. }
-        | Query::Worst { .. } => true,
-    }
+        ensures refused { IfErr result
+            (λ x. (x ≡ QueryFault.Memory)
+            ⊎ (query_fault analysis.now.stored.design q.now ≡ Some x)) };
 }

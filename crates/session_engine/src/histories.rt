@@ -82,7 +82,8 @@ impl History {
     pub(crate) fn with_entry(&self, alloc: Global, who: u32, eco: &Eco) -> Result<History, Memory>
         ensures first { IfOk result (λ h. h.first ≡ self.now.first) }
         ensures origin { IfOk result (λ h. arc_value h.origin ≡ arc_value self.now.origin) }
-        ensures journal { IfOk result (λ h. h.journal ≡ self.now.journal ++ entry_of who eco.now ∷ []) }
+        ensures journal { IfOk result
+            (λ h. h.journal ≡ self.now.journal ++ entry_of who eco.now ∷ []) }
         ensures room { OnOk result (length self.now.journal < 2 ^ 62) }
     {
         let journal = longer(alloc, &self.journal, who, eco)?;

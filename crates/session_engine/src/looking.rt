@@ -70,7 +70,10 @@ pub(crate) fn publish<R: Wait>(
     requires base { Holds seat.old.view base.now }
     requires next { (eco : Eco) × IsNext base.now who eco (arc_value next) }
     ensures same { IsSame seat.old seat.new }
-    ensures offers { IfOk result (λ newest. (eco : Eco) → IsNext base.now who eco (arc_value next) → Offers seat.old.view (entry_by who eco) seat.new.view (arc_value next) (option_map arc_value newest)) }
+    ensures offers { IfOk result
+        (λ newest. (eco : Eco) → IsNext base.now who eco (arc_value next)
+        → Offers seat.old.view (entry_by who eco) seat.new.view (arc_value next)
+        (option_map arc_value newest)) }
     ensures looked { OnErr result (Looked seat.old.view seat.new.view) }
 {
     base.laws();

@@ -41,7 +41,8 @@ pub fn prepare<H: Threads + Sync, G: Gate, L>(
     requires most { workers ≤ 32 }
     ensures next { IfOk result (λ v. IsNext base.now who eco.now (arc_value v)) }
     ensures rises { steps.old ≤ steps.new }
-    ensures counted { IsCounted base.now.stored.design eco.now (is_told result) (steps.new - steps.old) }
+    ensures counted { IsCounted base.now.stored.design eco.now (is_told result)
+        (steps.new - steps.old) }
     ensures refused { IfErr result (IsRefusal base.now.stored.design eco.now) }
 {
     base.laws();

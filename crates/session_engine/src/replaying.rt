@@ -47,8 +47,10 @@ fn step<H: Threads + Sync, G: Gate>(
     requires eco { is_eco entry.now.eco ≡ true }
     requires some { 1 ≤ workers }
     requires most { workers ≤ 32 }
-    ensures next { IfOk result (λ v. IsNext (arc_value base) entry.now.session entry.now.eco (arc_value v)) }
-    ensures refused { IfErr result (IsStepFault (arc_value base).stored.design place entry.now.eco) }
+    ensures next { IfOk result
+        (λ v. IsNext (arc_value base) entry.now.session entry.now.eco (arc_value v)) }
+    ensures refused { IfErr result
+        (IsStepFault (arc_value base).stored.design place entry.now.eco) }
 {
     let mut steps: Steps<Replayed> = Steps::none();
     let next = prepare(

@@ -46,7 +46,9 @@ pub fn begin_session<R: Wait, G: Gate>(
     requires seat { IsSeatOf meant board.now seat.old }
     ensures same { IsSame seat.old seat.new }
     ensures holds { IfOk result (λ held. Holds seat.new.view (arc_value held)) }
-    ensures run { IfOk result (λ held. IsRun board.now.opening.origin board.now.opening.first who seat.old.view [] seat.new.view (arc_value held) []) }
+    ensures run { IfOk result
+        (λ held. IsRun board.now.opening.origin board.now.opening.first who seat.old.view []
+        seat.new.view (arc_value held) []) }
     ensures looked { OnErr result (Looked seat.old.view seat.new.view) }
 {
     let held = taken(rt, who, board, seat, gate)?;
@@ -83,7 +85,9 @@ pub fn answer_command<H: Threads + Wait + Sync, G: Gate, X: Further>(
     requires most { workers ≤ 32 }
     ensures same { IsSame seat.old seat.new }
     ensures holds { IfOk result (λ made. Holds seat.new.view (arc_value made.held)) }
-    ensures run { IfOk result (λ made. RunsOn who seat.old.view (arc_value held) place command.now seat.new.view (arc_value made.held) made.row) }
+    ensures run { IfOk result
+        (λ made. RunsOn who seat.old.view (arc_value held) place command.now seat.new.view
+        (arc_value made.held) made.row) }
     ensures looked { OnErr result (Looked seat.old.view seat.new.view) }
 {
     held.laws();
@@ -140,7 +144,13 @@ fn step<H: Threads + Wait + Sync, G: Gate, X: Further>(
     ensures holds { IfOk result (λ next. Holds seat.new.view (arc_value next)) }
     ensures long { IfOk result (λ next. vec_len rows.new ≡ vec_len rows.old + 1) }
     ensures room { IfOk result (λ next. vec_capacity rows.new ≡ vec_capacity rows.old) }
-    ensures run { IfOk result (λ next. (origin : Design) (first : ℕ) (v : Sight) (commands : List Command) → seat.old.view.first ≡ first → seat.old.view.origin ≡ Some origin → place ≡ length commands + 1 → IsRun origin first who v commands seat.old.view (arc_value held) rows.old.items → IsRun origin first who v (commands ++ command.now ∷ []) seat.new.view (arc_value next) rows.new.items) }
+    ensures run { IfOk result
+        (λ next. (origin : Design) (first : ℕ) (v : Sight) (commands : List Command)
+        → seat.old.view.first ≡ first → seat.old.view.origin ≡ Some origin → place
+        ≡ length commands + 1
+        → IsRun origin first who v commands seat.old.view (arc_value held) rows.old.items
+        → IsRun origin first who v (commands ++ command.now ∷ []) seat.new.view (arc_value next)
+        rows.new.items) }
     ensures looked { OnErr result (Looked seat.old.view seat.new.view) }
 {
     match answer_command(
@@ -182,8 +192,12 @@ fn steps<H: Threads + Wait + Sync, G: Gate, X: Further>(
     requires some { 1 ≤ workers }
     requires most { workers ≤ 32 }
     ensures same { IsSame seat.old seat.new }
-    ensures run { IfOk result (λ held. IsRun board.now.opening.origin board.now.opening.first who seat.old.view commands.now seat.new.view (arc_value held) rows.new.items) }
-    ensures stopped { OnErr result (Stopped board.now.opening.origin board.now.opening.first who commands.now seat.old.view seat.new.view) }
+    ensures run { IfOk result
+        (λ held. IsRun board.now.opening.origin board.now.opening.first who seat.old.view
+        commands.now seat.new.view (arc_value held) rows.new.items) }
+    ensures stopped { OnErr result
+        (Stopped board.now.opening.origin board.now.opening.first who commands.now seat.old.view
+        seat.new.view) }
 {
     let mut held = begin_session(rt, who, board, seat, gate)?;
     let mut place = 1u32;
@@ -226,8 +240,12 @@ pub fn run_script<H: Threads + Wait + Sync, G: Gate, X: Further>(
     requires some { 1 ≤ workers }
     requires most { workers ≤ 32 }
     ensures same { IsSame seat.old seat.new }
-    ensures ran { IfOk result (Ran board.now.opening.origin board.now.opening.first who script.now seat.old.view seat.new.view) }
-    ensures stopped { OnErr result (Stopped board.now.opening.origin board.now.opening.first who script.now.commands seat.old.view seat.new.view) }
+    ensures ran { IfOk result
+        (Ran board.now.opening.origin board.now.opening.first who script.now seat.old.view
+        seat.new.view) }
+    ensures stopped { OnErr result
+        (Stopped board.now.opening.origin board.now.opening.first who script.now.commands
+        seat.old.view seat.new.view) }
 {
     let commands = script.commands.as_slice();
     match Vec::with_capacity(alloc, commands.len()) {

@@ -7,9 +7,9 @@ ghost use Rattle.timing_defs.specs.Documents.{is_plain};
 ghost use Rattle.timing_rules.specs.Questions.{Told, query_fault};
 ghost use Rattle.session_engine.specs.Running.{is_further};
 
-use crate::further::{Further, is_plain};
+use crate::further::Further;
 use crate::versions::Version;
-use affected_cone::ask;
+use affected_cone::{ask, is_plain};
 use std::alloc::Global;
 use std::marker::Model;
 use std::sync::Arc;
@@ -64,7 +64,8 @@ impl Snapshot {
     pub fn query(&self, alloc: Global, question: &Query) -> Result<Report, QueryFault>
         requires { is_plain question.now ≡ true }
         ensures told { IfOk result (Told self.now.stored.design question.now) }
-        ensures refused { IfErr result (λ x. (x ≡ no_answer) ⊎ (query_fault self.now.stored.design question.now ≡ Some x)) }
+        ensures refused { IfErr result
+            (λ x. (x ≡ no_answer) ⊎ (query_fault self.now.stored.design question.now ≡ Some x)) }
     {
         let version = self.version();
         version.laws();
@@ -81,7 +82,8 @@ impl Snapshot {
     ) -> Result<Report, QueryFault>
         requires { is_further question.now ≡ true }
         ensures told { IfOk result (Told self.now.stored.design question.now) }
-        ensures refused { IfErr result (λ x. (x ≡ no_answer) ⊎ (query_fault self.now.stored.design question.now ≡ Some x)) }
+        ensures refused { IfErr result
+            (λ x. (x ≡ no_answer) ⊎ (query_fault self.now.stored.design question.now ≡ Some x)) }
     {
         let version = self.version();
         version.laws();
@@ -100,7 +102,8 @@ impl Snapshot {
     ) -> Result<Report, QueryFault>
         requires { is_plain question.now || is_further question.now ≡ true }
         ensures told { IfOk result (Told self.now.stored.design question.now) }
-        ensures refused { IfErr result (λ x. (x ≡ no_answer) ⊎ (query_fault self.now.stored.design question.now ≡ Some x)) }
+        ensures refused { IfErr result
+            (λ x. (x ≡ no_answer) ⊎ (query_fault self.now.stored.design question.now ≡ Some x)) }
     {
         if is_plain(question) {
             self.query(alloc, question)

@@ -36,15 +36,22 @@ impl Model for Version {
 
     ghost Value = { Versioned };
 
-    ghost view = { λ v. version_of v.history.first (arc_value v.history.origin).design v.history.journal (arc_value v.store) (arc_value v.analysis) };
+    ghost view = { λ v. version_of v.history.first (arc_value v.history.origin).design
+        v.history.journal (arc_value v.store) (arc_value v.analysis) };
 
-    ghost invariant = { λ v. IsVersion (version_of v.history.first (arc_value v.history.origin).design v.history.journal (arc_value v.store) (arc_value v.analysis)) };
+    ghost invariant = { λ v. IsVersion
+        (version_of v.history.first (arc_value v.history.origin).design v.history.journal
+        (arc_value v.store) (arc_value v.analysis)) };
 }
 
 /// The version of its parts.
 fn version_of(history: History, store: Arc<Store>, analysis: Arc<Analysis>) -> Version
-    requires { IsVersion (version_of history.first (arc_value history.origin).design history.journal (arc_value store) (arc_value analysis)) }
-    ensures { result ≡ version_of history.first (arc_value history.origin).design history.journal (arc_value store) (arc_value analysis) }
+    requires { IsVersion
+        (version_of history.first (arc_value history.origin).design history.journal
+        (arc_value store) (arc_value analysis)) }
+    ensures { result
+        ≡ version_of history.first (arc_value history.origin).design history.journal
+        (arc_value store) (arc_value analysis) }
 {
     Version {
         history,
@@ -149,7 +156,8 @@ impl Version {
     fn longer(&self, alloc: Global, who: u32, eco: &Eco) -> Result<History, Memory>
         ensures first { IfOk result (λ h. h.first ≡ self.now.first) }
         ensures origin { IfOk result (λ h. (arc_value h.origin).design ≡ self.now.origin) }
-        ensures journal { IfOk result (λ h. h.journal ≡ self.now.journal ++ entry_of who eco.now ∷ []) }
+        ensures journal { IfOk result
+            (λ h. h.journal ≡ self.now.journal ++ entry_of who eco.now ∷ []) }
         ensures room { OnOk result (length self.now.journal < 2 ^ 62) }
     {
         self.history.with_entry(alloc, who, eco)

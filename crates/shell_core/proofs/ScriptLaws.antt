@@ -15,7 +15,7 @@ use Rattle.timing_defs.specs.declared.scripts.Command.{Command}
 use Rattle.timing_defs.specs.declared.scripts.Command.TheVariants.{Take, Ask}
 use Rattle.timing_defs.specs.declared.reports.Trial.TheVariants.{Drop, Ask as ask_draft}
 use Rattle.timing_defs.specs.declared.scripts.Script.{Script}
-use Rattle.timing_defs.specs.Documents.{is_plain}
+use Rattle.script_reader.specs.Words.{may_be_tried}
 use Rattle.sta_text.specs.declared.faults.Wrong.{Wrong}
 use Rattle.sta_text.specs.Faults.{least_from, Fails}
 use Rattle.sta_text.proofs.FaultsLemmas.{least_none}
@@ -181,7 +181,7 @@ one_more count c cs here stands rest =
       few = let h = rest.few in omega (arith, h);
     }
 
--- a question that is no plain one has a fault in a draft
+-- a question about a draft has a fault in a draft
 plain_kept : (plain : Bool) (count n : ℕ) (xs : List Wrong) (cs : List Command) → (xs ≡ [] → AreKept count cs)
     → cond plain xs (bad n ∷ []) ≡ [] → AreKept count (cond plain cs [])
 plain_kept true count n xs cs kept h = kept h
@@ -215,7 +215,7 @@ commands_kept count (inside begin edits) (group_end n ∷ es) room fine h =
     one_more count _ (commands outside es) refl (whole.0, room.1, room.2)
     (commands_kept (count + 1) outside es (let r = room.0 in omega (arith, r)) (behind_fine (group_end n) es fine) whole.1)
 commands_kept count (drafted begin trials) (single n (Ask q) ∷ es) room fine h =
-    plain_kept (is_plain q) count n (behind 100 (length trials) n ++ faults count (drafted begin (trials ++ ask_draft q ∷ [])) es)
+    plain_kept (may_be_tried q) count n (behind 100 (length trials) n ++ faults count (drafted begin (trials ++ ask_draft q ∷ [])) es)
     (commands (drafted begin (trials ++ ask_draft q ∷ [])) es)
     (λ none.
     commands_kept count (drafted begin (trials ++ ask_draft q ∷ [])) es room (behind_fine (single n (Ask q)) es fine)

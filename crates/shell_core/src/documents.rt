@@ -179,8 +179,12 @@ pub fn name_of<'a>(run: &Run<'a>, role: Role) -> &'a str
 fn fetch<S: Shelf>(alloc: Global, shelf: &mut S, run: &Run<'_>, role: Role) -> Result<Vec<u8>, Stop>
     ensures map { S.holds shelf.new ≡ S.holds shelf.old }
     ensures rising { S.faults shelf.old ≤ S.faults shelf.new }
-    ensures text { IfOk result (λ doc. Gives (S.holds shelf.old) (name_of (run_words run.now) role) doc.items × (S.faults shelf.new ≡ S.faults shelf.old)) }
-    ensures stop { IfErr result (λ stop. Stops (S.holds shelf.old) (run_words run.now) (S.faults shelf.old) (S.faults shelf.new) (role ∷ []) stop) }
+    ensures text { IfOk result
+        (λ doc. Gives (S.holds shelf.old) (name_of (run_words run.now) role) doc.items
+        × (S.faults shelf.new ≡ S.faults shelf.old)) }
+    ensures stop { IfErr result
+        (λ stop. Stops (S.holds shelf.old) (run_words run.now) (S.faults shelf.old)
+        (S.faults shelf.new) (role ∷ []) stop) }
     ensures unread { IfErr result IsNoFault }
 {
     match shelf.fetch(alloc, name_of(run, role)) {
@@ -195,9 +199,13 @@ fn fetch<S: Shelf>(alloc: Global, shelf: &mut S, run: &Run<'_>, role: Role) -> R
 fn early<S: Shelf>(alloc: Global, shelf: &mut S, run: &Run<'_>) -> Result<Library, Stop>
     ensures map { S.holds shelf.new ≡ S.holds shelf.old }
     ensures rising { S.faults shelf.old ≤ S.faults shelf.new }
-    ensures value { IfOk result (λ value. Says (S.holds shelf.old) (run_words run.now).early (SaysLibrary value) × (S.faults shelf.new ≡ S.faults shelf.old)) }
+    ensures value { IfOk result
+        (λ value. Says (S.holds shelf.old) (run_words run.now).early (SaysLibrary value)
+        × (S.faults shelf.new ≡ S.faults shelf.old)) }
     ensures kept { IfOk result (λ value. is_library value ≡ true) }
-    ensures stop { IfErr result (λ stop. Stops (S.holds shelf.old) (run_words run.now) (S.faults shelf.old) (S.faults shelf.new) (role.Early ∷ []) stop) }
+    ensures stop { IfErr result
+        (λ stop. Stops (S.holds shelf.old) (run_words run.now) (S.faults shelf.old)
+        (S.faults shelf.new) (role.Early ∷ []) stop) }
 {
     let text = fetch(alloc, shelf, run, Role::Early)?;
     match read_library(alloc, text.as_slice()) {
@@ -209,7 +217,9 @@ fn early<S: Shelf>(alloc: Global, shelf: &mut S, run: &Run<'_>) -> Result<Librar
 
 /// A late library and its units.
 fn read_late(alloc: Global, text: &[u8]) -> Result<(Library, Units), ReadFault>
-    ensures value { MatchResult result (λ got. SaysLibrary got.0 text.now × (got.1 ≡ units_of_text text.now)) (λ e. Fails e (faults_of text.now)) }
+    ensures value { MatchResult result
+        (λ got. SaysLibrary got.0 text.now × (got.1 ≡ units_of_text text.now))
+        (λ e. Fails e (faults_of text.now)) }
     ensures kept { IfOk result (λ got. is_library got.0 ≡ true) }
 {
     let units = units(alloc, text)?;
@@ -220,10 +230,14 @@ fn read_late(alloc: Global, text: &[u8]) -> Result<(Library, Units), ReadFault>
 fn late<S: Shelf>(alloc: Global, shelf: &mut S, run: &Run<'_>) -> Result<(Library, Units), Stop>
     ensures map { S.holds shelf.new ≡ S.holds shelf.old }
     ensures rising { S.faults shelf.old ≤ S.faults shelf.new }
-    ensures value { IfOk result (λ got. Says (S.holds shelf.old) (run_words run.now).late (SaysLibrary got.0) × (S.faults shelf.new ≡ S.faults shelf.old)) }
+    ensures value { IfOk result
+        (λ got. Says (S.holds shelf.old) (run_words run.now).late (SaysLibrary got.0)
+        × (S.faults shelf.new ≡ S.faults shelf.old)) }
     ensures units { IfOk result (λ got. AreUnits (S.holds shelf.old) (run_words run.now) got.1) }
     ensures kept { IfOk result (λ got. is_library got.0 ≡ true) }
-    ensures stop { IfErr result (λ stop. Stops (S.holds shelf.old) (run_words run.now) (S.faults shelf.old) (S.faults shelf.new) (role.Late ∷ []) stop) }
+    ensures stop { IfErr result
+        (λ stop. Stops (S.holds shelf.old) (run_words run.now) (S.faults shelf.old)
+        (S.faults shelf.new) (role.Late ∷ []) stop) }
 {
     let text = fetch(alloc, shelf, run, Role::Late)?;
     match read_late(alloc, text.as_slice()) {
@@ -236,9 +250,13 @@ fn late<S: Shelf>(alloc: Global, shelf: &mut S, run: &Run<'_>) -> Result<(Librar
 fn netlist<S: Shelf>(alloc: Global, shelf: &mut S, run: &Run<'_>) -> Result<Module, Stop>
     ensures map { S.holds shelf.new ≡ S.holds shelf.old }
     ensures rising { S.faults shelf.old ≤ S.faults shelf.new }
-    ensures value { IfOk result (λ value. Says (S.holds shelf.old) (run_words run.now).netlist (SaysModule value) × (S.faults shelf.new ≡ S.faults shelf.old)) }
+    ensures value { IfOk result
+        (λ value. Says (S.holds shelf.old) (run_words run.now).netlist (SaysModule value)
+        × (S.faults shelf.new ≡ S.faults shelf.old)) }
     ensures kept { IfOk result IsNetlist }
-    ensures stop { IfErr result (λ stop. Stops (S.holds shelf.old) (run_words run.now) (S.faults shelf.old) (S.faults shelf.new) (role.Netlist ∷ []) stop) }
+    ensures stop { IfErr result
+        (λ stop. Stops (S.holds shelf.old) (run_words run.now) (S.faults shelf.old)
+        (S.faults shelf.new) (role.Netlist ∷ []) stop) }
 {
     let text = fetch(alloc, shelf, run, Role::Netlist)?;
     match read_module(alloc, text.as_slice()) {
@@ -257,9 +275,13 @@ fn sdc<S: Shelf>(
     requires { AreUnits (S.holds shelf.old) (run_words run.now) units.now }
     ensures map { S.holds shelf.new ≡ S.holds shelf.old }
     ensures rising { S.faults shelf.old ≤ S.faults shelf.new }
-    ensures value { IfOk result (λ value. AreConstraints (S.holds shelf.old) (run_words run.now) value × (S.faults shelf.new ≡ S.faults shelf.old)) }
+    ensures value { IfOk result
+        (λ value. AreConstraints (S.holds shelf.old) (run_words run.now) value
+        × (S.faults shelf.new ≡ S.faults shelf.old)) }
     ensures kept { IfOk result (λ value. are_constraints value ≡ true) }
-    ensures stop { IfErr result (λ stop. Stops (S.holds shelf.old) (run_words run.now) (S.faults shelf.old) (S.faults shelf.new) (role.Sdc ∷ []) stop) }
+    ensures stop { IfErr result
+        (λ stop. Stops (S.holds shelf.old) (run_words run.now) (S.faults shelf.old)
+        (S.faults shelf.new) (role.Sdc ∷ []) stop) }
 {
     let text = fetch(alloc, shelf, run, Role::Sdc)?;
     match read_constraints(alloc, text.as_slice(), units) {
@@ -272,9 +294,13 @@ fn sdc<S: Shelf>(
 fn spef<S: Shelf>(alloc: Global, shelf: &mut S, run: &Run<'_>) -> Result<Parasitics, Stop>
     ensures map { S.holds shelf.new ≡ S.holds shelf.old }
     ensures rising { S.faults shelf.old ≤ S.faults shelf.new }
-    ensures value { IfOk result (λ value. Says (S.holds shelf.old) (run_words run.now).spef (SaysParasitics value) × (S.faults shelf.new ≡ S.faults shelf.old)) }
+    ensures value { IfOk result
+        (λ value. Says (S.holds shelf.old) (run_words run.now).spef (SaysParasitics value)
+        × (S.faults shelf.new ≡ S.faults shelf.old)) }
     ensures kept { IfOk result (λ value. are_parasitics value.nets ≡ true) }
-    ensures stop { IfErr result (λ stop. Stops (S.holds shelf.old) (run_words run.now) (S.faults shelf.old) (S.faults shelf.new) (role.Spef ∷ []) stop) }
+    ensures stop { IfErr result
+        (λ stop. Stops (S.holds shelf.old) (run_words run.now) (S.faults shelf.old)
+        (S.faults shelf.new) (role.Spef ∷ []) stop) }
 {
     let text = fetch(alloc, shelf, run, Role::Spef)?;
     match read_parasitics(alloc, text.as_slice()) {
@@ -287,7 +313,8 @@ fn spef<S: Shelf>(alloc: Global, shelf: &mut S, run: &Run<'_>) -> Result<Parasit
 /// A script, with what is known of it.
 #[tactic(auto, using(crate::proofs::ScriptLaws::script_told))]
 fn read_session(alloc: Global, text: &[u8]) -> Result<Script, ReadFault>
-    ensures { MatchResult result (λ s. SaysScript s text.now × IsScript s) (λ e. Fails e (line_faults 0 outside (events 1 (lines_of text.now)))) }
+    ensures { MatchResult result (λ s. SaysScript s text.now × IsScript s)
+        (λ e. Fails e (line_faults 0 outside (events 1 (lines_of text.now)))) }
 {
     read_script(alloc, text)
 }
@@ -301,9 +328,13 @@ fn session<S: Shelf>(
 ) -> Result<Script, Stop>
     ensures map { S.holds shelf.new ≡ S.holds shelf.old }
     ensures rising { S.faults shelf.old ≤ S.faults shelf.new }
-    ensures value { IfOk result (λ value. Says (S.holds shelf.old) (name_of (run_words run.now) (role.Session number)) (SaysScript value) × (S.faults shelf.new ≡ S.faults shelf.old)) }
+    ensures value { IfOk result
+        (λ value. Says (S.holds shelf.old) (name_of (run_words run.now) (role.Session number))
+        (SaysScript value) × (S.faults shelf.new ≡ S.faults shelf.old)) }
     ensures kept { IfOk result IsScript }
-    ensures stop { IfErr result (λ stop. Stops (S.holds shelf.old) (run_words run.now) (S.faults shelf.old) (S.faults shelf.new) (role.Session number ∷ []) stop) }
+    ensures stop { IfErr result
+        (λ stop. Stops (S.holds shelf.old) (run_words run.now) (S.faults shelf.old)
+        (S.faults shelf.new) (role.Session number ∷ []) stop) }
 {
     let role = Role::Session { number };
     let text = fetch(alloc, shelf, run, role)?;
@@ -316,7 +347,8 @@ fn session<S: Shelf>(
 
 /// Scripts, and one more behind them.
 fn joined(mut scripts: Items<Script>, script: Script) -> Result<Items<Script>, Stop>
-    ensures { MatchResult result (λ all. all ≡ scripts ++ script ∷ []) (λ stop. stop ≡ cause.Memory) }
+    ensures { MatchResult result (λ all. all ≡ scripts ++ script ∷ [])
+        (λ stop. stop ≡ cause.Memory) }
 {
     match scripts.push(script) {
         Ok(()) => Ok(scripts),
@@ -339,8 +371,12 @@ fn with_next<S: Shelf>(
     requires more { count < length run.now.scripts.items }
     ensures map { S.holds shelf.new ≡ S.holds shelf.old }
     ensures rising { S.faults shelf.old ≤ S.faults shelf.new }
-    ensures value { IfOk result (λ got. AreRead (S.holds shelf.old) (run_words run.now) (count + 1) got × (S.faults shelf.new ≡ S.faults shelf.old)) }
-    ensures stop { IfErr result (λ stop. Stops (S.holds shelf.old) (run_words run.now) (S.faults shelf.old) (S.faults shelf.new) (script_sources 1 (run_words run.now).scripts) stop) }
+    ensures value { IfOk result
+        (λ got. AreRead (S.holds shelf.old) (run_words run.now) (count + 1) got
+        × (S.faults shelf.new ≡ S.faults shelf.old)) }
+    ensures stop { IfErr result
+        (λ stop. Stops (S.holds shelf.old) (run_words run.now) (S.faults shelf.old)
+        (S.faults shelf.new) (script_sources 1 (run_words run.now).scripts) stop) }
 {
     match session(alloc, shelf, run, count + 1) {
         Ok(script) => joined(scripts, script),
@@ -356,9 +392,14 @@ fn with_next<S: Shelf>(
 fn scripts<S: Shelf>(alloc: Global, shelf: &mut S, run: &Run<'_>) -> Result<Items<Script>, Stop>
     ensures map { S.holds shelf.new ≡ S.holds shelf.old }
     ensures rising { S.faults shelf.old ≤ S.faults shelf.new }
-    ensures value { IfOk result (λ got. SayScripts (S.holds shelf.old) (run_words run.now).scripts got × (S.faults shelf.new ≡ S.faults shelf.old)) }
-    ensures kept { IfOk result (λ got. All IsScript got × (length got ≡ length run.now.scripts.items)) }
-    ensures stop { IfErr result (λ stop. Stops (S.holds shelf.old) (run_words run.now) (S.faults shelf.old) (S.faults shelf.new) (script_sources 1 (run_words run.now).scripts) stop) }
+    ensures value { IfOk result
+        (λ got. SayScripts (S.holds shelf.old) (run_words run.now).scripts got
+        × (S.faults shelf.new ≡ S.faults shelf.old)) }
+    ensures kept { IfOk result
+        (λ got. All IsScript got × (length got ≡ length run.now.scripts.items)) }
+    ensures stop { IfErr result
+        (λ stop. Stops (S.holds shelf.old) (run_words run.now) (S.faults shelf.old)
+        (S.faults shelf.new) (script_sources 1 (run_words run.now).scripts) stop) }
 {
     let mut scripts = Items::new(alloc);
     for count in 0..run.scripts.len() {
@@ -378,9 +419,13 @@ fn has_no_spef(run: &Run<'_>) -> bool
 fn spef_if_named<S: Shelf>(alloc: Global, shelf: &mut S, run: &Run<'_>) -> Result<Parasitics, Stop>
     ensures map { S.holds shelf.new ≡ S.holds shelf.old }
     ensures rising { S.faults shelf.old ≤ S.faults shelf.new }
-    ensures value { IfOk result (λ value. AreParasitics (S.holds shelf.old) (run_words run.now) value × (S.faults shelf.new ≡ S.faults shelf.old)) }
+    ensures value { IfOk result
+        (λ value. AreParasitics (S.holds shelf.old) (run_words run.now) value
+        × (S.faults shelf.new ≡ S.faults shelf.old)) }
     ensures kept { IfOk result (λ value. are_parasitics value.nets ≡ true) }
-    ensures stop { IfErr result (λ stop. Stops (S.holds shelf.old) (run_words run.now) (S.faults shelf.old) (S.faults shelf.new) (spef_sources (run_words run.now)) stop) }
+    ensures stop { IfErr result
+        (λ stop. Stops (S.holds shelf.old) (run_words run.now) (S.faults shelf.old)
+        (S.faults shelf.new) (spef_sources (run_words run.now)) stop) }
 {
     if has_no_spef(run) {
         Ok(Parasitics {
@@ -408,9 +453,15 @@ fn from_sdc<S: Shelf>(
     requires { AreUnits (S.holds shelf.old) (run_words run.now) units.now }
     ensures map { S.holds shelf.new ≡ S.holds shelf.old }
     ensures rising { S.faults shelf.old ≤ S.faults shelf.new }
-    ensures value { IfOk result (λ got. AreConstraints (S.holds shelf.old) (run_words run.now) got.sdc × AreParasitics (S.holds shelf.old) (run_words run.now) got.spef × (S.faults shelf.new ≡ S.faults shelf.old)) }
-    ensures kept { IfOk result (λ got. (are_constraints got.sdc ≡ true) × (are_parasitics got.spef.nets ≡ true)) }
-    ensures stop { IfErr result (λ stop. Stops (S.holds shelf.old) (run_words run.now) (S.faults shelf.old) (S.faults shelf.new) (role.Sdc ∷ spef_sources (run_words run.now)) stop) }
+    ensures value { IfOk result
+        (λ got. AreConstraints (S.holds shelf.old) (run_words run.now) got.sdc
+        × AreParasitics (S.holds shelf.old) (run_words run.now) got.spef
+        × (S.faults shelf.new ≡ S.faults shelf.old)) }
+    ensures kept { IfOk result
+        (λ got. (are_constraints got.sdc ≡ true) × (are_parasitics got.spef.nets ≡ true)) }
+    ensures stop { IfErr result
+        (λ stop. Stops (S.holds shelf.old) (run_words run.now) (S.faults shelf.old)
+        (S.faults shelf.new) (role.Sdc ∷ spef_sources (run_words run.now)) stop) }
 {
     let sdc = sdc(alloc, shelf, run, units)?;
     match spef_if_named(alloc, shelf, run) {
@@ -443,10 +494,17 @@ impl Libraries {
 fn read_libraries<S: Shelf>(alloc: Global, shelf: &mut S, run: &Run<'_>) -> Result<Libraries, Stop>
     ensures map { S.holds shelf.new ≡ S.holds shelf.old }
     ensures rising { S.faults shelf.old ≤ S.faults shelf.new }
-    ensures value { IfOk result (λ got. Says (S.holds shelf.old) (run_words run.now).early (SaysLibrary got.early) × Says (S.holds shelf.old) (run_words run.now).late (SaysLibrary got.late) × (S.faults shelf.new ≡ S.faults shelf.old)) }
-    ensures units { IfOk result (λ got. AreUnits (S.holds shelf.old) (run_words run.now) got.units) }
-    ensures kept { IfOk result (λ got. (is_library got.early ≡ true) × (is_library got.late ≡ true)) }
-    ensures stop { IfErr result (λ stop. Stops (S.holds shelf.old) (run_words run.now) (S.faults shelf.old) (S.faults shelf.new) (role.Early ∷ role.Late ∷ []) stop) }
+    ensures value { IfOk result
+        (λ got. Says (S.holds shelf.old) (run_words run.now).early (SaysLibrary got.early)
+        × Says (S.holds shelf.old) (run_words run.now).late (SaysLibrary got.late)
+        × (S.faults shelf.new ≡ S.faults shelf.old)) }
+    ensures units { IfOk result
+        (λ got. AreUnits (S.holds shelf.old) (run_words run.now) got.units) }
+    ensures kept { IfOk result
+        (λ got. (is_library got.early ≡ true) × (is_library got.late ≡ true)) }
+    ensures stop { IfErr result
+        (λ stop. Stops (S.holds shelf.old) (run_words run.now) (S.faults shelf.old)
+        (S.faults shelf.new) (role.Early ∷ role.Late ∷ []) stop) }
 {
     let early = early(alloc, shelf, run)?;
     match late(alloc, shelf, run) {
@@ -481,17 +539,27 @@ fn with_netlist<S: Shelf>(
     run: &Run<'_>,
     libraries: Libraries,
 ) -> Result<Netted, Stop>
-    requires early { Says (S.holds shelf.old) (run_words run.now).early (SaysLibrary libraries.early) }
+    requires early { Says (S.holds shelf.old) (run_words run.now).early
+        (SaysLibrary libraries.early) }
     requires late { Says (S.holds shelf.old) (run_words run.now).late (SaysLibrary libraries.late) }
     requires units { AreUnits (S.holds shelf.old) (run_words run.now) libraries.units }
     requires kept { (is_library libraries.early ≡ true) × (is_library libraries.late ≡ true) }
     ensures map { S.holds shelf.new ≡ S.holds shelf.old }
     ensures rising { S.faults shelf.old ≤ S.faults shelf.new }
-    ensures libraries { IfOk result (λ got. Says (S.holds shelf.old) (run_words run.now).early (SaysLibrary got.libraries.early) × Says (S.holds shelf.old) (run_words run.now).late (SaysLibrary got.libraries.late) × (S.faults shelf.new ≡ S.faults shelf.old)) }
-    ensures netlist { IfOk result (λ got. Says (S.holds shelf.old) (run_words run.now).netlist (SaysModule got.netlist)) }
-    ensures units { IfOk result (λ got. AreUnits (S.holds shelf.old) (run_words run.now) got.libraries.units) }
-    ensures kept { IfOk result (λ got. (is_library got.libraries.early ≡ true) × (is_library got.libraries.late ≡ true) × IsNetlist got.netlist) }
-    ensures stop { IfErr result (λ stop. Stops (S.holds shelf.old) (run_words run.now) (S.faults shelf.old) (S.faults shelf.new) (role.Netlist ∷ []) stop) }
+    ensures libraries { IfOk result
+        (λ got. Says (S.holds shelf.old) (run_words run.now).early (SaysLibrary got.libraries.early)
+        × Says (S.holds shelf.old) (run_words run.now).late (SaysLibrary got.libraries.late)
+        × (S.faults shelf.new ≡ S.faults shelf.old)) }
+    ensures netlist { IfOk result
+        (λ got. Says (S.holds shelf.old) (run_words run.now).netlist (SaysModule got.netlist)) }
+    ensures units { IfOk result
+        (λ got. AreUnits (S.holds shelf.old) (run_words run.now) got.libraries.units) }
+    ensures kept { IfOk result
+        (λ got. (is_library got.libraries.early ≡ true) × (is_library got.libraries.late ≡ true)
+        × IsNetlist got.netlist) }
+    ensures stop { IfErr result
+        (λ stop. Stops (S.holds shelf.old) (run_words run.now) (S.faults shelf.old)
+        (S.faults shelf.new) (role.Netlist ∷ []) stop) }
 {
     match netlist(alloc, shelf, run) {
         Ok(netlist) => Ok(Netted { libraries, netlist }),
@@ -506,11 +574,20 @@ fn with_netlist<S: Shelf>(
 fn to_netlist<S: Shelf>(alloc: Global, shelf: &mut S, run: &Run<'_>) -> Result<Netted, Stop>
     ensures map { S.holds shelf.new ≡ S.holds shelf.old }
     ensures rising { S.faults shelf.old ≤ S.faults shelf.new }
-    ensures libraries { IfOk result (λ got. Says (S.holds shelf.old) (run_words run.now).early (SaysLibrary got.libraries.early) × Says (S.holds shelf.old) (run_words run.now).late (SaysLibrary got.libraries.late) × (S.faults shelf.new ≡ S.faults shelf.old)) }
-    ensures netlist { IfOk result (λ got. Says (S.holds shelf.old) (run_words run.now).netlist (SaysModule got.netlist)) }
-    ensures units { IfOk result (λ got. AreUnits (S.holds shelf.old) (run_words run.now) got.libraries.units) }
-    ensures kept { IfOk result (λ got. (is_library got.libraries.early ≡ true) × (is_library got.libraries.late ≡ true) × IsNetlist got.netlist) }
-    ensures stop { IfErr result (λ stop. Stops (S.holds shelf.old) (run_words run.now) (S.faults shelf.old) (S.faults shelf.new) (role.Early ∷ role.Late ∷ role.Netlist ∷ []) stop) }
+    ensures libraries { IfOk result
+        (λ got. Says (S.holds shelf.old) (run_words run.now).early (SaysLibrary got.libraries.early)
+        × Says (S.holds shelf.old) (run_words run.now).late (SaysLibrary got.libraries.late)
+        × (S.faults shelf.new ≡ S.faults shelf.old)) }
+    ensures netlist { IfOk result
+        (λ got. Says (S.holds shelf.old) (run_words run.now).netlist (SaysModule got.netlist)) }
+    ensures units { IfOk result
+        (λ got. AreUnits (S.holds shelf.old) (run_words run.now) got.libraries.units) }
+    ensures kept { IfOk result
+        (λ got. (is_library got.libraries.early ≡ true) × (is_library got.libraries.late ≡ true)
+        × IsNetlist got.netlist) }
+    ensures stop { IfErr result
+        (λ stop. Stops (S.holds shelf.old) (run_words run.now) (S.faults shelf.old)
+        (S.faults shelf.new) (role.Early ∷ role.Late ∷ role.Netlist ∷ []) stop) }
 {
     let libraries = read_libraries(alloc, shelf, run)?;
     let netted = with_netlist(alloc, shelf, run, libraries)?;
@@ -524,16 +601,24 @@ fn with_rest<S: Shelf>(
     run: &Run<'_>,
     netted: Netted,
 ) -> Result<DesignDocuments, Stop>
-    requires early { Says (S.holds shelf.old) (run_words run.now).early (SaysLibrary netted.libraries.early) }
-    requires late { Says (S.holds shelf.old) (run_words run.now).late (SaysLibrary netted.libraries.late) }
-    requires netlist { Says (S.holds shelf.old) (run_words run.now).netlist (SaysModule netted.netlist) }
+    requires early { Says (S.holds shelf.old) (run_words run.now).early
+        (SaysLibrary netted.libraries.early) }
+    requires late { Says (S.holds shelf.old) (run_words run.now).late
+        (SaysLibrary netted.libraries.late) }
+    requires netlist { Says (S.holds shelf.old) (run_words run.now).netlist
+        (SaysModule netted.netlist) }
     requires units { AreUnits (S.holds shelf.old) (run_words run.now) netted.libraries.units }
-    requires kept { (is_library netted.libraries.early ≡ true) × (is_library netted.libraries.late ≡ true) × IsNetlist netted.netlist }
+    requires kept { (is_library netted.libraries.early ≡ true)
+        × (is_library netted.libraries.late ≡ true) × IsNetlist netted.netlist }
     ensures map { S.holds shelf.new ≡ S.holds shelf.old }
     ensures rising { S.faults shelf.old ≤ S.faults shelf.new }
-    ensures value { IfOk result (λ got. AreDesign (S.holds shelf.old) (run_words run.now) got × (S.faults shelf.new ≡ S.faults shelf.old)) }
+    ensures value { IfOk result
+        (λ got. AreDesign (S.holds shelf.old) (run_words run.now) got
+        × (S.faults shelf.new ≡ S.faults shelf.old)) }
     ensures kept { IfOk result IsKeptDesign }
-    ensures stop { IfErr result (λ stop. Stops (S.holds shelf.old) (run_words run.now) (S.faults shelf.old) (S.faults shelf.new) (role.Sdc ∷ spef_sources (run_words run.now)) stop) }
+    ensures stop { IfErr result
+        (λ stop. Stops (S.holds shelf.old) (run_words run.now) (S.faults shelf.old)
+        (S.faults shelf.new) (role.Sdc ∷ spef_sources (run_words run.now)) stop) }
 {
     match from_sdc(alloc, shelf, run, &netted.libraries.units) {
         Ok(Constrained { sdc, spef }) => {
@@ -559,9 +644,13 @@ fn with_rest<S: Shelf>(
 fn design<S: Shelf>(alloc: Global, shelf: &mut S, run: &Run<'_>) -> Result<DesignDocuments, Stop>
     ensures map { S.holds shelf.new ≡ S.holds shelf.old }
     ensures rising { S.faults shelf.old ≤ S.faults shelf.new }
-    ensures value { IfOk result (λ got. AreDesign (S.holds shelf.old) (run_words run.now) got × (S.faults shelf.new ≡ S.faults shelf.old)) }
+    ensures value { IfOk result
+        (λ got. AreDesign (S.holds shelf.old) (run_words run.now) got
+        × (S.faults shelf.new ≡ S.faults shelf.old)) }
     ensures kept { IfOk result IsKeptDesign }
-    ensures stop { IfErr result (λ stop. Stops (S.holds shelf.old) (run_words run.now) (S.faults shelf.old) (S.faults shelf.new) (design_sources (run_words run.now)) stop) }
+    ensures stop { IfErr result
+        (λ stop. Stops (S.holds shelf.old) (run_words run.now) (S.faults shelf.old)
+        (S.faults shelf.new) (design_sources (run_words run.now)) stop) }
 {
     let netted = to_netlist(alloc, shelf, run)?;
     let design = with_rest(alloc, shelf, run, netted)?;
@@ -572,8 +661,12 @@ fn design<S: Shelf>(alloc: Global, shelf: &mut S, run: &Run<'_>) -> Result<Desig
 fn journal<S: Shelf>(alloc: Global, shelf: &mut S, run: &Run<'_>) -> Result<Option<Items<u8>>, Stop>
     ensures map { S.holds shelf.new ≡ S.holds shelf.old }
     ensures rising { S.faults shelf.old ≤ S.faults shelf.new }
-    ensures value { IfOk result (λ text. IsFetched (S.holds shelf.old) (run_words run.now).journal text × (S.faults shelf.new ≡ S.faults shelf.old)) }
-    ensures stop { IfErr result (λ stop. Stops (S.holds shelf.old) (run_words run.now) (S.faults shelf.old) (S.faults shelf.new) (fetched_journal (run_words run.now)) stop) }
+    ensures value { IfOk result
+        (λ text. IsFetched (S.holds shelf.old) (run_words run.now).journal text
+        × (S.faults shelf.new ≡ S.faults shelf.old)) }
+    ensures stop { IfErr result
+        (λ stop. Stops (S.holds shelf.old) (run_words run.now) (S.faults shelf.old)
+        (S.faults shelf.new) (fetched_journal (run_words run.now)) stop) }
     ensures unread { IfErr result IsNoFault }
 {
     match run.journal {
@@ -596,9 +689,13 @@ fn with_journal<S: Shelf>(
     requires kept { IsKeptDesign design }
     ensures map { S.holds shelf.new ≡ S.holds shelf.old }
     ensures rising { S.faults shelf.old ≤ S.faults shelf.new }
-    ensures value { IfOk result (λ got. IsReadDesign (S.holds shelf.old) (run_words run.now) got × (S.faults shelf.new ≡ S.faults shelf.old)) }
+    ensures value { IfOk result
+        (λ got. IsReadDesign (S.holds shelf.old) (run_words run.now) got
+        × (S.faults shelf.new ≡ S.faults shelf.old)) }
     ensures kept { IfOk result (λ got. IsKeptDesign got.design) }
-    ensures stop { IfErr result (λ stop. DesignStops (S.holds shelf.old) (run_words run.now) (S.faults shelf.old) (S.faults shelf.new) stop) }
+    ensures stop { IfErr result
+        (λ stop. DesignStops (S.holds shelf.old) (run_words run.now) (S.faults shelf.old)
+        (S.faults shelf.new) stop) }
 {
     match journal(alloc, shelf, run) {
         Ok(journal) => Ok(ReadDesign { design, journal }),
@@ -624,9 +721,13 @@ pub fn read_design<S: Shelf>(
 ) -> Result<ReadDesign, Stop>
     ensures map { S.holds shelf.new ≡ S.holds shelf.old }
     ensures rising { S.faults shelf.old ≤ S.faults shelf.new }
-    ensures value { IfOk result (λ got. IsReadDesign (S.holds shelf.old) (run_words run.now) got × (S.faults shelf.new ≡ S.faults shelf.old)) }
+    ensures value { IfOk result
+        (λ got. IsReadDesign (S.holds shelf.old) (run_words run.now) got
+        × (S.faults shelf.new ≡ S.faults shelf.old)) }
     ensures kept { IfOk result (λ got. IsKeptDesign got.design) }
-    ensures stop { IfErr result (λ stop. DesignStops (S.holds shelf.old) (run_words run.now) (S.faults shelf.old) (S.faults shelf.new) stop) }
+    ensures stop { IfErr result
+        (λ stop. DesignStops (S.holds shelf.old) (run_words run.now) (S.faults shelf.old)
+        (S.faults shelf.new) stop) }
 {
     match design(alloc, shelf, run) {
         Ok(design) => with_journal(alloc, shelf, run, design),
@@ -640,7 +741,9 @@ const MOST_SAVED: u64 = 1 << 62;
 /// The entries of a saved journal, by the factors of the constraints.
 #[tactic(auto, using(crate::proofs::JournalLaws::journal_refused))]
 fn read_journal(alloc: Global, text: &[u8], derates: &Derates) -> Result<Items<Entry>, ReadFault>
-    ensures { MatchResult result (λ saved. SaysJournal derates.now saved text.now × AreReplayable (Some saved)) (λ e. Fails e (journal_faults derates.now text.now)) }
+    ensures { MatchResult result
+        (λ saved. SaysJournal derates.now saved text.now × AreReplayable (Some saved))
+        (λ e. Fails e (journal_faults derates.now text.now)) }
 {
     match read_saved(alloc, text, derates) {
         Ok(saved) => {
@@ -690,14 +793,19 @@ fn with_scripts<S: Shelf>(
 ) -> Result<Documents, Stop>
     requires design { AreDesign (S.holds shelf.old) (run_words run.now) design }
     requires kept { IsKeptDesign design }
-    requires saved { AreSaved (S.holds shelf.old) (run_words run.now).journal design.sdc.derates saved }
+    requires saved { AreSaved (S.holds shelf.old) (run_words run.now).journal design.sdc.derates
+        saved }
     requires entries { AreReplayable saved }
     ensures map { S.holds shelf.new ≡ S.holds shelf.old }
     ensures rising { S.faults shelf.old ≤ S.faults shelf.new }
-    ensures value { IfOk result (λ got. AreDocuments (S.holds shelf.old) (run_words run.now) got × (S.faults shelf.new ≡ S.faults shelf.old)) }
+    ensures value { IfOk result
+        (λ got. AreDocuments (S.holds shelf.old) (run_words run.now) got
+        × (S.faults shelf.new ≡ S.faults shelf.old)) }
     ensures kept { IfOk result AreKept }
     ensures many { IfOk result (λ got. length got.scripts ≡ length run.now.scripts.items) }
-    ensures stop { IfErr result (λ stop. Stops (S.holds shelf.old) (run_words run.now) (S.faults shelf.old) (S.faults shelf.new) (sources (run_words run.now)) stop) }
+    ensures stop { IfErr result
+        (λ stop. Stops (S.holds shelf.old) (run_words run.now) (S.faults shelf.old)
+        (S.faults shelf.new) (sources (run_words run.now)) stop) }
 {
     match scripts(alloc, shelf, run) {
         Ok(scripts) => {
@@ -738,10 +846,14 @@ fn with_last<S: Shelf>(
     requires kept { IsKeptDesign read.design }
     ensures map { S.holds shelf.new ≡ S.holds shelf.old }
     ensures rising { S.faults shelf.old ≤ S.faults shelf.new }
-    ensures value { IfOk result (λ got. AreDocuments (S.holds shelf.old) (run_words run.now) got × (S.faults shelf.new ≡ S.faults shelf.old)) }
+    ensures value { IfOk result
+        (λ got. AreDocuments (S.holds shelf.old) (run_words run.now) got
+        × (S.faults shelf.new ≡ S.faults shelf.old)) }
     ensures kept { IfOk result AreKept }
     ensures many { IfOk result (λ got. length got.scripts ≡ length run.now.scripts.items) }
-    ensures stop { IfErr result (λ stop. Stops (S.holds shelf.old) (run_words run.now) (S.faults shelf.old) (S.faults shelf.new) (sources (run_words run.now)) stop) }
+    ensures stop { IfErr result
+        (λ stop. Stops (S.holds shelf.old) (run_words run.now) (S.faults shelf.old)
+        (S.faults shelf.new) (sources (run_words run.now)) stop) }
 {
     let ReadDesign { design, journal } = read;
     let saved = saved_entries(alloc, &journal, &design.sdc.derates);
@@ -766,10 +878,14 @@ fn with_last<S: Shelf>(
 pub fn read_all<S: Shelf>(alloc: Global, shelf: &mut S, run: &Run<'_>) -> Result<Documents, Stop>
     ensures map { S.holds shelf.new ≡ S.holds shelf.old }
     ensures rising { S.faults shelf.old ≤ S.faults shelf.new }
-    ensures value { IfOk result (λ got. AreDocuments (S.holds shelf.old) (run_words run.now) got × (S.faults shelf.new ≡ S.faults shelf.old)) }
+    ensures value { IfOk result
+        (λ got. AreDocuments (S.holds shelf.old) (run_words run.now) got
+        × (S.faults shelf.new ≡ S.faults shelf.old)) }
     ensures kept { IfOk result AreKept }
     ensures many { IfOk result (λ got. length got.scripts ≡ length run.now.scripts.items) }
-    ensures stop { IfErr result (λ stop. Stops (S.holds shelf.old) (run_words run.now) (S.faults shelf.old) (S.faults shelf.new) (sources (run_words run.now)) stop) }
+    ensures stop { IfErr result
+        (λ stop. Stops (S.holds shelf.old) (run_words run.now) (S.faults shelf.old)
+        (S.faults shelf.new) (sources (run_words run.now)) stop) }
 {
     match read_design(alloc, shelf, run) {
         Ok(read) => with_last(alloc, shelf, run, read),

@@ -63,7 +63,9 @@ fn is_wanting(fault: &Fault) -> bool
 ///
 /// Want of memory, also where it is the fault.
 pub fn fault_end(alloc: Global, fault: &Fault) -> Result<End, Memory>
-    ensures { IfOk result (λ end. (is_wanting fault.now ≡ false) × (end.status ≡ 3) × (end.text.items ≡ design_line fault.now)) }
+    ensures { IfOk result
+        (λ end. (is_wanting fault.now ≡ false) × (end.status ≡ 3)
+        × (end.text.items ≡ design_line fault.now)) }
 {
     if is_wanting(fault) {
         return Err(Memory);
@@ -78,7 +80,9 @@ pub fn fault_end(alloc: Global, fault: &Fault) -> Result<End, Memory>
 ///
 /// Want of memory, also where it is the fault.
 pub fn entry_end(alloc: Global, entry: u64, fault: &Fault) -> Result<End, Memory>
-    ensures { IfOk result (λ end. (is_wanting fault.now ≡ false) × (end.status ≡ 3) × (end.text.items ≡ entry_line entry fault.now)) }
+    ensures { IfOk result
+        (λ end. (is_wanting fault.now ≡ false) × (end.status ≡ 3)
+        × (end.text.items ≡ entry_line entry fault.now)) }
 {
     if is_wanting(fault) {
         return Err(Memory);

@@ -98,7 +98,8 @@ fn push_refusal(
     code: Code,
     place: u64,
 ) -> Result<(), Memory>
-    ensures { OnOk result (out.new.items ≡ out.old.items ++ refusal_line role (record { code = code; at = place })) }
+    ensures { OnOk result
+        (out.new.items ≡ out.old.items ++ refusal_line role (record { code = code; at = place })) }
 {
     push(out, b"fault")?;
     push_role(alloc, out, role)?;
@@ -113,7 +114,8 @@ fn push_refusal(
 ///
 /// Want of memory.
 pub fn refusal_line(alloc: Global, role: Role, code: Code, place: u64) -> Result<Vec<u8>, Memory>
-    ensures { IfOk result (λ text. text.items ≡ refusal_line role (record { code = code; at = place })) }
+    ensures { IfOk result
+        (λ text. text.items ≡ refusal_line role (record { code = code; at = place })) }
 {
     let mut text = Vec::new(alloc);
     match push_refusal(alloc, &mut text, role, code, place) {

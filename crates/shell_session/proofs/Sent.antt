@@ -14,6 +14,8 @@ use Rattle.timing_defs.proofs.rows.Path.TheSendSync as path_sent
 use Rattle.timing_defs.proofs.reports.Candidate.TheSendSync as candidate_sent
 use Rattle.timing_defs.proofs.reports.EndRow.TheSendSync as end_sent
 use Rattle.timing_defs.proofs.reports.Advice.TheSendSync as advice_sent
+use Rattle.timing_defs.proofs.closing.ClosingQuery.TheSendSync as closing_query_sent
+use Rattle.timing_defs.proofs.closing.ClosingReport.TheSendSync as closing_report_sent
 use Rattle.timing_defs.proofs.faults.Fault.TheSendSync as fault_sent
 use Rattle.timing_defs.proofs.faults.QueryFault.TheSendSync as query_fault_sent
 use Rattle.timing_defs.specs.contracts.reports.Query as query
@@ -36,7 +38,7 @@ use Rattle.version_board.proofs.boards.Seat.TheSendSync as seat_sent
 use Rattle.session_engine.proofs.versions.Version.TheSendSync as version_sent
 use Rattle.shell_session.specs.contracts.sessions.Ended as ended
 
-ruleset parts = (name_sent.the_send, items_sent.the_send, split_sent.the_send, split_sent.the_field_send, tran_sent.the_send, tran_sent.the_field_send, kind_sent.the_send, kind_sent.the_field_send, eco_sent.the_send, eco_sent.the_field_send, time_sent.the_send, time_sent.the_field_send, path_sent.the_send, path_sent.the_field_send, candidate_sent.the_send, candidate_sent.the_field_send, end_sent.the_send, end_sent.the_field_send, advice_sent.the_send, advice_sent.the_field_send, fault_sent.the_send, fault_sent.the_field_send, query_fault_sent.the_send, query_fault_sent.the_field_send, fs_sent.the_send, fs_sent.the_field_send, memory_sent.the_send, memory_sent.the_field_send)
+ruleset parts = (name_sent.the_send, items_sent.the_send, split_sent.the_send, split_sent.the_field_send, tran_sent.the_send, tran_sent.the_field_send, kind_sent.the_send, kind_sent.the_field_send, eco_sent.the_send, eco_sent.the_field_send, time_sent.the_send, time_sent.the_field_send, path_sent.the_send, path_sent.the_field_send, candidate_sent.the_send, candidate_sent.the_field_send, end_sent.the_send, end_sent.the_field_send, advice_sent.the_send, advice_sent.the_field_send, closing_query_sent.the_send, closing_query_sent.the_field_send, closing_report_sent.the_send, closing_report_sent.the_field_send, fault_sent.the_send, fault_sent.the_field_send, query_fault_sent.the_send, query_fault_sent.the_field_send, fs_sent.the_send, fs_sent.the_field_send, memory_sent.the_send, memory_sent.the_field_send)
 
 query_send : IsSend query.the_row
 query_send = search (query_knot.crosses, parts, crosses, sendable) depth 64 fits 20000
@@ -71,7 +73,7 @@ transcript_field_send = let a = row_send in let b = row_field_send in search (pa
 pub ended_send : IsSend ended.the_row
 ended_send = let a = transcript_send in let b = transcript_field_send in search (seat_sent.the_send, version_sent.the_send, version_sent.the_sync, parts, crosses, sendable) depth 64 fits 20000
 
-ruleset shared_parts = (name_sent.the_sync, items_sent.the_sync, split_sent.the_sync, split_sent.the_field_sync, tran_sent.the_sync, tran_sent.the_field_sync, kind_sent.the_sync, kind_sent.the_field_sync, eco_sent.the_sync, eco_sent.the_field_sync, time_sent.the_sync, time_sent.the_field_sync, path_sent.the_sync, path_sent.the_field_sync, candidate_sent.the_sync, candidate_sent.the_field_sync, end_sent.the_sync, end_sent.the_field_sync, advice_sent.the_sync, advice_sent.the_field_sync, fault_sent.the_sync, fault_sent.the_field_sync, query_fault_sent.the_sync, query_fault_sent.the_field_sync, fs_sent.the_sync, fs_sent.the_field_sync, memory_sent.the_sync, memory_sent.the_field_sync)
+ruleset shared_parts = (name_sent.the_sync, items_sent.the_sync, split_sent.the_sync, split_sent.the_field_sync, tran_sent.the_sync, tran_sent.the_field_sync, kind_sent.the_sync, kind_sent.the_field_sync, eco_sent.the_sync, eco_sent.the_field_sync, time_sent.the_sync, time_sent.the_field_sync, path_sent.the_sync, path_sent.the_field_sync, candidate_sent.the_sync, candidate_sent.the_field_sync, end_sent.the_sync, end_sent.the_field_sync, advice_sent.the_sync, advice_sent.the_field_sync, closing_query_sent.the_sync, closing_query_sent.the_field_sync, fault_sent.the_sync, fault_sent.the_field_sync, query_fault_sent.the_sync, query_fault_sent.the_field_sync, fs_sent.the_sync, fs_sent.the_field_sync, memory_sent.the_sync, memory_sent.the_field_sync)
 
 query_sync : IsSync query.the_row
 query_sync = search (query_knot.crosses, shared_parts, crosses, sendable) depth 64 fits 20000

@@ -48,7 +48,8 @@ fn output(alloc: Global, last: &Version, transcripts: &Items<Transcript>) -> Res
 
 /// The end of sessions that have answered their scripts.
 fn sessions_end(alloc: Global, closed: Closed) -> Result<End, Memory>
-    ensures ends { IfOk result (λ end. AreEnded (arc_value closed.last) closed.transcripts end.status end.text.items) }
+    ensures ends { IfOk result
+        (λ end. AreEnded (arc_value closed.last) closed.transcripts end.status end.text.items) }
     ensures low { IfOk result (λ end. end.status ≤ 3) }
 {
     let Closed { last, transcripts } = closed;
@@ -77,7 +78,8 @@ fn scripts_end<H: Threads + Wait + Sync, G: Gate>(
     requires count { (1 ≤ length scripts.now) × (length scripts.now ≤ 16) }
     requires first { (arc_value version).first ≡ 0 }
     requires begins { (arc_value version).journal ≡ [] }
-    ensures answer { IfOk result (λ end. DesignEnds (arc_value version).origin scripts.now end.status end.text.items) }
+    ensures answer { IfOk result
+        (λ end. DesignEnds (arc_value version).origin scripts.now end.status end.text.items) }
     ensures low { IfOk result (λ end. end.status ≤ 3) }
 {
     match run_sessions(rt, alloc, version, scripts, workers, gate) {
@@ -88,7 +90,9 @@ fn scripts_end<H: Threads + Wait + Sync, G: Gate>(
 
 /// The end of a run that a fault of its documents or its design stops.
 pub(crate) fn refused_end(alloc: Global, fault: Fault) -> Result<End, Memory>
-    ensures { IfOk result (λ end. (is_wanting fault ≡ false) × (end.status ≡ 3) × (end.text.items ≡ design_line fault)) }
+    ensures { IfOk result
+        (λ end. (is_wanting fault ≡ false) × (end.status ≡ 3)
+        × (end.text.items ≡ design_line fault)) }
 {
     let end = fault_end(alloc, &fault);
     discard_fault(fault);
@@ -108,7 +112,8 @@ fn store_end<H: Threads + Wait + Sync, G: Gate>(
     requires most { workers ≤ 32 }
     requires scripts { All IsScript scripts.now }
     requires count { (1 ≤ length scripts.now) × (length scripts.now ≤ 16) }
-    ensures ends { IfOk result (λ end. DesignEnds store.design scripts.now end.status end.text.items) }
+    ensures ends { IfOk result
+        (λ end. DesignEnds store.design scripts.now end.status end.text.items) }
     ensures low { IfOk result (λ end. end.status ≤ 3) }
 {
     match Version::first(rt, alloc, FIRST, store, workers, gate) {
@@ -132,7 +137,8 @@ fn begun_end<H: Threads + Wait + Sync, G: Gate>(
     requires scripts { All IsScript scripts.now }
     requires count { (1 ≤ length scripts.now) × (length scripts.now ≤ 16) }
     requires saved { AreReplayable saved.now }
-    ensures ends { IfOk result (λ end. BegunEnds store.design saved.now scripts.now end.status end.text.items) }
+    ensures ends { IfOk result
+        (λ end. BegunEnds store.design saved.now scripts.now end.status end.text.items) }
     ensures low { IfOk result (λ end. end.status ≤ 3) }
 {
     match saved {

@@ -53,7 +53,9 @@ fn saved_output(
 
 /// The end of sessions that have answered their scripts.
 fn sessions_end(alloc: Global, closed: Closed) -> Result<End, Memory>
-    ensures ends { IfOk result (λ end. AreSavedEnded (arc_value closed.last) closed.transcripts end.status end.text.items) }
+    ensures ends { IfOk result
+        (λ end. AreSavedEnded (arc_value closed.last) closed.transcripts end.status
+        end.text.items) }
     ensures low { IfOk result (λ end. end.status ≤ 3) }
 {
     let Closed { last, transcripts } = closed;
@@ -82,7 +84,9 @@ fn continued_end<H: Threads + Wait + Sync, G: Gate>(
     requires scripts { All IsScript scripts.now }
     requires count { (1 ≤ length scripts.now) × (length scripts.now ≤ 16) }
     requires begins { (arc_value version).journal ≡ [] }
-    ensures answer { IfOk result (λ end. IsContinued (arc_value version).origin (arc_value version).first scripts.now end.status end.text.items) }
+    ensures answer { IfOk result
+        (λ end. IsContinued (arc_value version).origin (arc_value version).first scripts.now
+        end.status end.text.items) }
     ensures low { IfOk result (λ end. end.status ≤ 3) }
 {
     match run_sessions(rt, alloc, version, scripts, workers, gate) {
@@ -121,7 +125,8 @@ pub(crate) fn saved_end<H: Threads + Wait + Sync, G: Gate>(
     requires scripts { All IsScript scripts.now }
     requires count { (1 ≤ length scripts.now) × (length scripts.now ≤ 16) }
     requires saved { AreReplayable (Some saved.now) }
-    ensures ends { IfOk result (λ end. SavedEnds store.design saved.now scripts.now end.status end.text.items) }
+    ensures ends { IfOk result
+        (λ end. SavedEnds store.design saved.now scripts.now end.status end.text.items) }
     ensures low { IfOk result (λ end. end.status ≤ 3) }
 {
     match replay(rt, alloc, store, saved, workers, gate) {

@@ -63,7 +63,8 @@ fn scripts_line<H: Threads + Wait + Sync, G: Gate>(
     requires count { (1 ≤ length scripts.now) × (length scripts.now ≤ 16) }
     requires first { (arc_value version).first ≡ 0 }
     requires begins { (arc_value version).journal ≡ [] }
-    ensures line { IfOk result (λ text. IsWholeLine (arc_value version).origin scripts.now gates edits text.items) }
+    ensures line { IfOk result
+        (λ text. IsWholeLine (arc_value version).origin scripts.now gates edits text.items) }
     ensures sound { IfOk result (λ text. IsFaultless (arc_value version).origin) }
 {
     match run_sessions(rt, alloc, version, scripts, WORKERS, gate) {
@@ -84,7 +85,8 @@ fn store_line<H: Threads + Wait + Sync, G: Gate>(
 ) -> Result<Vec<u8>, Memory>
     requires scripts { All IsScript scripts.now }
     requires count { (1 ≤ length scripts.now) × (length scripts.now ≤ 16) }
-    ensures line { IfOk result (λ text. IsWholeLine store.design scripts.now gates edits text.items) }
+    ensures line { IfOk result
+        (λ text. IsWholeLine store.design scripts.now gates edits text.items) }
     ensures sound { IfOk result (λ text. IsFaultless store.design) }
 {
     match Version::first(rt, alloc, FIRST, store, WORKERS, gate) {

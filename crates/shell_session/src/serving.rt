@@ -38,7 +38,9 @@ fn run_end<H: Threads + Wait + Sync, S: Shelf, G: Gate>(
     requires some { 1 ≤ run.now.workers }
     requires most { run.now.workers ≤ 32 }
     requires count { (1 ≤ length run.now.scripts.items) × (length run.now.scripts.items ≤ 16) }
-    ensures ends { IfOk result (λ end. RunEnds (S.holds shelf.old) (S.faults shelf.old) (S.faults shelf.new) (run_words run.now) end.status end.text.items) }
+    ensures ends { IfOk result
+        (λ end. RunEnds (S.holds shelf.old) (S.faults shelf.old) (S.faults shelf.new)
+        (run_words run.now) end.status end.text.items) }
     ensures kept { S.holds shelf.new ≡ S.holds shelf.old }
     ensures rising { S.faults shelf.old ≤ S.faults shelf.new }
     ensures count { IfOk result (λ end. end.status ≤ 3 → S.faults shelf.new ≡ S.faults shelf.old) }
@@ -70,7 +72,8 @@ fn generated_end<H: Threads + Wait + Sync, G: Gate>(
 ) -> Result<End, Memory>
     requires gates { (4 ≤ asked.gates) × (asked.gates ≤ 40000) × (asked.gates % 4 ≡ 0) }
     requires edits { (asked.edits ≤ 4000) × (asked.edits % 4 ≡ 0) }
-    ensures ends { IfOk result (λ end. IsSummary asked.number asked.gates asked.edits end.text.items) }
+    ensures ends { IfOk result
+        (λ end. IsSummary asked.number asked.gates asked.edits end.text.items) }
     ensures status { IfOk result (λ end. end.status ≡ 0) }
 {
     match generated_line(rt, alloc, asked.number, asked.gates, asked.edits, gate) {
@@ -96,7 +99,9 @@ fn ending<H: Threads + Wait + Sync, S: Shelf, G: Gate>(
     shelf: &mut S,
     gate: &G,
 ) -> Result<End, Memory>
-    ensures ends { IfOk result (λ end. Ends (S.holds shelf.old) (S.faults shelf.old) (S.faults shelf.new) (words_of (map string_bytes words.now)) end.status end.text.items) }
+    ensures ends { IfOk result
+        (λ end. Ends (S.holds shelf.old) (S.faults shelf.old) (S.faults shelf.new)
+        (words_of (map string_bytes words.now)) end.status end.text.items) }
     ensures kept { S.holds shelf.new ≡ S.holds shelf.old }
     ensures rising { S.faults shelf.old ≤ S.faults shelf.new }
     ensures count { IfOk result (λ end. end.status ≤ 3 → S.faults shelf.new ≡ S.faults shelf.old) }
@@ -123,7 +128,9 @@ fn written<H: Threads + Wait + Sync, S: Shelf, K: Sink, G: Gate>(
     out: &mut K,
     gate: &G,
 ) -> Status
-    ensures ends { Written (K.written out.old) (K.written out.new) (K.faults out.old) (K.faults out.new) (S.holds shelf.old) (S.faults shelf.old) (S.faults shelf.new) (words_of (map string_bytes words.now)) result }
+    ensures ends { Written (K.written out.old) (K.written out.new) (K.faults out.old)
+        (K.faults out.new) (S.holds shelf.old) (S.faults shelf.old) (S.faults shelf.new)
+        (words_of (map string_bytes words.now)) result }
     ensures kept { S.holds shelf.new ≡ S.holds shelf.old }
     ensures rising { S.faults shelf.old ≤ S.faults shelf.new }
     ensures shelf_count { result ≤ 3 → S.faults shelf.new ≡ S.faults shelf.old }
@@ -153,11 +160,16 @@ pub fn serve<H: Threads + Wait + Sync, S: Shelf, K: Sink, G: Gate>(
     out: &mut K,
     gate: &G,
 ) -> Status
-    ensures ends { Written (K.written out.old) (K.written out.new) (K.faults out.old) (K.faults out.new) (S.holds shelf.old) (S.faults shelf.old) (S.faults shelf.new) (words_of (map string_bytes words.now)) result }
+    ensures ends { Written (K.written out.old) (K.written out.new) (K.faults out.old)
+        (K.faults out.new) (S.holds shelf.old) (S.faults shelf.old) (S.faults shelf.new)
+        (words_of (map string_bytes words.now)) result }
     ensures kept { S.holds shelf.new ≡ S.holds shelf.old }
     ensures rising { S.faults shelf.old ≤ S.faults shelf.new }
     ensures shelf_count { result ≤ 3 → S.faults shelf.new ≡ S.faults shelf.old }
-    ensures completeness { NothingRefuses (S.holds shelf.old) (S.faults shelf.old) (S.faults shelf.new) (K.faults out.old) (K.faults out.new) (words_of (map string_bytes words.now)) → IsAnswered (words_of (map string_bytes words.now)) result }
+    ensures completeness { NothingRefuses (S.holds shelf.old) (S.faults shelf.old)
+        (S.faults shelf.new) (K.faults out.old) (K.faults out.new)
+        (words_of (map string_bytes words.now))
+        → IsAnswered (words_of (map string_bytes words.now)) result }
 {
     written(rt, alloc, words, shelf, out, gate)
 }

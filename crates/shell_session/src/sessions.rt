@@ -111,7 +111,8 @@ fn run_each<'s, E, H: Threads + Wait + Sync, G: Gate>(
     let started = scope.spawn_with(
         kept,
         move || -> Ended
-            requires { IsSeatOf meant board.now seat × (seat.view.number ≡ who) × IsScript script.now × (1 ≤ workers) × (workers ≤ 32) }
+            requires { IsSeatOf meant board.now seat × (seat.view.number ≡ who)
+                × IsScript script.now × (1 ≤ workers) × (workers ≤ 32) }
             ensures { HandsBack seat script.entry.now result }
         { run_owned(rt, alloc, board, seat, who, script, workers, gate) },
     );
@@ -157,7 +158,10 @@ fn run_beside<H: Threads + Wait + Sync, G: Gate>(
         thread::scope_env(),
         rt,
         move |scope| -> Vec<Ended>
-            requires { AreNew board.now 1 seats.items × All IsScript scripts.now × (length seats.items ≡ length scripts.now) × (length scripts.now ≤ 16) × (1 ≤ workers) × (workers ≤ 32) × (ended.items ≡ []) × (length scripts.now ≤ vec_capacity ended) }
+            requires { AreNew board.now 1 seats.items × All IsScript scripts.now
+                × (length seats.items ≡ length scripts.now) × (length scripts.now ≤ 16)
+                × (1 ≤ workers) × (workers ≤ 32) × (ended.items ≡ [])
+                × (length scripts.now ≤ vec_capacity ended) }
             ensures { EachHandsBack seats.items scripts.entry.now result.items }
         {
             run_each(
@@ -178,8 +182,10 @@ fn taken_apart(
     requires told { (told.items ≡ []) × (length ended.items ≤ vec_capacity told) }
     ensures seats { IfOk result (λ r. r.0.items ≡ map (λ (e : Ended). e.seat) ended.items) }
     ensures told { IfOk result (λ r. AreTold ended.items r.1.items) }
-    ensures lengths { IfOk result (λ r. (vec_len r.0 ≡ length ended.items) × (vec_len r.1 ≡ length ended.items)) }
-    ensures rooms { IfOk result (λ r. (vec_capacity r.0 ≡ vec_capacity seats) × (vec_capacity r.1 ≡ vec_capacity told)) }
+    ensures lengths { IfOk result
+        (λ r. (vec_len r.0 ≡ length ended.items) × (vec_len r.1 ≡ length ended.items)) }
+    ensures rooms { IfOk result
+        (λ r. (vec_capacity r.0 ≡ vec_capacity seats) × (vec_capacity r.1 ≡ vec_capacity told)) }
 {
     match ended.pop() {
         None => {
@@ -225,11 +231,14 @@ fn close(
     told: Vec<Transcript>,
     scripts: &[Script],
 ) -> Result<Closed, Memory>
-    requires begun { (begun : List (Sitting Entry Design)) × AreNew board 1 begun × EachHandsBack begun scripts.now ended.items }
+    requires begun { (begun : List (Sitting Entry Design)) × AreNew board 1 begun
+        × EachHandsBack begun scripts.now ended.items }
     requires count { length scripts.now ≡ board.seats }
     requires seats { (seats.items ≡ []) × (length scripts.now ≤ vec_capacity seats) }
     requires told { (told.items ≡ []) × (length scripts.now ≤ vec_capacity told) }
-    ensures whole { IfOk result (λ c. IsWhole board.opening.origin board.opening.first scripts.now (arc_value c.last).journal c.transcripts) }
+    ensures whole { IfOk result
+        (λ c. IsWhole board.opening.origin board.opening.first scripts.now
+        (arc_value c.last).journal c.transcripts) }
     ensures last { IfOk result (λ c. IsVersion (arc_value c.last)) }
     ensures first { IfOk result (λ c. (arc_value c.last).first ≡ board.opening.first) }
     ensures origin { IfOk result (λ c. (arc_value c.last).origin ≡ board.opening.origin) }
@@ -261,9 +270,12 @@ struct Room {
 
 impl Room {
     fn of(alloc: Global, count: usize) -> Result<Room, Memory>
-        ensures ended { IfOk result (λ room. (room.ended.items ≡ []) × (count ≤ vec_capacity room.ended)) }
-        ensures seats { IfOk result (λ room. (room.seats.items ≡ []) × (count ≤ vec_capacity room.seats)) }
-        ensures told { IfOk result (λ room. (room.told.items ≡ []) × (count ≤ vec_capacity room.told)) }
+        ensures ended { IfOk result
+            (λ room. (room.ended.items ≡ []) × (count ≤ vec_capacity room.ended)) }
+        ensures seats { IfOk result
+            (λ room. (room.seats.items ≡ []) × (count ≤ vec_capacity room.seats)) }
+        ensures told { IfOk result
+            (λ room. (room.told.items ≡ []) × (count ≤ vec_capacity room.told)) }
     {
         let Ok(ended) = Vec::with_capacity(alloc, count) else {
             return Err(Memory);
@@ -301,14 +313,17 @@ fn run_begun<H: Threads + Wait + Sync, G: Gate>(
 ) -> Result<Closed, Memory>
     requires begun { AreNew begun.board 1 begun.seats.items }
     requires scripts { All IsScript scripts.now }
-    requires count { (length begun.seats.items ≡ length scripts.now) × (length scripts.now ≡ begun.board.seats) }
+    requires count { (length begun.seats.items ≡ length scripts.now)
+        × (length scripts.now ≡ begun.board.seats) }
     requires few { length scripts.now ≤ 16 }
     requires some { 1 ≤ workers }
     requires most { workers ≤ 32 }
     requires ended { (room.ended.items ≡ []) × (length scripts.now ≤ vec_capacity room.ended) }
     requires seats { (room.seats.items ≡ []) × (length scripts.now ≤ vec_capacity room.seats) }
     requires told { (room.told.items ≡ []) × (length scripts.now ≤ vec_capacity room.told) }
-    ensures whole { IfOk result (λ c. IsWhole begun.board.opening.origin begun.board.opening.first scripts.now (arc_value c.last).journal c.transcripts) }
+    ensures whole { IfOk result
+        (λ c. IsWhole begun.board.opening.origin begun.board.opening.first scripts.now
+        (arc_value c.last).journal c.transcripts) }
     ensures last { IfOk result (λ c. IsVersion (arc_value c.last)) }
     ensures first { IfOk result (λ c. (arc_value c.last).first ≡ begun.board.opening.first) }
     ensures origin { IfOk result (λ c. (arc_value c.last).origin ≡ begun.board.opening.origin) }
@@ -343,7 +358,9 @@ pub(crate) fn run_sessions<H: Threads + Wait + Sync, G: Gate>(
     requires some { 1 ≤ workers }
     requires most { workers ≤ 32 }
     requires begins { (arc_value version).journal ≡ [] }
-    ensures whole { IfOk result (λ c. IsWhole (arc_value version).origin (arc_value version).first scripts.now (arc_value c.last).journal c.transcripts) }
+    ensures whole { IfOk result
+        (λ c. IsWhole (arc_value version).origin (arc_value version).first scripts.now
+        (arc_value c.last).journal c.transcripts) }
     ensures last { IfOk result (λ c. IsVersion (arc_value c.last)) }
     ensures first { IfOk result (λ c. (arc_value c.last).first ≡ (arc_value version).first) }
     ensures origin { IfOk result (λ c. (arc_value c.last).origin ≡ (arc_value version).origin) }

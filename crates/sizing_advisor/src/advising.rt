@@ -23,7 +23,9 @@ fn best_in_turn<'a, H: Threads + Sync, G: Gate, L>(
     candidates: &'a [Candidate],
     steps: &mut Steps<L>,
 ) -> Result<Option<Best<'a>>, Memory>
-    ensures best { IfOk result (λ best. IsBest base.now.store.now.design base.now.kind candidates.now best steps.old steps.new) }
+    ensures best { IfOk result
+        (λ best. IsBest base.now.store.now.design base.now.kind candidates.now best steps.old
+        steps.new) }
     ensures rises { steps.old ≤ steps.new }
 {
     let mut best = None;
@@ -40,7 +42,9 @@ fn best_shared<'a, H: Threads + Sync, G: Gate, L>(
     candidates: &'a [Candidate],
     steps: &mut Steps<L>,
 ) -> Result<Option<Best<'a>>, Memory>
-    ensures best { IfOk result (λ best. IsBest base.now.store.now.design base.now.kind candidates.now best steps.old steps.new) }
+    ensures best { IfOk result
+        (λ best. IsBest base.now.store.now.design base.now.kind candidates.now best steps.old
+        steps.new) }
     ensures rises { steps.old ≤ steps.new }
 {
     let trials = shared_trials(base, candidates)?;
@@ -63,7 +67,9 @@ fn best_of<'a, H: Threads + Sync, G: Gate, L>(
     candidates: &'a [Candidate],
     steps: &mut Steps<L>,
 ) -> Result<Option<Best<'a>>, Memory>
-    ensures best { IfOk result (λ best. IsBest base.now.store.now.design base.now.kind candidates.now best steps.old steps.new) }
+    ensures best { IfOk result
+        (λ best. IsBest base.now.store.now.design base.now.kind candidates.now best steps.old
+        steps.new) }
     ensures rises { steps.old ≤ steps.new }
 {
     if base.workers < 2 || candidates.len() < 2 {
@@ -96,7 +102,8 @@ pub fn advise<H: Threads + Sync, G: Gate, L>(
     requires most { workers ≤ 32 }
     ensures advice { IfOk result (IsAdvice store.now.design kind candidates.now) }
     ensures rises { steps.old ≤ steps.new }
-    ensures counted { OnOk result (AreCounted store.now.design (map candidate_eco candidates.now) (steps.new - steps.old)) }
+    ensures counted { OnOk result
+        (AreCounted store.now.design (map candidate_eco candidates.now) (steps.new - steps.old)) }
 {
     let base = Base {
         rt,

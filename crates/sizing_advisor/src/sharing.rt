@@ -22,7 +22,8 @@ pub(crate) fn shared_trials<H: Threads + Sync, G: Gate, L>(
 {
     let trial = |candidate: &Candidate| -> Result<Tried<L>, Memory>
         requires { IsSync H.row × IsSync G.row }
-        ensures { IfOk result (IsTrial base.entry.now.store.now.design base.entry.now.kind candidate.now) }
+        ensures { IfOk result
+            (IsTrial base.entry.now.store.now.design base.entry.now.kind candidate.now) }
     { trial_of(base, candidate) };
     map_shared(base.rt, base.alloc, candidates, &trial)
 }

@@ -56,7 +56,9 @@ fn value_after<H: Threads + Sync, G: Gate, L>(
     requires { eco.now ≡ candidate_eco candidate.now }
     ensures value { IfOk result (IsTried base.now.store.now.design base.now.kind candidate.now) }
     ensures rises { steps.old ≤ steps.new }
-    ensures counted { OnOk result (IsCounted base.now.store.now.design (candidate_eco candidate.now) true (steps.new - steps.old)) }
+    ensures counted { OnOk result
+        (IsCounted base.now.store.now.design (candidate_eco candidate.now) true
+        (steps.new - steps.old)) }
 {
     match after_eco(
         base.rt,
@@ -88,7 +90,9 @@ pub(crate) fn value_of<H: Threads + Sync, G: Gate, L>(
 ) -> Result<Option<Fs>, Memory>
     ensures value { IfOk result (IsTried base.now.store.now.design base.now.kind candidate.now) }
     ensures rises { steps.old ≤ steps.new }
-    ensures counted { OnOk result (IsCounted base.now.store.now.design (candidate_eco candidate.now) true (steps.new - steps.old)) }
+    ensures counted { OnOk result
+        (IsCounted base.now.store.now.design (candidate_eco candidate.now) true
+        (steps.new - steps.old)) }
 {
     let eco = candidate_eco(base.alloc, candidate)?;
     let value = value_after(base, candidate, &eco, steps);

@@ -21,14 +21,16 @@ use timing_defs::{Code, Name, RcNode};
 /// Notes a fault.
 #[tactic(auto, unfolding(sta_text::specs::Faults::least_from))]
 fn note(best: Option<Wrong>, code: Code, at: usize) -> Option<Wrong>
-    ensures { (rest : List Wrong) → least_from result rest ≡ least_from best (wrong code at ∷ rest) }
+    ensures { (rest : List Wrong) → least_from result rest
+        ≡ least_from best (wrong code at ∷ rest) }
 {
     lesser(best, Wrong { code, at })
 }
 
 #[tactic(auto, unfolding(crate::specs::Faults::token_faults, sta_text::specs::Faults::least_from))]
 fn token_fault(event: &Event, best: Option<Wrong>) -> Option<Wrong>
-    ensures { (rest : List Event) → least_from result (token_faults rest) ≡ least_from best (token_faults (event.now ∷ rest)) }
+    ensures { (rest : List Event) → least_from result (token_faults rest)
+        ≡ least_from best (token_faults (event.now ∷ rest)) }
 {
     match event {
         Event::Fault(wrong) => lesser(best, *wrong),
@@ -55,7 +57,13 @@ fn note_net<'a>(
     place: usize,
     best: Option<Wrong>,
 ) -> Result<Option<Wrong>, Memory>
-    ensures { IfOk result (λ least. (names.new ≡ with_one names.old name.entry.now) × ((rest : List Wrong) → least_from least rest ≡ least_from best (if stands names.old name.entry.now then wrong Code.SpefDoubleNet place ∷ rest else rest))) }
+    ensures { IfOk result
+        (λ least. (names.new ≡ with_one names.old name.entry.now)
+        ×
+        ((rest : List Wrong) → least_from least rest
+        ≡ least_from best
+        (if stands names.old name.entry.now then wrong Code.SpefDoubleNet place ∷ rest else
+        rest))) }
 {
     if names.add(name.as_bytes())? {
         return Ok(best);
@@ -69,7 +77,9 @@ fn double_net<'a>(
     event: &'a Event,
     best: Option<Wrong>,
 ) -> Result<Option<Wrong>, Memory>
-    ensures { IfOk result (λ least. (rest : List Event) → least_from least (double_nets names.new rest) ≡ least_from best (double_nets names.old (event.entry.now ∷ rest))) }
+    ensures { IfOk result
+        (λ least. (rest : List Event) → least_from least (double_nets names.new rest)
+        ≡ least_from best (double_nets names.old (event.entry.now ∷ rest))) }
 {
     match event {
         Event::Net(_, Some(name), place) => note_net(names, name, *place, best),
@@ -125,7 +135,9 @@ fn add_node<'a>(pins: &mut Names<'a>, node: &'a Option<RcNode>) -> Result<(), Me
 
 #[tactic(auto, unfolding(crate::specs::Faults::pins_on))]
 fn add_pins<'a>(pins: &mut Names<'a>, event: &'a Event) -> Result<(), Memory>
-    ensures { IfOk result (λ _. (rest : List Event) → pins_on pins.new rest ≡ pins_on pins.old (event.entry.now ∷ rest)) }
+    ensures { IfOk result
+        (λ _. (rest : List Event) → pins_on pins.new rest
+        ≡ pins_on pins.old (event.entry.now ∷ rest)) }
 {
     match event {
         Event::Connection(node) => add_node(pins, node),
@@ -152,8 +164,11 @@ fn pins_of<'a>(alloc: Global, rows: &'a [Event]) -> Result<Names<'a>, Memory>
 /// The pins of a net as capacitances between two nodes ask for them; none where there are none of these.
 #[tactic(auto, using(crate::proofs::CouplingLemmas::strange_unasked, crate::proofs::CouplingLemmas::caps_unasked))]
 pub(crate) fn asked_pins<'a>(alloc: Global, rows: &'a [Event]) -> Result<Names<'a>, Memory>
-    ensures strange { IfOk result (λ pins. strange_couplings pins rows.entry.now ≡ strange_couplings (pins_on [] rows.entry.now) rows.entry.now) }
-    ensures caps { IfOk result (λ pins. caps_of pins rows.entry.now ≡ caps_of (pins_on [] rows.entry.now) rows.entry.now) }
+    ensures strange { IfOk result
+        (λ pins. strange_couplings pins rows.entry.now
+        ≡ strange_couplings (pins_on [] rows.entry.now) rows.entry.now) }
+    ensures caps { IfOk result
+        (λ pins. caps_of pins rows.entry.now ≡ caps_of (pins_on [] rows.entry.now) rows.entry.now) }
 {
     if has_coupling(rows) {
         pins_of(alloc, rows)
@@ -174,7 +189,8 @@ pub(crate) fn is_own(pins: &Names<'_>, node: &RcNode) -> bool
 
 #[tactic(auto, unfolding(crate::specs::Faults::strange_couplings))]
 fn strange_coupling(pins: &Names<'_>, event: &Event, best: Option<Wrong>) -> Option<Wrong>
-    ensures { (rest : List Event) → least_from result (strange_couplings pins.now rest) ≡ least_from best (strange_couplings pins.now (event.now ∷ rest)) }
+    ensures { (rest : List Event) → least_from result (strange_couplings pins.now rest)
+        ≡ least_from best (strange_couplings pins.now (event.now ∷ rest)) }
 {
     match event {
         Event::Coupling(at, Some(a), Some(b), _) => {
@@ -256,7 +272,9 @@ fn faults_behind(
     behind: &[Event],
     best: Option<Wrong>,
 ) -> Result<Option<Wrong>, Memory>
-    ensures { IfOk result (λ least. least_from least (nets_faults behind.now) ≡ least_from best (nets_faults (event.now ∷ behind.now))) }
+    ensures { IfOk result
+        (λ least. least_from least (nets_faults behind.now)
+        ≡ least_from best (nets_faults (event.now ∷ behind.now))) }
 {
     match event {
         Event::Net(at, _, _) => {

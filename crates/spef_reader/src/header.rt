@@ -21,7 +21,8 @@ pub(crate) fn title(
     tokens: &mut Tokens<'_>,
     out: &mut Vec<Event>,
 ) -> Result<(), Stop>
-    ensures { Reads result context.now start context.now header tokens.old tokens.new out.old.items out.new.items }
+    ensures { Reads result context.now start context.now header tokens.old tokens.new out.old.items
+        out.new.items }
 {
     let word = any(context, tokens, out)?;
     if !is(&word, b"*SPEF") {
@@ -41,7 +42,8 @@ fn first_text(
     tokens: &mut Tokens<'_>,
     out: &mut Vec<Event>,
 ) -> Result<(), Stop>
-    ensures { Reads result context.now first_text context.now next_text tokens.old tokens.new out.old.items out.new.items }
+    ensures { Reads result context.now first_text context.now next_text tokens.old tokens.new
+        out.old.items out.new.items }
 {
     let text = any(context, tokens, out)?;
     if !is_string(&text) {
@@ -57,7 +59,8 @@ fn next_text(
     tokens: &mut Tokens<'_>,
     out: &mut Vec<Event>,
 ) -> Result<bool, Stop>
-    ensures { ReadsRow result context.now next_text context.now next_text header tokens.old tokens.new out.old.items out.new.items }
+    ensures { ReadsRow result context.now next_text context.now next_text header tokens.old
+        tokens.new out.old.items out.new.items }
 {
     if tokens.take_string().is_some() {
         return Ok(true);
@@ -70,7 +73,8 @@ fn next_text(
 
 /// Takes the texts behind a header word.
 fn texts(context: &Context<'_>, tokens: &mut Tokens<'_>, out: &mut Vec<Event>) -> Result<(), Stop>
-    ensures { Reads result context.now first_text context.now header tokens.old tokens.new out.old.items out.new.items }
+    ensures { Reads result context.now first_text context.now header tokens.old tokens.new
+        out.old.items out.new.items }
 {
     first_text(context, tokens, out)?;
     'each: while next_text(context, tokens, out)? {}
@@ -80,7 +84,8 @@ fn texts(context: &Context<'_>, tokens: &mut Tokens<'_>, out: &mut Vec<Event>) -
 /// Takes the divider of hierarchical names, which is passed over.
 #[tactic(auto, unfolding(crate::specs::Grammar::events))]
 fn divider(context: &Context<'_>, tokens: &mut Tokens<'_>, out: &mut Vec<Event>) -> Result<(), Stop>
-    ensures { Reads result context.now divider context.now header tokens.old tokens.new out.old.items out.new.items }
+    ensures { Reads result context.now divider context.now header tokens.old tokens.new
+        out.old.items out.new.items }
 {
     let word = any(context, tokens, out)?;
     if !is_word(&word) {
@@ -96,7 +101,8 @@ fn delimiter(
     tokens: &mut Tokens<'_>,
     out: &mut Vec<Event>,
 ) -> Result<(), Stop>
-    ensures { Reads result context.old delimiter context.new header tokens.old tokens.new out.old.items out.new.items }
+    ensures { Reads result context.old delimiter context.new header tokens.old tokens.new
+        out.old.items out.new.items }
 {
     let word = any(context, tokens, out)?;
     let mark = delimiter_of(word.text);
@@ -114,7 +120,8 @@ fn bus_open(
     tokens: &mut Tokens<'_>,
     out: &mut Vec<Event>,
 ) -> Result<(), Stop>
-    ensures { Reads result context.old bus_open context.new bus_close tokens.old tokens.new out.old.items out.new.items }
+    ensures { Reads result context.old bus_open context.new bus_close tokens.old tokens.new
+        out.old.items out.new.items }
 {
     let word = any(context, tokens, out)?;
     let mark = mark_of(word.text);
@@ -131,7 +138,8 @@ fn bus_open(
 /// Takes the mark that stands for `]` in names, where there is one.
 #[tactic(auto, unfolding(crate::specs::Grammar::events))]
 fn bus_close(context: &mut Context<'_>, tokens: &mut Tokens<'_>, out: &Vec<Event>)
-    ensures place { out.now.items ++ events context.new header tokens.new ≡ out.now.items ++ events context.old bus_close tokens.old }
+    ensures place { out.now.items ++ events context.new header tokens.new
+        ≡ out.now.items ++ events context.old bus_close tokens.old }
     ensures fewer { length tokens.new ≤ length tokens.old }
 {
     if let Some(word) = tokens.take_mark() {
@@ -145,7 +153,8 @@ fn buses(
     tokens: &mut Tokens<'_>,
     out: &mut Vec<Event>,
 ) -> Result<(), Stop>
-    ensures { Reads result context.old bus_open context.new header tokens.old tokens.new out.old.items out.new.items }
+    ensures { Reads result context.old bus_open context.new header tokens.old tokens.new
+        out.old.items out.new.items }
 {
     bus_open(context, tokens, out)?;
     bus_close(context, tokens, out);
@@ -160,7 +169,8 @@ fn factor(
     out: &mut Vec<Event>,
     measure: Measure,
 ) -> Result<u8, Stop>
-    ensures place { ReadsValue result context.now (factor measure) (λ k. unit measure k) tokens.old tokens.new out.old.items out.new.items }
+    ensures place { ReadsValue result context.now (factor measure) (λ k. unit measure k) tokens.old
+        tokens.new out.old.items out.new.items }
     ensures bound { IfOk result (λ k. k ≤ 6) }
 {
     let word = any(context, tokens, out)?;
@@ -212,7 +222,8 @@ fn unit(
     power: u8,
 ) -> Result<(), Stop>
     requires { power ≤ 6 }
-    ensures { Reads result context.old (unit measure power) context.new header tokens.old tokens.new out.old.items out.new.items }
+    ensures { Reads result context.old (unit measure power) context.new header tokens.old tokens.new
+        out.old.items out.new.items }
 {
     let word = any(context, tokens, out)?;
     if !(is_word(&word) && is_unit(measure, word.text)) {
@@ -229,7 +240,8 @@ fn units(
     out: &mut Vec<Event>,
     measure: Measure,
 ) -> Result<(), Stop>
-    ensures { Reads result context.old (factor measure) context.new header tokens.old tokens.new out.old.items out.new.items }
+    ensures { Reads result context.old (factor measure) context.new header tokens.old tokens.new
+        out.old.items out.new.items }
 {
     let power = factor(context, tokens, out, measure)?;
     unit(context, tokens, out, measure, power)
@@ -244,7 +256,8 @@ fn header_line<'a>(
     word: Token<'a>,
 ) -> Result<(), Stop>
     requires { is_header_word word.text.now ≡ true }
-    ensures place { Reads result context.old header context.new header (tok_of word.entry ∷ tokens.old) tokens.new out.old.items out.new.items }
+    ensures place { Reads result context.old header context.new header
+        (tok_of word.entry ∷ tokens.old) tokens.new out.old.items out.new.items }
     ensures fewer { IfOk result (λ _. length tokens.new ≤ length tokens.old) }
 {
     if is_text_word(word.text) {
@@ -275,7 +288,8 @@ fn next_line<'a>(
     tokens: &mut Tokens<'a>,
     out: &mut Vec<Event>,
 ) -> Result<bool, Stop>
-    ensures { ReadsRow result context.old header context.new header section tokens.old tokens.new out.old.items out.new.items }
+    ensures { ReadsRow result context.old header context.new header section tokens.old tokens.new
+        out.old.items out.new.items }
 {
     let Some(word) = tokens.take_header_word() else {
         return Ok(false);
@@ -290,7 +304,8 @@ pub(crate) fn header_lines<'a>(
     tokens: &mut Tokens<'a>,
     out: &mut Vec<Event>,
 ) -> Result<(), Stop>
-    ensures { Reads result context.old header context.new section tokens.old tokens.new out.old.items out.new.items }
+    ensures { Reads result context.old header context.new section tokens.old tokens.new
+        out.old.items out.new.items }
 {
     'each: while next_line(context, tokens, out)? {}
     Ok(())

@@ -95,7 +95,9 @@ fn sum_of(rows: &[Event]) -> Option<u128>
 
 #[tactic(auto, unfolding(crate::specs::Faults::total_of))]
 fn total_in(event: &Event) -> Option<Option<u128>>
-    ensures { (rest : List Event) → MatchOption result (total_of (event.now ∷ rest) ≡ total_of rest) (λ total. total_of (event.now ∷ rest) ≡ total) }
+    ensures { (rest : List Event)
+        → MatchOption result (total_of (event.now ∷ rest) ≡ total_of rest)
+        (λ total. total_of (event.now ∷ rest) ≡ total) }
 {
     match event {
         Event::Total(size) => Some(size.as_ref().map(|size| u128::from(size.get()))),

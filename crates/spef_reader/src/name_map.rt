@@ -66,7 +66,8 @@ fn map_find<'b, 'a>(
     rows: &'b IndexMap<&'a [u8], Spelling<'a>>,
     index: &[u8],
 ) -> Option<&'b Spelling<'a>>
-    ensures { MatchOption result (told (rows_at rows.now.entries) index.now ≡ None) (λ found. told (rows_at rows.now.entries) index.now ≡ Some found.now.1) }
+    ensures { MatchOption result (told (rows_at rows.now.entries) index.now ≡ None)
+        (λ found. told (rows_at rows.now.entries) index.now ≡ Some found.now.1) }
 {
     rows.get(index)
 }
@@ -77,7 +78,8 @@ fn spelling_at<'b, 'a>(
     place: usize,
     index: &[u8],
 ) -> Option<&'b Spelling<'a>>
-    ensures { IfSome result (λ found. told (rows_at rows.now.entries) index.now ≡ Some found.now.1) }
+    ensures { IfSome result
+        (λ found. told (rows_at rows.now.entries) index.now ≡ Some found.now.1) }
 {
     match rows.get_index(place) {
         Some((key, spelling)) if is_text(*key, index) => Some(spelling),
@@ -100,7 +102,8 @@ fn spelling_of<'b, 'a>(
     rows: &'b IndexMap<&'a [u8], Spelling<'a>>,
     index: &[u8],
 ) -> Option<&'b Spelling<'a>>
-    ensures { MatchOption result (told (rows_at rows.now.entries) index.now ≡ None) (λ found. told (rows_at rows.now.entries) index.now ≡ Some found.now.1) }
+    ensures { MatchOption result (told (rows_at rows.now.entries) index.now ≡ None)
+        (λ found. told (rows_at rows.now.entries) index.now ≡ Some found.now.1) }
 {
     match spelling_at(rows, place_of(index), index) {
         Some(spelling) => Some(spelling),
@@ -113,7 +116,9 @@ fn map_set<'a>(
     index: &'a [u8],
     spelling: Spelling<'a>,
 ) -> Result<(), Memory>
-    ensures { OnOk result (rows_at rows.new.entries ≡ with_row (rows_at rows.old.entries) index.entry.now spelling.entry.1) }
+    ensures { OnOk result
+        (rows_at rows.new.entries
+        ≡ with_row (rows_at rows.old.entries) index.entry.now spelling.entry.1) }
 {
     match rows.insert(index, spelling) {
         Ok(_) => Ok(()),
@@ -151,7 +156,8 @@ impl<'a> NameMap<'a> {
     /// What the word of an index reads as with these marks of buses; none exactly where the index
     /// stands for no word. Takes no memory.
     pub(crate) fn find(&self, bus: Bus, index: &[u8]) -> Option<Reading<'_>>
-        ensures { option_map (read_as bus) result ≡ option_map (spelled bus false) (told self.now index.now) }
+        ensures { option_map (read_as bus) result
+            ≡ option_map (spelled bus false) (told self.now index.now) }
     {
         match spelling_of(&self.rows, index) {
             None => None,

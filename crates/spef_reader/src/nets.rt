@@ -40,7 +40,13 @@ fn begin_net<'a>(
     at: usize,
     word: Token<'a>,
 ) -> Result<Option<Name>, Memory>
-    ensures { IfOk result (λ name. (name ≡ name_of context.now word.entry.text.now) × ((rest : List Event) → out.new.items ++ rest ≡ out.old.items ++ noted (not (is_some (name_of context.now word.entry.text.now))) (unknown_name word.entry.start) (event.Net at (name_of context.now word.entry.text.now) word.entry.start ∷ rest))) }
+    ensures { IfOk result
+        (λ name. (name ≡ name_of context.now word.entry.text.now)
+        ×
+        ((rest : List Event) → out.new.items ++ rest
+        ≡ out.old.items ++ noted (not (is_some (name_of context.now word.entry.text.now)))
+        (unknown_name word.entry.start)
+        (event.Net at (name_of context.now word.entry.text.now) word.entry.start ∷ rest))) }
 {
     let name = name_of(alloc, context, word.text)?;
     note(out, name.is_none(), Code::SpefUnknownName, word.start)?;
@@ -58,7 +64,8 @@ fn net_name<'a>(
     out: &mut Vec<Event>,
     at: usize,
 ) -> Result<Option<Name>, Stop>
-    ensures { ReadsValue result context.now (net_name at) (λ name. total name) tokens.old tokens.new out.old.items out.new.items }
+    ensures { ReadsValue result context.now (net_name at) (λ name. total name) tokens.old tokens.new
+        out.old.items out.new.items }
 {
     let word = any(context, tokens, out)?;
     if !(is_word(&word) && is_reference(word.text)) {
@@ -75,7 +82,8 @@ fn total<'a>(
     out: &mut Vec<Event>,
     net: &Option<Name>,
 ) -> Result<(), Stop>
-    ensures { Reads result context.now (total net.now) context.now (behind_total net.now) tokens.old tokens.new out.old.items out.new.items }
+    ensures { Reads result context.now (total net.now) context.now (behind_total net.now) tokens.old
+        tokens.new out.old.items out.new.items }
 {
     let word = any(context, tokens, out)?;
     if !is_word(&word) {
@@ -94,7 +102,8 @@ fn width<'a>(
     out: &mut Vec<Event>,
     net: &Option<Name>,
 ) -> Result<(), Stop>
-    ensures { Reads result context.now (width net.now) context.now (parts net.now 0) tokens.old tokens.new out.old.items out.new.items }
+    ensures { Reads result context.now (width net.now) context.now (parts net.now 0) tokens.old
+        tokens.new out.old.items out.new.items }
 {
     let word = any(context, tokens, out)?;
     if !is_whole(word.text) {
@@ -111,7 +120,8 @@ fn behind_total<'a>(
     out: &mut Vec<Event>,
     net: &Option<Name>,
 ) -> Result<(), Stop>
-    ensures { Reads result context.now (behind_total net.now) context.now (parts net.now 0) tokens.old tokens.new out.old.items out.new.items }
+    ensures { Reads result context.now (behind_total net.now) context.now (parts net.now 0)
+        tokens.old tokens.new out.old.items out.new.items }
 {
     if tokens.take_text(b"*V").is_some() {
         return width(context, tokens, out, net);
@@ -132,7 +142,8 @@ fn conn_node<'a>(
     net: &Option<Name>,
     directed: bool,
 ) -> Result<(), Stop>
-    ensures { Reads result context.now (conn_node net.now directed) context.now (conn_place net.now directed) tokens.old tokens.new out.old.items out.new.items }
+    ensures { Reads result context.now (conn_node net.now directed) context.now
+        (conn_place net.now directed) tokens.old tokens.new out.old.items out.new.items }
 {
     let word = any(context, tokens, out)?;
     let node = node(alloc, context, out, net, word)?;
@@ -148,7 +159,8 @@ fn direction<'a>(
     out: &mut Vec<Event>,
     net: &Option<Name>,
 ) -> Result<(), Stop>
-    ensures { Reads result context.now (direction net.now) context.now (conn_row net.now true) tokens.old tokens.new out.old.items out.new.items }
+    ensures { Reads result context.now (direction net.now) context.now (conn_row net.now true)
+        tokens.old tokens.new out.old.items out.new.items }
 {
     let word = any(context, tokens, out)?;
     if !is_direction(word.text) {
@@ -166,7 +178,8 @@ fn connection<'a>(
     net: &Option<Name>,
     directed: bool,
 ) -> Result<(), Stop>
-    ensures { Reads result context.now (conn_node net.now directed) context.now (conn_row net.now true) tokens.old tokens.new out.old.items out.new.items }
+    ensures { Reads result context.now (conn_node net.now directed) context.now
+        (conn_row net.now true) tokens.old tokens.new out.old.items out.new.items }
 {
     conn_node(alloc, context, tokens, out, net, directed)?;
     if directed {
@@ -186,7 +199,9 @@ fn pass_over<'a>(
 ) -> Result<bool, Stop>
     requires pin { first_fits (λ t. is_pin_row t.text) tokens.now ≡ false }
     requires inner { first_fits (λ t. is_text t (codes "*N")) tokens.now ≡ false }
-    ensures { ReadsRow result context.now (conn_row net.now passes) context.now (conn_row net.now true) (parts net.now 1) tokens.old tokens.new out.old.items out.new.items }
+    ensures { ReadsRow result context.now (conn_row net.now passes) context.now
+        (conn_row net.now true) (parts net.now 1) tokens.old tokens.new out.old.items
+        out.new.items }
 {
     let Some(token) = tokens.peek() else {
         return Ok(false);
@@ -211,7 +226,9 @@ fn conn_step<'a>(
     net: &Option<Name>,
     passes: bool,
 ) -> Result<bool, Stop>
-    ensures { ReadsRow result context.now (conn_row net.now passes) context.now (conn_row net.now true) (parts net.now 1) tokens.old tokens.new out.old.items out.new.items }
+    ensures { ReadsRow result context.now (conn_row net.now passes) context.now
+        (conn_row net.now true) (parts net.now 1) tokens.old tokens.new out.old.items
+        out.new.items }
 {
     if tokens.take_pin_row().is_some() {
         connection(alloc, context, tokens, out, net, true)?;
@@ -232,7 +249,8 @@ fn conn_rows<'a>(
     out: &mut Vec<Event>,
     net: &Option<Name>,
 ) -> Result<(), Stop>
-    ensures { Reads result context.now (conn_row net.now false) context.now (parts net.now 1) tokens.old tokens.new out.old.items out.new.items }
+    ensures { Reads result context.now (conn_row net.now false) context.now (parts net.now 1)
+        tokens.old tokens.new out.old.items out.new.items }
 {
     let mut passes = false;
     'each: while conn_step(alloc, context, tokens, out, net, passes)? {
@@ -250,7 +268,8 @@ fn connections<'a>(
     out: &mut Vec<Event>,
     net: &Option<Name>,
 ) -> Result<(), Stop>
-    ensures { Reads result context.now (parts net.now 0) context.now (parts net.now 1) tokens.old tokens.new out.old.items out.new.items }
+    ensures { Reads result context.now (parts net.now 0) context.now (parts net.now 1) tokens.old
+        tokens.new out.old.items out.new.items }
 {
     if tokens.take_text(b"*CONN").is_none() {
         return Ok(());
@@ -268,7 +287,8 @@ fn cap_node<'a>(
     net: &Option<Name>,
     at: usize,
 ) -> Result<Option<RcNode>, Stop>
-    ensures { ReadsValue result context.now (cap_node net.now at) (λ a. cap_next net.now at a) tokens.old tokens.new out.old.items out.new.items }
+    ensures { ReadsValue result context.now (cap_node net.now at) (λ a. cap_next net.now at a)
+        tokens.old tokens.new out.old.items out.new.items }
 {
     let word = any(context, tokens, out)?;
     node(alloc, context, out, net, word)
@@ -285,7 +305,8 @@ fn cap_value<'a>(
     a: Option<RcNode>,
     b: Option<RcNode>,
 ) -> Result<(), Stop>
-    ensures { Reads result context.now (cap_value net.now at a b) context.now (cap_row net.now true) tokens.old tokens.new out.old.items out.new.items }
+    ensures { Reads result context.now (cap_value net.now at a b) context.now (cap_row net.now true)
+        tokens.old tokens.new out.old.items out.new.items }
 {
     let word = any(context, tokens, out)?;
     if !is_word(&word) {
@@ -298,7 +319,10 @@ fn cap_value<'a>(
 
 /// The size of a token that is a value; none where it is none.
 fn value_in(unit: Option<Unit>, token: &Token<'_>) -> Option<Option<Size>>
-    ensures { MatchOption result ((is_word (tok_of token.now) && is_some (written (tok_of token.now).text)) ≡ false) (λ size. ((is_word (tok_of token.now) && is_some (written (tok_of token.now).text)) ≡ true) × (size ≡ value_of unit (tok_of token.now).text)) }
+    ensures { MatchOption result
+        ((is_word (tok_of token.now) && is_some (written (tok_of token.now).text)) ≡ false)
+        (λ size. ((is_word (tok_of token.now) && is_some (written (tok_of token.now).text)) ≡ true)
+        × (size ≡ value_of unit (tok_of token.now).text)) }
 {
     if is_word(token) {
         formed_value(unit, token.text)
@@ -316,7 +340,11 @@ fn ground(
     size: Option<Size>,
 ) -> Result<(), Memory>
     requires { size ≡ value_of context.now.header.farad (tok_of word.now).text }
-    ensures { IfOk result (λ _. (rest : List Event) → out.new.items ++ rest ≡ out.old.items ++ noted (is_no_value context.now.header.farad (tok_of word.now).text) (bad_number word.now.start) (event.Ground a (value_of context.now.header.farad (tok_of word.now).text) ∷ rest)) }
+    ensures { IfOk result
+        (λ _. (rest : List Event) → out.new.items ++ rest
+        ≡ out.old.items ++ noted (is_no_value context.now.header.farad (tok_of word.now).text)
+        (bad_number word.now.start)
+        (event.Ground a (value_of context.now.header.farad (tok_of word.now).text) ∷ rest)) }
 {
     note_value(out, context.header.farad, word, &size)?;
     push(out, Event::Ground(a, size))
@@ -333,7 +361,8 @@ fn cap_next<'a>(
     at: usize,
     a: Option<RcNode>,
 ) -> Result<(), Stop>
-    ensures { Reads result context.now (cap_next net.now at a) context.now (cap_row net.now true) tokens.old tokens.new out.old.items out.new.items }
+    ensures { Reads result context.now (cap_next net.now at a) context.now (cap_row net.now true)
+        tokens.old tokens.new out.old.items out.new.items }
 {
     let word = any(context, tokens, out)?;
     if let Some(size) = value_in(context.header.farad, &word) {
@@ -353,7 +382,8 @@ fn capacitance<'a>(
     net: &Option<Name>,
     at: usize,
 ) -> Result<(), Stop>
-    ensures { Reads result context.now (cap_node net.now at) context.now (cap_row net.now true) tokens.old tokens.new out.old.items out.new.items }
+    ensures { Reads result context.now (cap_node net.now at) context.now (cap_row net.now true)
+        tokens.old tokens.new out.old.items out.new.items }
 {
     let a = cap_node(alloc, context, tokens, out, net, at)?;
     cap_next(alloc, context, tokens, out, net, at, a)
@@ -369,7 +399,8 @@ fn cap_step<'a>(
     net: &Option<Name>,
     valued: bool,
 ) -> Result<bool, Stop>
-    ensures { ReadsRow result context.now (cap_row net.now valued) context.now (cap_row net.now true) (parts net.now 2) tokens.old tokens.new out.old.items out.new.items }
+    ensures { ReadsRow result context.now (cap_row net.now valued) context.now
+        (cap_row net.now true) (parts net.now 2) tokens.old tokens.new out.old.items out.new.items }
 {
     if let Some(number) = tokens.take_digits() {
         capacitance(alloc, context, tokens, out, net, number.start)?;
@@ -391,7 +422,8 @@ fn cap_rows<'a>(
     out: &mut Vec<Event>,
     net: &Option<Name>,
 ) -> Result<(), Stop>
-    ensures { Reads result context.now (cap_row net.now false) context.now (parts net.now 2) tokens.old tokens.new out.old.items out.new.items }
+    ensures { Reads result context.now (cap_row net.now false) context.now (parts net.now 2)
+        tokens.old tokens.new out.old.items out.new.items }
 {
     let mut valued = false;
     'each: while cap_step(alloc, context, tokens, out, net, valued)? {
@@ -409,7 +441,8 @@ fn capacitances<'a>(
     out: &mut Vec<Event>,
     net: &Option<Name>,
 ) -> Result<(), Stop>
-    ensures { Reads result context.now (parts net.now 1) context.now (parts net.now 2) tokens.old tokens.new out.old.items out.new.items }
+    ensures { Reads result context.now (parts net.now 1) context.now (parts net.now 2) tokens.old
+        tokens.new out.old.items out.new.items }
 {
     if tokens.take_text(b"*CAP").is_none() {
         return Ok(());
@@ -426,7 +459,8 @@ fn res_first<'a>(
     out: &mut Vec<Event>,
     net: &Option<Name>,
 ) -> Result<Option<RcNode>, Stop>
-    ensures { ReadsValue result context.now (res_first net.now) (λ a. res_second net.now a) tokens.old tokens.new out.old.items out.new.items }
+    ensures { ReadsValue result context.now (res_first net.now) (λ a. res_second net.now a)
+        tokens.old tokens.new out.old.items out.new.items }
 {
     let word = any(context, tokens, out)?;
     node(alloc, context, out, net, word)
@@ -442,7 +476,8 @@ fn res_second<'a>(
     net: &Option<Name>,
     a: &Option<RcNode>,
 ) -> Result<Option<RcNode>, Stop>
-    ensures { ReadsValue result context.now (res_second net.now a.now) (λ b. res_value net.now a.now b) tokens.old tokens.new out.old.items out.new.items }
+    ensures { ReadsValue result context.now (res_second net.now a.now)
+        (λ b. res_value net.now a.now b) tokens.old tokens.new out.old.items out.new.items }
 {
     let word = any(context, tokens, out)?;
     node(alloc, context, out, net, word)
@@ -458,7 +493,8 @@ fn res_value<'a>(
     a: Option<RcNode>,
     b: Option<RcNode>,
 ) -> Result<(), Stop>
-    ensures { Reads result context.now (res_value net.now a b) context.now (res_row net.now true) tokens.old tokens.new out.old.items out.new.items }
+    ensures { Reads result context.now (res_value net.now a b) context.now (res_row net.now true)
+        tokens.old tokens.new out.old.items out.new.items }
 {
     let word = any(context, tokens, out)?;
     if !is_word(&word) {
@@ -477,7 +513,8 @@ fn resistance<'a>(
     out: &mut Vec<Event>,
     net: &Option<Name>,
 ) -> Result<(), Stop>
-    ensures { Reads result context.now (res_first net.now) context.now (res_row net.now true) tokens.old tokens.new out.old.items out.new.items }
+    ensures { Reads result context.now (res_first net.now) context.now (res_row net.now true)
+        tokens.old tokens.new out.old.items out.new.items }
 {
     let a = res_first(alloc, context, tokens, out, net)?;
     let b = res_second(alloc, context, tokens, out, net, &a)?;
@@ -494,7 +531,8 @@ fn res_step<'a>(
     net: &Option<Name>,
     valued: bool,
 ) -> Result<bool, Stop>
-    ensures { ReadsRow result context.now (res_row net.now valued) context.now (res_row net.now true) (parts net.now 3) tokens.old tokens.new out.old.items out.new.items }
+    ensures { ReadsRow result context.now (res_row net.now valued) context.now
+        (res_row net.now true) (parts net.now 3) tokens.old tokens.new out.old.items out.new.items }
 {
     if tokens.take_digits().is_some() {
         resistance(alloc, context, tokens, out, net)?;
@@ -516,7 +554,8 @@ fn res_rows<'a>(
     out: &mut Vec<Event>,
     net: &Option<Name>,
 ) -> Result<(), Stop>
-    ensures { Reads result context.now (res_row net.now false) context.now (parts net.now 3) tokens.old tokens.new out.old.items out.new.items }
+    ensures { Reads result context.now (res_row net.now false) context.now (parts net.now 3)
+        tokens.old tokens.new out.old.items out.new.items }
 {
     let mut valued = false;
     'each: while res_step(alloc, context, tokens, out, net, valued)? {
@@ -534,7 +573,8 @@ fn resistances<'a>(
     out: &mut Vec<Event>,
     net: &Option<Name>,
 ) -> Result<(), Stop>
-    ensures { Reads result context.now (parts net.now 2) context.now (parts net.now 3) tokens.old tokens.new out.old.items out.new.items }
+    ensures { Reads result context.now (parts net.now 2) context.now (parts net.now 3) tokens.old
+        tokens.new out.old.items out.new.items }
 {
     if tokens.take_text(b"*RES").is_none() {
         return Ok(());
@@ -550,7 +590,8 @@ fn net_end<'a>(
     out: &mut Vec<Event>,
     net: &Option<Name>,
 ) -> Result<(), Stop>
-    ensures { Reads result context.now (parts net.now 3) context.now section tokens.old tokens.new out.old.items out.new.items }
+    ensures { Reads result context.now (parts net.now 3) context.now section tokens.old tokens.new
+        out.old.items out.new.items }
 {
     let word = any(context, tokens, out)?;
     if is(&word, b"*END") {
@@ -571,7 +612,8 @@ fn parts<'a>(
     out: &mut Vec<Event>,
     net: &Option<Name>,
 ) -> Result<(), Stop>
-    ensures { Reads result context.now (parts net.now 0) context.now section tokens.old tokens.new out.old.items out.new.items }
+    ensures { Reads result context.now (parts net.now 0) context.now section tokens.old tokens.new
+        out.old.items out.new.items }
 {
     connections(alloc, context, tokens, out, net)?;
     capacitances(alloc, context, tokens, out, net)?;
@@ -587,7 +629,8 @@ pub(crate) fn net<'a>(
     out: &mut Vec<Event>,
     at: usize,
 ) -> Result<(), Stop>
-    ensures { Reads result context.now (net_name at) context.now section tokens.old tokens.new out.old.items out.new.items }
+    ensures { Reads result context.now (net_name at) context.now section tokens.old tokens.new
+        out.old.items out.new.items }
 {
     let net = net_name(alloc, context, tokens, out, at)?;
     total(context, tokens, out, &net)?;

@@ -23,7 +23,8 @@ use timing_defs::{Code, Name, RcNode};
 
 /// What a name is read from, by way of the name map where its word is an index; none where the index is not in the name map.
 fn reading_of<'b>(context: &'b Context<'_>, word: &'b [u8]) -> Option<Reading<'b>>
-    ensures { option_map (read_as context.now.header.bus) result ≡ option_map (spelled context.now.header.bus false) (name_word context.now word.entry.now) }
+    ensures { option_map (read_as context.now.header.bus) result
+        ≡ option_map (spelled context.now.header.bus false) (name_word context.now word.entry.now) }
 {
     if begins(b'*', word) {
         context.names.find(context.header.bus, index_of(word))
@@ -66,7 +67,8 @@ fn is_net(net: &Option<Name>, name: &[u8]) -> bool
 /// The number that digits write, where it lies below 2^32.
 #[tactic(auto, using(std::proofs::lemmas::List::drop_more, crate::proofs::NodeLemmas::number_grows))]
 fn small_number(digits: &[u8]) -> Option<u32>
-    ensures { MatchOption result (2 ^ 32 ≤ number_on 0 digits.now) (λ number. number ≡ number_on 0 digits.now) }
+    ensures { MatchOption result (2 ^ 32 ≤ number_on 0 digits.now)
+        (λ number. number ≡ number_on 0 digits.now) }
 {
     let mut number: u64 = 0;
     for digit in digits {
@@ -80,7 +82,8 @@ fn small_number(digits: &[u8]) -> Option<u32>
 
 /// The number of an inner node; none where the word is no such number.
 fn inner_number(word: &[u8]) -> Option<u32>
-    ensures { MatchOption result (is_inner word.now ≡ false) (λ number. (is_inner word.now ≡ true) × (number ≡ number_on 0 word.now)) }
+    ensures { MatchOption result (is_inner word.now ≡ false)
+        (λ number. (is_inner word.now ≡ true) × (number ≡ number_on 0 word.now)) }
 {
     if is_whole(word) {
         small_number(word)
@@ -96,7 +99,8 @@ fn joined_bytes(
     left: Reading<'_>,
     right: Reading<'_>,
 ) -> Result<(Vec<u8>, usize), Memory>
-    ensures bytes { IfOk result (λ made. made.0.items ≡ read_as bus left.entry ++ 58 ∷ read_as bus right.entry) }
+    ensures bytes { IfOk result
+        (λ made. made.0.items ≡ read_as bus left.entry ++ 58 ∷ read_as bus right.entry) }
     ensures place { IfOk result (λ made. made.1 ≡ length (read_as bus left.entry)) }
 {
     let room = left.room().saturating_add(right.room()).saturating_add(1);
@@ -111,7 +115,9 @@ fn joined_bytes(
 /// The number of an inner node of the net; none where the name is not the net's or the word is no such number.
 #[tactic(auto, using(crate::proofs::InnerLemmas::no_inner))]
 fn own_number(net: &Option<Name>, name: &[u8], word: &[u8]) -> Option<u32>
-    ensures value { MatchOption result ((is_net net.now name.now && is_inner word.now) ≡ false) (λ number. ((is_net net.now name.now && is_inner word.now) ≡ true) × (number ≡ number_on 0 word.now)) }
+    ensures value { MatchOption result ((is_net net.now name.now && is_inner word.now) ≡ false)
+        (λ number. ((is_net net.now name.now && is_inner word.now) ≡ true)
+        × (number ≡ number_on 0 word.now)) }
     ensures name { IfSome result (λ _. is_name name.now ≡ true) }
 {
     match inner_number(word) {
@@ -123,7 +129,9 @@ fn own_number(net: &Option<Name>, name: &[u8], word: &[u8]) -> Option<u32>
 /// The number of an inner node of the net where the digits of its word stand for themselves.
 #[tactic(auto, using(crate::proofs::InnerLemmas::inner_there))]
 fn plain_number(context: &Context<'_>, net: &Option<Name>, name: &[u8], right: &[u8]) -> Option<u32>
-    ensures { IfSome result (λ number. joined_node net.now right.now (named name.now) (name_of context.now right.now) ≡ Some (RcNode.Inner number)) }
+    ensures { IfSome result
+        (λ number. joined_node net.now right.now (named name.now) (name_of context.now right.now)
+        ≡ Some (RcNode.Inner number)) }
 {
     match own_number(net, name, right) {
         Some(number) if is_plain_word(context.header.bus, right) => Some(number),
@@ -138,7 +146,9 @@ fn inner_of(
     left: Reading<'_>,
     right: &[u8],
 ) -> Option<u32>
-    ensures { IfSome result (λ number. joined_node net.now right.now (named (read_as context.now.header.bus left.entry)) (name_of context.now right.now) ≡ Some (RcNode.Inner number)) }
+    ensures { IfSome result
+        (λ number. joined_node net.now right.now (named (read_as context.now.header.bus left.entry))
+        (name_of context.now right.now) ≡ Some (RcNode.Inner number)) }
 {
     match left {
         Reading::Word(_) => None,
@@ -150,7 +160,9 @@ fn inner_of(
 #[tactic(auto, using(crate::proofs::JoinLemmas::no_left, crate::proofs::JoinLemmas::no_right, crate::proofs::JoinLemmas::no_name, crate::proofs::JoinLemmas::joined_inner, crate::proofs::JoinLemmas::joined_pin))]
 fn node_at(net: &Option<Name>, word: &[u8], bytes: Vec<u8>, place: usize) -> Option<RcNode>
     requires { slice_get bytes.items place ≡ Some 58 }
-    ensures { result ≡ joined_node net.now word.now (named (take place bytes.items)) (named (drop (place + 1) bytes.items)) }
+    ensures { result
+        ≡ joined_node net.now word.now (named (take place bytes.items))
+        (named (drop (place + 1) bytes.items)) }
 {
     if place == 0 || place + 1 == bytes.len() {
         return None;
@@ -172,7 +184,10 @@ fn joined_node(
     left: &[u8],
     right: &[u8],
 ) -> Result<Option<RcNode>, Memory>
-    ensures { IfOk result (λ node. node ≡ joined_node net.now right.now (name_of context.now left.now) (name_of context.now right.now)) }
+    ensures { IfOk result
+        (λ node. node
+        ≡ joined_node net.now right.now (name_of context.now left.now)
+        (name_of context.now right.now)) }
 {
     let Some(first) = reading_of(context, left) else {
         return Ok(None);
@@ -222,7 +237,18 @@ fn parted_node<'a>(
     token: Token<'a>,
     delimiter: u8,
 ) -> Result<Option<RcNode>, Stop>
-    ensures { MatchResult result (λ node. (are_references (parts_of delimiter token.entry.text.now) ≡ true) × (node ≡ node_from context.now net.now (parts_of delimiter token.entry.text.now)) × ((rest : List Event) → out.new.items ++ rest ≡ out.old.items ++ noted (is_unknown context.now (node_from context.now net.now (parts_of delimiter token.entry.text.now))) (unknown_name token.entry.start) rest)) (λ stop. stop ≡ Stop.Refused → (are_references (parts_of delimiter token.entry.text.now) ≡ false) × (out.new.items ≡ out.old.items ++ unexpected context.now false (tok_of token.entry))) }
+    ensures { MatchResult result
+        (λ node. (are_references (parts_of delimiter token.entry.text.now) ≡ true)
+        × (node ≡ node_from context.now net.now (parts_of delimiter token.entry.text.now))
+        ×
+        ((rest : List Event) → out.new.items ++ rest
+        ≡ out.old.items ++ noted
+        (is_unknown context.now
+        (node_from context.now net.now (parts_of delimiter token.entry.text.now)))
+        (unknown_name token.entry.start) rest))
+        (λ stop. stop ≡ Stop.Refused
+        → (are_references (parts_of delimiter token.entry.text.now) ≡ false)
+        × (out.new.items ≡ out.old.items ++ unexpected context.now false (tok_of token.entry))) }
 {
     let sides = cut(delimiter, token.text);
     if !are_references(&sides) {
@@ -240,7 +266,11 @@ fn uncut_node(
     out: &mut Vec<Event>,
     token: Token<'_>,
 ) -> Result<Option<RcNode>, Stop>
-    ensures { MatchResult result (λ node. (is_node None token.entry.text.now ≡ true) × (node ≡ None) × (out.new.items ≡ out.old.items)) (λ stop. stop ≡ Stop.Refused → (is_node None token.entry.text.now ≡ false) × (out.new.items ≡ out.old.items ++ unexpected context.now false (tok_of token.entry))) }
+    ensures { MatchResult result
+        (λ node. (is_node None token.entry.text.now ≡ true) × (node ≡ None)
+        × (out.new.items ≡ out.old.items))
+        (λ stop. stop ≡ Stop.Refused → (is_node None token.entry.text.now ≡ false)
+        × (out.new.items ≡ out.old.items ++ unexpected context.now false (tok_of token.entry))) }
 {
     if !is_node(None, token.text) {
         return Err(unexpected(context, out, false, &token));
@@ -256,7 +286,20 @@ pub(crate) fn node<'a>(
     net: &Option<Name>,
     token: Token<'a>,
 ) -> Result<Option<RcNode>, Stop>
-    ensures { MatchResult result (λ node. ((is_word (tok_of token.entry) && is_node context.now.header.delimiter token.entry.text.now) ≡ true) × (node ≡ node_of context.now net.now token.entry.text.now) × ((rest : List Event) → out.new.items ++ rest ≡ out.old.items ++ noted (is_unknown context.now (node_of context.now net.now token.entry.text.now)) (unknown_name token.entry.start) rest)) (λ stop. stop ≡ Stop.Refused → ((is_word (tok_of token.entry) && is_node context.now.header.delimiter token.entry.text.now) ≡ false) × (out.new.items ≡ out.old.items ++ unexpected context.now false (tok_of token.entry))) }
+    ensures { MatchResult result
+        (λ node.
+        ((is_word (tok_of token.entry) && is_node context.now.header.delimiter token.entry.text.now)
+        ≡ true) × (node ≡ node_of context.now net.now token.entry.text.now)
+        ×
+        ((rest : List Event) → out.new.items ++ rest
+        ≡ out.old.items ++ noted
+        (is_unknown context.now (node_of context.now net.now token.entry.text.now))
+        (unknown_name token.entry.start) rest))
+        (λ stop. stop ≡ Stop.Refused
+        →
+        ((is_word (tok_of token.entry) && is_node context.now.header.delimiter token.entry.text.now)
+        ≡ false)
+        × (out.new.items ≡ out.old.items ++ unexpected context.now false (tok_of token.entry))) }
 {
     if !is_word(&token) {
         return Err(unexpected(context, out, false, &token));

@@ -70,7 +70,9 @@ fn add_cap(
     caps: &mut Items<RcCap>,
     event: &Event,
 ) -> Result<(), Memory>
-    ensures { IfOk result (λ _. (rest : List Event) → caps.new ++ caps_of pins.now rest ≡ caps.old ++ caps_of pins.now (event.now ∷ rest)) }
+    ensures { IfOk result
+        (λ _. (rest : List Event) → caps.new ++ caps_of pins.now rest
+        ≡ caps.old ++ caps_of pins.now (event.now ∷ rest)) }
 {
     match event {
         Event::Ground(Some(a), Some(size)) => push_cap(alloc, caps, a, size),
@@ -101,7 +103,8 @@ fn push_res(
     b: &RcNode,
     size: &Size,
 ) -> Result<(), Memory>
-    ensures { IfOk result (λ _. ress.new ≡ ress.old ++ record { a = a.now; b = b.now; res = ohms size.now } ∷ []) }
+    ensures { IfOk result
+        (λ _. ress.new ≡ ress.old ++ record { a = a.now; b = b.now; res = ohms size.now } ∷ []) }
 {
     ress.push(RcRes {
         a: copied(alloc, a)?,
@@ -113,7 +116,9 @@ fn push_res(
 /// Adds the resistance of an event.
 #[tactic(auto, unfolding(crate::specs::Parasitics::ress_of))]
 fn add_res(alloc: Global, ress: &mut Items<RcRes>, event: &Event) -> Result<(), Memory>
-    ensures { IfOk result (λ _. (rest : List Event) → ress.new ++ ress_of rest ≡ ress.old ++ ress_of (event.now ∷ rest)) }
+    ensures { IfOk result
+        (λ _. (rest : List Event) → ress.new ++ ress_of rest
+        ≡ ress.old ++ ress_of (event.now ∷ rest)) }
 {
     match event {
         Event::Resistor(Some(a), Some(b), Some(size)) => push_res(alloc, ress, a, b, size),
@@ -135,7 +140,10 @@ fn ress_of(alloc: Global, rows: &[Event]) -> Result<Items<RcRes>, Memory>
 
 /// The capacitances at the nodes of a net, which has none without resistances.
 fn node_caps(alloc: Global, rows: &[Event]) -> Result<Items<RcCap>, Memory>
-    ensures { IfOk result (λ caps. caps ≡ (if list_any is_resistance rows.now then caps_of (pins_on [] rows.now) rows.now else [])) }
+    ensures { IfOk result
+        (λ caps. caps
+        ≡
+        (if list_any is_resistance rows.now then caps_of (pins_on [] rows.now) rows.now else [])) }
 {
     if !has_resistance(rows) {
         return Ok(Items::new(alloc));
@@ -173,7 +181,8 @@ fn push_net(
     name: &Option<Name>,
     rows: &[Event],
 ) -> Result<(), Memory>
-    ensures { IfOk result (λ _. nets.new ≡ nets.old ++ net_of name.now rows.now (small (lump_of rows.now))) }
+    ensures { IfOk result
+        (λ _. nets.new ≡ nets.old ++ net_of name.now rows.now (small (lump_of rows.now))) }
 {
     match (name, small(lump_of(rows))) {
         (Some(name), Some(lump)) => nets.push(net_rc(alloc, name, rows, lump)?),
@@ -189,7 +198,8 @@ fn add_net(
     event: &Event,
     behind: &[Event],
 ) -> Result<(), Memory>
-    ensures { IfOk result (λ _. nets.new ++ nets_of behind.now ≡ nets.old ++ nets_of (event.now ∷ behind.now)) }
+    ensures { IfOk result
+        (λ _. nets.new ++ nets_of behind.now ≡ nets.old ++ nets_of (event.now ∷ behind.now)) }
 {
     match event {
         Event::Net(_, name, _) => push_net(alloc, nets, name, rows_of(behind)),

@@ -41,7 +41,9 @@ use timing_defs::{Parasitics, ReadFault};
 /// Want of memory may come at any time. It reads the bytes once, in linear time.
 #[tactic(auto, using(sta_text::proofs::FaultsLemmas::least_none, crate::proofs::KeptLaws::good))]
 pub fn read_parasitics(alloc: Global, bytes: &[u8]) -> Result<Parasitics, ReadFault>
-    ensures value { MatchResult result (λ p. (faults_of (events_of bytes.now) ≡ []) × (p ≡ parasitics_of (events_of bytes.now))) (λ e. Fails e (faults_of (events_of bytes.now))) }
+    ensures value { MatchResult result
+        (λ p. (faults_of (events_of bytes.now) ≡ []) × (p ≡ parasitics_of (events_of bytes.now)))
+        (λ e. Fails e (faults_of (events_of bytes.now))) }
     ensures kept { IfOk result (λ p. are_parasitics p.nets ≡ true) }
 {
     let events = events_of(alloc, bytes)?;

@@ -40,7 +40,8 @@ fn common_len(bytes: &[u8]) -> usize
 
 /// The first token of a text; none where it has none.
 fn first_of(bytes: &[u8]) -> Option<Token<'_>>
-    ensures { MatchOption result ((at : ℕ) → tokens_at at bytes.now ≡ []) (λ t. IsFirst bytes.now (tok_of t)) }
+    ensures { MatchOption result ((at : ℕ) → tokens_at at bytes.now ≡ [])
+        (λ t. IsFirst bytes.now (tok_of t)) }
 {
     let mut cursor = Cursor::new(bytes, Style::Spef);
     cursor.next()
@@ -106,7 +107,8 @@ impl<'a> Scan<'a> {
 
     /// Takes a token of any form; none exactly where no token is left.
     fn any_token(&mut self) -> Option<Token<'a>>
-        ensures { MatchOption result ((self.old ≡ []) × (self.new ≡ [])) (λ t. self.old ≡ tok_of t ∷ self.new) }
+        ensures { MatchOption result ((self.old ≡ []) × (self.new ≡ []))
+            (λ t. self.old ≡ tok_of t ∷ self.new) }
     {
         match first_of(self.rest) {
             None => None,
@@ -126,7 +128,8 @@ impl<'a> Scan<'a> {
 
     /// Takes the next token; none exactly where no token is left.
     pub(crate) fn next(&mut self) -> Option<Token<'a>>
-        ensures { MatchOption result ((self.old ≡ []) × (self.new ≡ [])) (λ t. self.old ≡ tok_of t ∷ self.new) }
+        ensures { MatchOption result ((self.old ≡ []) × (self.new ≡ []))
+            (λ t. self.old ≡ tok_of t ∷ self.new) }
     {
         self.pass_white();
         match self.common_word() {

@@ -24,7 +24,8 @@ fn name_row<'a>(
     tokens: &mut Tokens<'a>,
     out: &mut Vec<Event>,
 ) -> Result<bool, Stop>
-    ensures { ReadsRow result context.old name_map context.new name_map section tokens.old tokens.new out.old.items out.new.items }
+    ensures { ReadsRow result context.old name_map context.new name_map section tokens.old
+        tokens.new out.old.items out.new.items }
 {
     let Some(index) = tokens.take_index() else {
         return Ok(false);
@@ -47,7 +48,8 @@ fn name_map<'a>(
     tokens: &mut Tokens<'a>,
     out: &mut Vec<Event>,
 ) -> Result<(), Stop>
-    ensures { Reads result context.old name_map context.new section tokens.old tokens.new out.old.items out.new.items }
+    ensures { Reads result context.old name_map context.new section tokens.old tokens.new
+        out.old.items out.new.items }
 {
     'each: while name_row(alloc, context, tokens, out)? {}
     Ok(())
@@ -60,7 +62,8 @@ fn pass<'a>(
     tokens: &mut Tokens<'a>,
     out: &mut Vec<Event>,
 ) -> Result<bool, Stop>
-    ensures { ReadsRow result context.now passed context.now passed section tokens.old tokens.new out.old.items out.new.items }
+    ensures { ReadsRow result context.now passed context.now passed section tokens.old tokens.new
+        out.old.items out.new.items }
 {
     let Some(token) = tokens.peek() else {
         return Ok(false);
@@ -81,7 +84,8 @@ fn passed<'a>(
     tokens: &mut Tokens<'a>,
     out: &mut Vec<Event>,
 ) -> Result<(), Stop>
-    ensures { Reads result context.now passed context.now section tokens.old tokens.new out.old.items out.new.items }
+    ensures { Reads result context.now passed context.now section tokens.old tokens.new
+        out.old.items out.new.items }
 {
     'each: while pass(context, tokens, out)? {}
     Ok(())
@@ -96,7 +100,8 @@ fn section<'a>(
     out: &mut Vec<Event>,
     word: Token<'a>,
 ) -> Result<(), Stop>
-    ensures place { Reads result context.old section context.new section (tok_of word.entry ∷ tokens.old) tokens.new out.old.items out.new.items }
+    ensures place { Reads result context.old section context.new section
+        (tok_of word.entry ∷ tokens.old) tokens.new out.old.items out.new.items }
     ensures fewer { IfOk result (λ _. length tokens.new ≤ length tokens.old) }
 {
     if is(&word, b"*NAME_MAP") {
@@ -123,7 +128,9 @@ fn is_complete(header: Header) -> bool
 
 /// Looks at the header where the text ends.
 fn text_end(context: &Context<'_>, out: &mut Vec<Event>) -> Result<(), Stop>
-    ensures { MatchResult result (λ _. out.new.items ≡ out.old.items ++ at_end context.now section) (λ stop. stop ≡ Stop.Refused → out.new.items ≡ out.old.items ++ at_end context.now section) }
+    ensures { MatchResult result (λ _. out.new.items ≡ out.old.items ++ at_end context.now section)
+        (λ stop. stop ≡ Stop.Refused → out.new.items
+        ≡ out.old.items ++ at_end context.now section) }
 {
     if is_complete(context.header) {
         return Ok(());
@@ -138,7 +145,12 @@ fn next_section<'a>(
     tokens: &mut Tokens<'a>,
     out: &mut Vec<Event>,
 ) -> Result<bool, Stop>
-    ensures { MatchResult result (λ more. (whole context.new section tokens.new out.new.items ≡ whole context.old section tokens.old out.old.items) × Advance more tokens.old tokens.new) (λ stop. stop ≡ Stop.Refused → out.new.items ≡ whole context.old section tokens.old out.old.items) }
+    ensures { MatchResult result
+        (λ more.
+        (whole context.new section tokens.new out.new.items
+        ≡ whole context.old section tokens.old out.old.items) × Advance more tokens.old tokens.new)
+        (λ stop. stop ≡ Stop.Refused → out.new.items
+        ≡ whole context.old section tokens.old out.old.items) }
 {
     match tokens.next() {
         None => Ok(false),

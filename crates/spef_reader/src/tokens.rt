@@ -127,7 +127,8 @@ impl<'a> Tokens<'a> {
 
     /// Takes the first token; none exactly where no token is left.
     pub(crate) fn next(&mut self) -> Option<Token<'a>>
-        ensures { MatchOption result ((self.old ≡ []) × (self.new ≡ [])) (λ t. self.old ≡ tok_of t ∷ self.new) }
+        ensures { MatchOption result ((self.old ≡ []) × (self.new ≡ []))
+            (λ t. self.old ≡ tok_of t ∷ self.new) }
     {
         match self.first {
             None => None,
@@ -140,7 +141,9 @@ impl<'a> Tokens<'a> {
 
     /// Takes the first token where it is these bytes.
     pub(crate) fn take_text(&mut self, wanted: &[u8]) -> Option<Token<'a>>
-        ensures { MatchOption result ((first_fits (λ t. is_text t wanted.now) self.old ≡ false) × (self.new ≡ self.old)) (λ t. (self.old ≡ tok_of t ∷ self.new) × (is_text (tok_of t) wanted.now ≡ true)) }
+        ensures { MatchOption result
+            ((first_fits (λ t. is_text t wanted.now) self.old ≡ false) × (self.new ≡ self.old))
+            (λ t. (self.old ≡ tok_of t ∷ self.new) × (is_text (tok_of t) wanted.now ≡ true)) }
     {
         match self.peek() {
             Some(token) if is(&token, wanted) => self.next(),
@@ -150,7 +153,9 @@ impl<'a> Tokens<'a> {
 
     /// Takes the first token where it is a string.
     pub(crate) fn take_string(&mut self) -> Option<Token<'a>>
-        ensures { MatchOption result ((first_fits is_string self.old ≡ false) × (self.new ≡ self.old)) (λ t. (self.old ≡ tok_of t ∷ self.new) × (is_string (tok_of t) ≡ true)) }
+        ensures { MatchOption result
+            ((first_fits is_string self.old ≡ false) × (self.new ≡ self.old))
+            (λ t. (self.old ≡ tok_of t ∷ self.new) × (is_string (tok_of t) ≡ true)) }
     {
         match self.peek() {
             Some(token) if is_string(&token) => self.next(),
@@ -160,7 +165,11 @@ impl<'a> Tokens<'a> {
 
     /// Takes the first token where it is a mark of buses.
     pub(crate) fn take_mark(&mut self) -> Option<Token<'a>>
-        ensures { MatchOption result ((first_fits (λ t. is_word t && is_some (mark_of t.text)) self.old ≡ false) × (self.new ≡ self.old)) (λ t. (self.old ≡ tok_of t ∷ self.new) × ((is_word (tok_of t) && is_some (mark_of (tok_of t).text)) ≡ true)) }
+        ensures { MatchOption result
+            ((first_fits (λ t. is_word t && is_some (mark_of t.text)) self.old ≡ false)
+            × (self.new ≡ self.old))
+            (λ t. (self.old ≡ tok_of t ∷ self.new)
+            × ((is_word (tok_of t) && is_some (mark_of (tok_of t).text)) ≡ true)) }
     {
         match self.peek() {
             Some(token) if is_mark_word(&token) => self.next(),
@@ -170,7 +179,9 @@ impl<'a> Tokens<'a> {
 
     /// Takes the first token where it is decimal digits.
     pub(crate) fn take_digits(&mut self) -> Option<Token<'a>>
-        ensures { MatchOption result ((first_fits (λ t. is_whole t.text) self.old ≡ false) × (self.new ≡ self.old)) (λ t. (self.old ≡ tok_of t ∷ self.new) × (is_whole (tok_of t).text ≡ true)) }
+        ensures { MatchOption result
+            ((first_fits (λ t. is_whole t.text) self.old ≡ false) × (self.new ≡ self.old))
+            (λ t. (self.old ≡ tok_of t ∷ self.new) × (is_whole (tok_of t).text ≡ true)) }
     {
         match self.peek() {
             Some(token) if is_whole(token.text) => self.next(),
@@ -180,7 +191,9 @@ impl<'a> Tokens<'a> {
 
     /// Takes the first token where it begins a line of the header.
     pub(crate) fn take_header_word(&mut self) -> Option<Token<'a>>
-        ensures { MatchOption result ((first_fits (λ t. is_header_word t.text) self.old ≡ false) × (self.new ≡ self.old)) (λ t. (self.old ≡ tok_of t ∷ self.new) × (is_header_word (tok_of t).text ≡ true)) }
+        ensures { MatchOption result
+            ((first_fits (λ t. is_header_word t.text) self.old ≡ false) × (self.new ≡ self.old))
+            (λ t. (self.old ≡ tok_of t ∷ self.new) × (is_header_word (tok_of t).text ≡ true)) }
     {
         match self.peek() {
             Some(token) if is_header_word(token.text) => self.next(),
@@ -190,7 +203,9 @@ impl<'a> Tokens<'a> {
 
     /// Takes the first token where it begins a connection of a pin.
     pub(crate) fn take_pin_row(&mut self) -> Option<Token<'a>>
-        ensures { MatchOption result ((first_fits (λ t. is_pin_row t.text) self.old ≡ false) × (self.new ≡ self.old)) (λ t. (self.old ≡ tok_of t ∷ self.new) × (is_pin_row (tok_of t).text ≡ true)) }
+        ensures { MatchOption result
+            ((first_fits (λ t. is_pin_row t.text) self.old ≡ false) × (self.new ≡ self.old))
+            (λ t. (self.old ≡ tok_of t ∷ self.new) × (is_pin_row (tok_of t).text ≡ true)) }
     {
         match self.peek() {
             Some(token) if is_pin_row(token.text) => self.next(),
@@ -200,7 +215,9 @@ impl<'a> Tokens<'a> {
 
     /// Takes the first token where it is an index.
     pub(crate) fn take_index(&mut self) -> Option<Token<'a>>
-        ensures { MatchOption result ((first_fits (λ t. is_index t.text) self.old ≡ false) × (self.new ≡ self.old)) (λ t. (self.old ≡ tok_of t ∷ self.new) × (is_index (tok_of t).text ≡ true)) }
+        ensures { MatchOption result
+            ((first_fits (λ t. is_index t.text) self.old ≡ false) × (self.new ≡ self.old))
+            (λ t. (self.old ≡ tok_of t ∷ self.new) × (is_index (tok_of t).text ≡ true)) }
     {
         match self.peek() {
             Some(token) if is_index(token.text) => self.next(),
@@ -231,7 +248,9 @@ fn refuse(out: &mut Vec<Event>, code: Code, at: usize) -> Stop
 
 /// Writes a fault where there is one, and reading goes on.
 pub(crate) fn note(out: &mut Vec<Event>, flawed: bool, code: Code, at: usize) -> Result<(), Memory>
-    ensures { IfOk result (λ _. (rest : List Event) → out.new.items ++ rest ≡ out.old.items ++ noted flawed (fault code at) rest) }
+    ensures { IfOk result
+        (λ _. (rest : List Event) → out.new.items ++ rest
+        ≡ out.old.items ++ noted flawed (fault code at) rest) }
 {
     if !flawed {
         return Ok(());
@@ -241,7 +260,8 @@ pub(crate) fn note(out: &mut Vec<Event>, flawed: bool, code: Code, at: usize) ->
 
 /// The text ends too early, or its header lacks something.
 pub(crate) fn missing(context: &Context<'_>, out: &mut Vec<Event>) -> Stop
-    ensures { result ≡ Stop.Refused → out.new.items ≡ out.old.items ++ fault Code.SpefBadHeader context.now.size ∷ [] }
+    ensures { result ≡ Stop.Refused → out.new.items
+        ≡ out.old.items ++ fault Code.SpefBadHeader context.now.size ∷ [] }
 {
     refuse(out, Code::SpefBadHeader, context.size)
 }
@@ -270,7 +290,8 @@ pub(crate) fn unexpected(
     strings: bool,
     token: &Token<'_>,
 ) -> Stop
-    ensures { result ≡ Stop.Refused → out.new.items ≡ out.old.items ++ unexpected context.now strings (tok_of token.now) }
+    ensures { result ≡ Stop.Refused → out.new.items
+        ≡ out.old.items ++ unexpected context.now strings (tok_of token.now) }
 {
     refuse(out, Code::SpefBadHeader, misfit_at(context, strings, token))
 }
@@ -281,7 +302,10 @@ pub(crate) fn any<'a>(
     tokens: &mut Tokens<'a>,
     out: &mut Vec<Event>,
 ) -> Result<Token<'a>, Stop>
-    ensures { MatchResult result (λ t. (tokens.old ≡ tok_of t ∷ tokens.new) × (out.new.items ≡ out.old.items)) (λ stop. stop ≡ Stop.Refused → (tokens.old ≡ []) × (out.new.items ≡ out.old.items ++ fault Code.SpefBadHeader context.now.size ∷ [])) }
+    ensures { MatchResult result
+        (λ t. (tokens.old ≡ tok_of t ∷ tokens.new) × (out.new.items ≡ out.old.items))
+        (λ stop. stop ≡ Stop.Refused → (tokens.old ≡ [])
+        × (out.new.items ≡ out.old.items ++ fault Code.SpefBadHeader context.now.size ∷ [])) }
 {
     match tokens.next() {
         Some(token) => Ok(token),

@@ -62,7 +62,8 @@ fn is_triplet(word: &[u8]) -> bool
 /// The decimal that a value gives: a decimal alone, or the second of three with colons between.
 #[tactic(auto, unfolding(crate::specs::Words::written))]
 pub(crate) fn written(word: &[u8]) -> Option<&[u8]>
-    ensures { MatchOption result (written word.now ≡ None) (λ found. written word.now ≡ Some found.now) }
+    ensures { MatchOption result (written word.now ≡ None)
+        (λ found. written word.now ≡ Some found.now) }
 {
     if is_decimal(word) {
         return Some(word);
@@ -115,7 +116,8 @@ fn written_size(unit: Option<Unit>, word: &[u8]) -> Option<Size>
 /// The size of a word that has the form of a value; none where it has not.
 #[tactic(auto, using(crate::proofs::ValueLemmas::sized_form))]
 pub(crate) fn formed_value(unit: Option<Unit>, word: &[u8]) -> Option<Option<Size>>
-    ensures { MatchOption result (is_some (written word.now) ≡ false) (λ size. (is_some (written word.now) ≡ true) × (size ≡ value_of unit word.now)) }
+    ensures { MatchOption result (is_some (written word.now) ≡ false)
+        (λ size. (is_some (written word.now) ≡ true) × (size ≡ value_of unit word.now)) }
 {
     let size = value_of(unit, word);
     if size.is_some() || written(word).is_some() {
@@ -156,7 +158,10 @@ pub(crate) fn note_value(
     size: &Option<Size>,
 ) -> Result<(), Memory>
     requires { size.now ≡ value_of unit (tok_of token.now).text }
-    ensures { IfOk result (λ _. (rest : List Event) → out.new.items ++ rest ≡ out.old.items ++ noted (is_no_value unit (tok_of token.now).text) (bad_number token.now.start) rest) }
+    ensures { IfOk result
+        (λ _. (rest : List Event) → out.new.items ++ rest
+        ≡ out.old.items ++ noted (is_no_value unit (tok_of token.now).text)
+        (bad_number token.now.start) rest) }
 {
     let flawed = size.is_none() && is_no_value(unit, token.text);
     note(out, flawed, Code::SpefBadNumber, token.start)
@@ -168,7 +173,12 @@ pub(crate) fn value(
     unit: Option<Unit>,
     token: &Token<'_>,
 ) -> Result<Option<Size>, Memory>
-    ensures { IfOk result (λ size. (size ≡ value_of unit (tok_of token.now).text) × ((rest : List Event) → out.new.items ++ rest ≡ out.old.items ++ noted (is_no_value unit (tok_of token.now).text) (bad_number token.now.start) rest)) }
+    ensures { IfOk result
+        (λ size. (size ≡ value_of unit (tok_of token.now).text)
+        ×
+        ((rest : List Event) → out.new.items ++ rest
+        ≡ out.old.items ++ noted (is_no_value unit (tok_of token.now).text)
+        (bad_number token.now.start) rest)) }
 {
     let size = value_of(unit, token.text);
     note_value(out, unit, token, &size)?;

@@ -97,7 +97,11 @@ fn push_spelled(
     byte: u8,
     rest: &[u8],
 ) -> Result<(), Memory>
-    ensures { IfOk result (λ _. name.new.items ≡ name.old.items ++ (if escapes escaped byte rest.now then [] else (if escaped then byte else unescaped bus byte) ∷ [])) }
+    ensures { IfOk result
+        (λ _. name.new.items
+        ≡ name.old.items ++
+        (if escapes escaped byte rest.now then [] else
+        (if escaped then byte else unescaped bus byte) ∷ [])) }
 {
     if escapes(escaped, byte, rest) {
         return Ok(());
@@ -147,7 +151,9 @@ fn add_piece(
     byte: u8,
     rest: &[u8],
 ) -> Result<(usize, bool), Memory>
-    ensures value { IfOk result (λ piece. name.new.items ++ spelled bus piece.1 (drop piece.0 rest.now) ≡ name.old.items ++ spelled bus escaped (byte ∷ rest.now)) }
+    ensures value { IfOk result
+        (λ piece. name.new.items ++ spelled bus piece.1 (drop piece.0 rest.now)
+        ≡ name.old.items ++ spelled bus escaped (byte ∷ rest.now)) }
     ensures within { IfOk result (λ piece. piece.0 ≤ length rest.now) }
 {
     push_spelled(name, bus, escaped, byte, rest)?;

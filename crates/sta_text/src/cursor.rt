@@ -69,7 +69,8 @@ impl<'a> Cursor<'a> {
     /// Takes the next token; none exactly where no token is left. Takes no memory.
     #[tactic(auto, using(crate::proofs::TokensLemmas::skipped), unfolding(crate::specs::Tokens::tokens))]
     pub fn next(&mut self) -> Option<Token<'a>>
-        ensures { MatchOption result ((self.old ≡ []) × (self.new ≡ [])) (λ t. self.old ≡ tok_of t ∷ self.new) }
+        ensures { MatchOption result ((self.old ≡ []) × (self.new ≡ []))
+            (λ t. self.old ≡ tok_of t ∷ self.new) }
     {
         while let Some((first, behind)) = self.rest.split_first() {
             let piece = front(self.style, self.context, *first, behind);

@@ -21,7 +21,9 @@ fn set_insert<'a>(
     name: &'a [u8],
 ) -> Result<bool, AllocFailed<&'a [u8]>>
     ensures found { IfOk result (λ new. new ≡ not (stands (texts names.old.keys) name.entry.now)) }
-    ensures list { IfOk result (λ new. texts names.new.keys ≡ (if new then texts names.old.keys ++ name.entry.now ∷ [] else texts names.old.keys)) }
+    ensures list { IfOk result
+        (λ new. texts names.new.keys
+        ≡ (if new then texts names.old.keys ++ name.entry.now ∷ [] else texts names.old.keys)) }
 {
     names.insert(name)
 }
@@ -29,7 +31,9 @@ fn set_insert<'a>(
 /// Adds a name; whether it was new.
 fn set_add<'a>(names: &mut IndexSet<&'a [u8]>, name: &'a [u8]) -> Result<bool, Memory>
     ensures found { IfOk result (λ new. new ≡ not (stands (texts names.old.keys) name.entry.now)) }
-    ensures list { IfOk result (λ new. texts names.new.keys ≡ (if new then texts names.old.keys ++ name.entry.now ∷ [] else texts names.old.keys)) }
+    ensures list { IfOk result
+        (λ new. texts names.new.keys
+        ≡ (if new then texts names.old.keys ++ name.entry.now ∷ [] else texts names.old.keys)) }
 {
     match set_insert(names, name) {
         Ok(new) => Ok(new),
@@ -73,8 +77,11 @@ impl<'a> Names<'a> {
     /// Adds a name; whether it was new.
     pub fn add(&mut self, name: &'a [u8]) -> Result<bool, Memory>
         ensures found { IfOk result (λ new. new ≡ not (stands self.old name.entry.now)) }
-        ensures list { IfOk result (λ new. self.new ≡ (if new then self.old ++ name.entry.now ∷ [] else self.old)) }
-        ensures any { IfOk result (λ new. (q : List ℕ) → stands self.new q ≡ (bytes_eq q name.entry.now || stands self.old q)) }
+        ensures list { IfOk result
+            (λ new. self.new ≡ (if new then self.old ++ name.entry.now ∷ [] else self.old)) }
+        ensures any { IfOk result
+            (λ new. (q : List ℕ) → stands self.new q
+            ≡ (bytes_eq q name.entry.now || stands self.old q)) }
     {
         set_add(&mut self.names, name)
     }

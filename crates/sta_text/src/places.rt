@@ -20,8 +20,12 @@ fn map_set<'a>(
     name: &'a [u8],
     number: usize,
 ) -> Result<Option<usize>, AllocFailed<(&'a [u8], usize)>>
-    ensures any { OnOk result ((q : List ℕ) → said (pairs numbers.new.entries) q ≡ (if bytes_eq q name.entry.now then Some number else said (pairs numbers.old.entries) q)) }
-    ensures list { OnOk result (said (pairs numbers.old.entries) name.entry.now ≡ None → pairs numbers.new.entries ≡ pairs numbers.old.entries ++ (name.entry.now, number) ∷ []) }
+    ensures any { OnOk result
+        ((q : List ℕ) → said (pairs numbers.new.entries) q
+        ≡ (if bytes_eq q name.entry.now then Some number else said (pairs numbers.old.entries) q)) }
+    ensures list { OnOk result
+        (said (pairs numbers.old.entries) name.entry.now ≡ None → pairs numbers.new.entries
+        ≡ pairs numbers.old.entries ++ (name.entry.now, number) ∷ []) }
 {
     numbers.insert(name, number)
 }
@@ -62,8 +66,12 @@ impl<'a> Places<'a> {
 
     /// Sets the number of the name, in the place of the one before.
     pub fn set(&mut self, name: &'a [u8], number: usize) -> Result<(), Memory>
-        ensures any { OnOk result ((q : List ℕ) → said self.new q ≡ (if bytes_eq q name.entry.now then Some number else said self.old q)) }
-        ensures list { OnOk result (said self.old name.entry.now ≡ None → self.new ≡ self.old ++ (name.entry.now, number) ∷ []) }
+        ensures any { OnOk result
+            ((q : List ℕ) → said self.new q
+            ≡ (if bytes_eq q name.entry.now then Some number else said self.old q)) }
+        ensures list { OnOk result
+            (said self.old name.entry.now ≡ None → self.new
+            ≡ self.old ++ (name.entry.now, number) ∷ []) }
     {
         match map_set(&mut self.numbers, name, number) {
             Ok(_) => Ok(()),

@@ -59,7 +59,8 @@ pub fn own_name(store: &Store, pin: u32) -> &[u8]
 /// The pins on a net, each once.
 pub fn pins_on(store: &Store, net: u32) -> &[u32]
     requires { is_number store.now.nets net ≡ true }
-    ensures counts { (pin : ℕ) → count_by (nat_eq pin) result.now ≡ (if is_on_number store.now net pin then 1 else 0) }
+    ensures counts { (pin : ℕ) → count_by (nat_eq pin) result.now
+        ≡ (if is_on_number store.now net pin then 1 else 0) }
     ensures numbers { All (λ pin. is_number store.now.pins pin ≡ true) result.now }
     ensures on { All (λ pin. is_on_number store.now net pin ≡ true) result.now }
     ensures all { (pin : ℕ) → is_on_number store.now net pin ≡ true → Contains result.now pin }
@@ -73,7 +74,8 @@ pub fn net_driver(store: &Store, net: u32) -> Option<u32>
     requires fault { net_fault store.now.design ≡ None }
     ensures at { result ≡ driver_at store.now net }
     ensures number { IfSome result (λ pin. is_number store.now.pins pin ≡ true) }
-    ensures driver { option_and_then (pin_numbered store.now) result ≡ option_and_then (driver store.now.design) (name_at store.now.nets net) }
+    ensures driver { option_and_then (pin_numbered store.now) result
+        ≡ option_and_then (driver store.now.design) (name_at store.now.nets net) }
 {
     store.laws();
     for pin in pins_on(store, net) {

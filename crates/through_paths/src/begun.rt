@@ -77,7 +77,10 @@ fn begun_at(
 ) -> Result<u32, Memory>
     requires few { length wanted.now < 2 ^ 31 }
     requires place { place < length order.now.nodes.now }
-    ensures { IfOk result (λ passed. passed ≡ begun_at (places_before order.now.graph.now order.now.nodes.now) order.now.nodes.now wanted.now place) }
+    ensures { IfOk result
+        (λ passed. passed
+        ≡ begun_at (places_before order.now.graph.now order.now.nodes.now) order.now.nodes.now
+        wanted.now place) }
 {
     let before = order.nodes_before(alloc, place)?;
     let passed = pass_all(order.nodes, wanted, before.as_slice());
@@ -96,7 +99,12 @@ fn note_launches(
     requires few { length wanted.now < 2 ^ 31 }
     requires places { length begun.old ≡ length order.now.nodes.now }
     requires launches { All (λ launch. launch.node < length begun.old) launches.now }
-    ensures { OnOk result ((n : ℕ) → slice_index begun.new n ≡ (if is_launched launches.now n then begun_at (places_before order.now.graph.now order.now.nodes.now) order.now.nodes.now wanted.now n else slice_index begun.old n)) }
+    ensures { OnOk result
+        ((n : ℕ) → slice_index begun.new n
+        ≡
+        (if is_launched launches.now n then begun_at
+        (places_before order.now.graph.now order.now.nodes.now) order.now.nodes.now wanted.now n
+        else slice_index begun.old n)) }
 {
     for launch in launches {
         let passed = begun_at(alloc, order, wanted, launch.node)?;
@@ -116,7 +124,9 @@ pub(crate) fn begun_in(
     requires cone { IsCone cone.now }
     requires count { count_of cone.now ≡ length order.now.nodes.now }
     requires few { length wanted.now < 2 ^ 31 }
-    ensures { IfOk result (λ begun. AreBegun (places_before order.now.graph.now order.now.nodes.now) cone.now order.now.nodes.now wanted.now begun.items) }
+    ensures { IfOk result
+        (λ begun. AreBegun (places_before order.now.graph.now order.now.nodes.now) cone.now
+        order.now.nodes.now wanted.now begun.items) }
 {
     let mut begun = vec![in alloc; 0; cone.count as usize]?;
     for end in cone.ends.as_slice() {

@@ -64,9 +64,11 @@ fn through_in<A: Rows + Delayed>(
     search: &PinCone,
     pins: &[Name],
 ) -> Result<Option<Path>, Memory>
-    requires sources { AreSources sources.now.store.now sources.now.graph.now (A.rows sources.now.arrivals.now) (A.delays sources.now.arrivals.now) sources.now.tree.now }
+    requires sources { AreSources sources.now.store.now sources.now.graph.now
+        (A.rows sources.now.arrivals.now) (A.delays sources.now.arrivals.now) sources.now.tree.now }
     requires search { IsPinCone sources.now.graph.now sources.now.kind endpoint.now search.now }
-    ensures { IfOk result (IsThrough sources.now.store.now.design sources.now.kind endpoint.now pins.now) }
+    ensures { IfOk result
+        (IsThrough sources.now.store.now.design sources.now.kind endpoint.now pins.now) }
 {
     if MOST_PINS < pins.len() {
         return Err(Memory);

@@ -61,7 +61,8 @@ fn push_from(
     requires stops { length stops.now < most_nodes }
     requires stage { from < stages }
     requires low { All (λ arc. arc.from * stages + stages ≤ most_nodes) listed.now }
-    ensures { OnOk result (arcs.new ≡ arcs.old ++ arcs_from stops.now stages listed.now place from to) }
+    ensures { OnOk result
+        (arcs.new ≡ arcs.old ++ arcs_from stops.now stages listed.now place from to) }
 {
     if next_stop(stops, from, place) == to {
         return push_arcs(arcs, listed, stages, from);
@@ -81,7 +82,8 @@ fn push_onto(
     requires stops { length stops.now < most_nodes }
     requires stage { stage < stages }
     requires low { All (λ arc. arc.from * stages + stages ≤ most_nodes) listed.now }
-    ensures { OnOk result (arcs.new ≡ arcs.old ++ arcs_onto stops.now stages listed.now place stage) }
+    ensures { OnOk result
+        (arcs.new ≡ arcs.old ++ arcs_onto stops.now stages listed.now place stage) }
 {
     push_from(arcs, listed, stops, stages, place, stage, stage)?;
     if stage == 0 {
@@ -155,7 +157,9 @@ pub(crate) fn list_arcs(
     requires marks { AreFirst cone.now marks.now }
     requires stops { length stops.now < stages }
     requires few { count_of cone.now * stages < most_nodes }
-    ensures { IfOk result (λ l. AreParts (count_of cone.now * stages) (arcs_layered stops.now stages cone.now) l.starts l.arcs) }
+    ensures { IfOk result
+        (λ l. AreParts (count_of cone.now * stages) (arcs_layered stops.now stages cone.now)
+        l.starts l.arcs) }
 {
     let count = cone.count * stages;
     let mut starts = first_start(alloc, count)?;

@@ -59,7 +59,8 @@ impl<O: WalkOrder> WalkOrder for Layered<'_, O> {
 
     ghost rank = { λ layered. rank_on layered.stages layered.count (O.rank layered.order.now) };
 
-    ghost before = { λ layered. before_on layered.stages layered.count (O.before layered.order.now) };
+    ghost before = { λ layered. before_on layered.stages layered.count
+        (O.before layered.order.now) };
 
     #[tactic(auto, using(crate::proofs::Knowing::place_known, crate::proofs::Knowing::stages_there))]
     fn comes_first(&self, one: u32, other: u32) -> bool {

@@ -85,8 +85,12 @@ fn worst_in<O: WalkOrder>(
     order: &O,
 ) -> Result<Option<Walk>, Memory>
     requires layers { IsCone layers.now }
-    requires order { IsOrdered layers.now (known_on stages (count_of layers.now) (O.count order.now)) (rank_on stages (count_of layers.now) (O.rank order.now)) }
-    ensures { IfOk result (IsWorst (rank_on stages (count_of layers.now) (O.rank order.now)) (before_on stages (count_of layers.now) (O.before order.now)) layers.now) }
+    requires order { IsOrdered layers.now
+        (known_on stages (count_of layers.now) (O.count order.now))
+        (rank_on stages (count_of layers.now) (O.rank order.now)) }
+    ensures { IfOk result
+        (IsWorst (rank_on stages (count_of layers.now) (O.rank order.now))
+        (before_on stages (count_of layers.now) (O.before order.now)) layers.now) }
 {
     let order = Layered {
         order,
@@ -115,7 +119,8 @@ pub fn through_walk<O: WalkOrder>(
     requires cone { IsCone cone.now }
     requires order { IsOrdered cone.now (O.count order.now) (O.rank order.now) }
     requires begun { length begun.now ≡ count_of cone.now }
-    ensures { IfOk result (IsWorstThrough (O.rank order.now) (O.before order.now) cone.now stops.now begun.now) }
+    ensures { IfOk result
+        (IsWorstThrough (O.rank order.now) (O.before order.now) cone.now stops.now begun.now) }
 {
     let stages = stages_for(cone, stops, begun)?;
     let layers = layered(alloc, cone, stops, stages, begun)?;

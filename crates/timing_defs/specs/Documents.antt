@@ -8,7 +8,9 @@ use Rattle.std.specs.Option.{option_map_or}
 use Rattle.std.specs.Str.{bytes_eq}
 use Rattle.sta_units.specs.Numbers.{is_within}
 use Rattle.timing_defs.specs.declared.reports.Query.{Query}
-use Rattle.timing_defs.specs.declared.reports.Query.TheVariants.{Slew, At, Rat, Slack, Endpoint, WorstPath, Wns, Tns, Worst, Through, Paths, WhatIf', Advise}
+use Rattle.timing_defs.specs.declared.reports.Query.TheVariants.{Slew, At, Rat, Slack, Endpoint, WorstPath, Wns, Tns, Worst, Through, Paths, WhatIf', Advise, Closing}
+use Rattle.timing_defs.specs.declared.closing.ClosingQuery.{ClosingQuery}
+use Rattle.timing_defs.specs.declared.closing.ClosingQuery.TheVariants.{TimingThrough, WorstPaths, AdviseTns, AdviseSizes}
 use Rattle.timing_defs.specs.declared.kinds.Dir.{Dir}
 use Rattle.timing_defs.specs.declared.kinds.Dir.TheVariants.{Input, Output}
 use Rattle.timing_defs.specs.declared.library.Cell.{Cell}
@@ -45,6 +47,7 @@ is_plain (Through pin kind pins) = false
 is_plain (Paths pin kind count) = false
 is_plain (WhatIf' shape trials) = false
 is_plain (Advise kind candidates) = false
+is_plain (Closing query) = false
 is_plain (Slew pin split tran) = true
 is_plain (At pin split tran) = true
 is_plain (Rat pin split tran) = true
@@ -182,21 +185,35 @@ is_eco eco = nat_le 1 (length eco.edits) && nat_le (length eco.edits) 1000 && li
 abbrev pub is_count : ℕ → ℕ → Bool
 is_count most n = nat_le 1 n && nat_le n most
 
--- a trial: a draft is asked plain questions
-abbrev pub is_trial : Trial → Bool
-is_trial (Try eco) = is_eco eco
-is_trial Drop = true
-is_trial (ask_draft (Worst kind count)) = is_count 100 count
-is_trial (ask_draft q) = is_plain q
+-- a question that closing timing needs: 1 to 16 pins, 1 to 100 paths and of each endpoint no more than these, 1 to 100
+-- candidates, an instance at least
+abbrev pub is_closing : ClosingQuery → Bool
+is_closing (TimingThrough pin kind pins) = is_count 16 (length pins)
+is_closing (WorstPaths kind count each) = is_count 100 count && is_count count each
+is_closing (AdviseTns kind candidates) = is_count 100 (length candidates)
+is_closing (AdviseSizes kind aim insts) = nat_le 1 (length insts)
+is_closing q = true
 
--- a question of a script: 1 to 100 endpoints or paths, 1 to 16 pins, 1 to 100 trials or candidates
+-- a question that is no draft: 1 to 100 endpoints or paths, 1 to 16 pins, 1 to 100 candidates
+abbrev pub is_single : Query → Bool
+is_single (Worst kind count) = is_count 100 count
+is_single (Through pin kind pins) = is_count 16 (length pins)
+is_single (Paths pin kind count) = is_count 100 count
+is_single (WhatIf' shape trials) = false
+is_single (Advise kind candidates) = is_count 100 (length candidates)
+is_single (Closing query) = is_closing query
+is_single q = is_plain q
+
+-- a trial of a draft that is asked any question but about a draft
+abbrev pub is_draft_trial : Trial → Bool
+is_draft_trial (Try eco) = is_eco eco
+is_draft_trial Drop = true
+is_draft_trial (ask_draft q) = is_single q
+
+-- a question of a script: one that is no draft, or 1 to 100 trials
 abbrev pub is_question : Query → Bool
-is_question (Worst kind count) = is_count 100 count
-is_question (Through pin kind pins) = is_count 16 (length pins)
-is_question (Paths pin kind count) = is_count 100 count
-is_question (WhatIf' shape trials) = is_count 100 (length (trials_in trials)) && list_all is_trial (trials_in trials)
-is_question (Advise kind candidates) = is_count 100 (length candidates)
-is_question q = is_plain q
+is_question (WhatIf' shape trials) = is_count 100 (length (trials_in trials)) && list_all is_draft_trial (trials_in trials)
+is_question q = is_single q
 
 -- a command: 1 to 1,000 looks
 abbrev pub is_command : Command → Bool

@@ -84,8 +84,16 @@ impl From<AllocError> for Fault {
     }
 }
 
-/// Why a question has no answer: there is no such pin (`Q1`), the pin is no endpoint (`Q2`), or it
-/// is on no clock network that the question needs (`Q3`).
+/// What a question asks too many of: instances, or candidates of a resize.
+#[derive(Clone, Copy, Drop)]
+pub enum Many {
+    Instances,
+    Candidates,
+}
+
+/// Why a question has no answer: there is no such pin (`Q1`), the pin is no endpoint (`Q2`), it is on
+/// no clock network that the question needs (`Q3`), there is no such net, instance or usable cell (`Q4`), or it
+/// asks too many (`Q5`).
 #[derive(Drop)]
 pub enum QueryFault {
     /// `Q1`
@@ -94,6 +102,10 @@ pub enum QueryFault {
     NotEndpoint(Name),
     /// `Q3`
     NotClocked(Name),
+    /// `Q4`
+    UnknownName(Name),
+    /// `Q5`
+    TooMany(Many),
     /// Want of memory.
     Memory,
 }

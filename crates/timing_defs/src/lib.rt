@@ -3,6 +3,8 @@
 //! resistances whole milliohms (mΩ).
 #![tactic(auto)]
 
+mod closing;
+mod closing_copies;
 mod codes;
 mod constraints;
 mod copies;
@@ -23,6 +25,12 @@ mod rows;
 mod scripts;
 mod texts;
 
+pub use closing::{
+    AdviceReport, Aim, ClockSummary, ClosingQuery, ClosingReport, DrivenNet, FailingEndpoints,
+    InstanceReport, Junction, NetReport, PathStage, PinReport, RequiredParts, SinkReport,
+    SizeAdvice, SizeChoice, SizesReport, SkewReport, SlackTotals, TestSort, TimedPath,
+    TimingSummary, WireModel,
+};
 pub use codes::{Code, ReadFault};
 pub use constraints::{
     Clock, Constraints, Derates, Effect, Exception, Object, PortDelay, PortLoad, PortSlew,
@@ -30,7 +38,7 @@ pub use constraints::{
 pub use design::Design;
 pub use edge_times::{EdgeTime, EdgeTimes, LaunchEdge};
 pub use edits::{Eco, Edit, Entry};
-pub use faults::{Fault, Large, Place, QueryFault};
+pub use faults::{Fault, Large, Many, Place, QueryFault};
 pub use items::Items;
 pub use kinds::{ArcKind, Dir, Kind, Split, Tran};
 pub use liberty_tree::{Item, Lexeme, Tree};

@@ -72,6 +72,9 @@ fn query_again(alloc: Global, query: &Query) -> Result<Query, Memory>
             kind: *kind,
             candidates: candidates.again(alloc)?,
         },
+        Query::Closing { query } => Query::Closing {
+            query: query.again(alloc)?,
+        },
     })
 }
 

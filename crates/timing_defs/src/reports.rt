@@ -1,5 +1,6 @@
 //! Questions about a design's timing and their answers.
 
+use crate::closing::{ClosingQuery, ClosingReport};
 use crate::edge_times::EdgeTime;
 use crate::edits::Eco;
 use crate::faults::{Fault, QueryFault};
@@ -12,7 +13,8 @@ use sta_units::Fs;
 /// A question: slew, arrivals, required times or graph slack of a node; slack or worst path of an
 /// endpoint; worst slack, total negative slack or the worst endpoints (at most `count`) of a kind;
 /// the worst path of an endpoint that passes the pins in order, or its worst paths (at most
-/// `count`); what trials on a draft of the design answer; which resize is the best.
+/// `count`); what trials on a draft of the design answer; which resize is the best; a question that
+/// closing timing needs.
 #[derive(Drop)]
 #[cycle(question)]
 pub enum Query {
@@ -71,6 +73,9 @@ pub enum Query {
         kind: Kind,
         candidates: Items<Candidate>,
     },
+    Closing {
+        query: ClosingQuery,
+    },
 }
 
 /// A trial on a draft: edits are tried, the last accepted ones are dropped, or the draft is asked.
@@ -105,8 +110,8 @@ pub struct Advice {
 }
 
 /// The answer to a question: one time in fs or none, times per launch edge, a path or none,
-/// endpoints from the least slack on, paths from the worst on, the rows of a draft, or an advice
-/// or none.
+/// endpoints from the least slack on, paths from the worst on, the rows of a draft, an advice or
+/// none, or what closing timing needs.
 #[derive(Drop)]
 #[cycle(answer)]
 pub enum Report {
@@ -117,6 +122,7 @@ pub enum Report {
     Paths(Items<Path>),
     Drafted(Items<TrialRow>),
     Advised(Option<Advice>),
+    Closing(ClosingReport),
 }
 
 /// The row of a trial: the question where it asks, and the answer.

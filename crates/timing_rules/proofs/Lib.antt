@@ -1,3 +1,4 @@
 pub mod RowLaws
 pub mod LongerJournals
 pub mod TrialLaws
+pub mod ClosingLaws

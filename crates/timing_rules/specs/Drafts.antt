@@ -11,7 +11,7 @@ use Rattle.timing_defs.specs.declared.reports.TrialRow.{TrialRow}
 use Rattle.timing_defs.specs.declared.reports.TrialAnswer.{TrialAnswer}
 use Rattle.timing_defs.specs.declared.reports.TrialAnswer.TheVariants.{Tried, Refused, Dropped, NoDraft, No, Told}
 use Rattle.timing_rules.specs.Checks.{Accepts, Refuses}
-use Rattle.timing_rules.specs.Reports.{PlainTold, plain_fault}
+use Rattle.timing_rules.specs.Singles.{SingleTold, single_fault}
 
 -- the design that a draft shows: the last one, or the snapshot's
 abbrev pub shown_design : Design → List Design → Design
@@ -26,9 +26,9 @@ Tries snapshot designs (Try eco) (Refused x) next = Refuses (shown_design snapsh
 -- the last design is dropped, unless the snapshot's is the only one
 Tries snapshot designs Drop Dropped next = (d : Design) × (designs ≡ next ++ d ∷ [])
 Tries snapshot designs Drop NoDraft next = (designs ≡ []) × (next ≡ [])
--- a plain question is asked of the design that is shown
-Tries snapshot designs (Ask q) (Told r) next = PlainTold (shown_design snapshot designs) q r × (next ≡ designs)
-Tries snapshot designs (Ask q) (No x) next = (plain_fault (shown_design snapshot designs) q ≡ Some x) × (next ≡ designs)
+-- a question that is no draft is asked of the design that is shown
+Tries snapshot designs (Ask q) (Told r) next = SingleTold (shown_design snapshot designs) q r × (next ≡ designs)
+Tries snapshot designs (Ask q) (No x) next = (single_fault (shown_design snapshot designs) q ≡ Some x) × (next ≡ designs)
 Tries snapshot designs trial answer next = ⊥
 
 abbrev pub asked : Trial → Option Query

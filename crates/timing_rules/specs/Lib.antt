@@ -10,7 +10,13 @@ pub mod Checks
 pub mod Reports
 pub mod Through
 pub mod Ranking
-pub mod Drafts
 pub mod Advice
+pub mod Connections
+pub mod Stages
+pub mod Summaries
+pub mod SizeAdvice
+pub mod Closing
+pub mod Singles
+pub mod Drafts
 pub mod Questions
 pub mod Sessions

@@ -1,5 +1,5 @@
 -- What each plain question is answered, and when it is refused: the questions about one node, one endpoint or a
--- whole design. The others stand in `Questions`.
+-- whole design. The others stand in `Singles` and `Questions`.
 
 use Rattle.std.specs.Prelude.{ℕ, ◌≡◌, ◌^◌, ◌-◌, ℤ, pos, negsuc, ◌+ℤ◌, int_lt, nat_lt, Bool, true, false, not, if◌then◌else◌, List, [], ◌∷◌, map, filter, length, Option, Some, None, option_map, is_some, ⊤}
 use Rattle.std.specs.List.{Contains}
@@ -130,9 +130,6 @@ plain_fault d (Wns kind) = None
 plain_fault d (Tns kind) = None
 plain_fault d (Worst kind count) = None
 plain_fault d q = None
-
-abbrev pub PlainTold : Design → Query → Report → Type 0
-PlainTold d q r = (plain_fault d q ≡ None) × IsPlainReport d q r
 
 -- the totals of a design
 abbrev pub AreTotals : Design → ℕ → Totals → Type 0

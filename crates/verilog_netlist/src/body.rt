@@ -5,9 +5,11 @@ ghost use Rattle.std.specs.Str.{bytes_eq};
 ghost use Rattle.sta_text.specs.Tokens.{tok_of};
 ghost use Rattle.verilog_netlist.specs.Lexicon.{spelled, is_identifier};
 ghost use Rattle.verilog_netlist.specs.Grammar.{events, start, item, inst_name, inst_open, first_conn, conn, pin_name, net_open, net, net_next, bit_number, net_close, conn_next, inst_end, behind, events_of};
-ghost use Rattle.verilog_netlist.specs.Reads.{Reads, ReadsValue, Ends, conn_place, first_place, item_place};
+ghost use Rattle.verilog_netlist.specs.Reads.{Reads, ReadsValue, Ends, whole, conn_place, first_place, item_place};
+ghost use Rattle.verilog_netlist.specs.declared.events.Event.TheVariants as event;
+ghost use Rattle.verilog_netlist.specs.declared.events.Net.TheVariants as net_is;
 
-use crate::cursor::{Stop, any, identifier, is, leave_out, number, text, unexpected};
+use crate::cursor::{Stop, any, identifier, is, leave_out, number, text, unexpected, write};
 use crate::events::{Event, Net, Role};
 use crate::header::{declaration, header};
 use crate::lexicon::{
@@ -19,8 +21,44 @@ use sta_units::Memory;
 use std::alloc::Global;
 use timing_defs::{Name, Style};
 
-/// Takes the number of a bit of a net, of which the name and the opening bracket were taken.
+/// Takes the number of a bit of a net and what closes it, of which the name and the opening bracket
+/// were taken; the bit's name.
 #[tactic(auto, unfolding(crate::specs::Grammar::events))]
+fn bit_taken(
+    alloc: Global,
+    cursor: &mut Cursor<'_>,
+    size: usize,
+    out: &mut Vec<Event>,
+    pin: &Name,
+    token: Token<'_>,
+) -> Result<Name, Stop>
+    requires { is_identifier token.text.now ≡ true }
+    ensures { MatchResult result
+        (λ name. (out.new.items
+        ++ event.Connection pin.now (net_is.Bit name token.entry.start)
+        ∷ events size net_close cursor.new
+        ≡ whole size (bit_number pin.now (spelled token.entry.text.now) token.entry.start)
+        cursor.old out.old.items)
+        × (length cursor.new < length cursor.old))
+        (λ stop. stop ≡ Stop.Refused → out.new.items
+        ≡ whole size (bit_number pin.now (spelled token.entry.text.now) token.entry.start)
+        cursor.old out.old.items) }
+{
+    let place = number(cursor, size, out)?;
+    let close = any(cursor, size, out)?;
+    if is(&close, b"]") {
+        return match bit_of(alloc, token.text, number_of(place.text)) {
+            Ok(name) => Ok(name),
+            Err(Memory) => Err(Stop::Memory),
+        };
+    }
+    if is(&close, b":") {
+        return Err(leave_out(out, token.start));
+    }
+    Err(unexpected(out, size, &close))
+}
+
+/// Takes the number of a bit of a net, of which the name and the opening bracket were taken.
 fn bit(
     alloc: Global,
     cursor: &mut Cursor<'_>,
@@ -30,28 +68,44 @@ fn bit(
     token: Token<'_>,
 ) -> Result<(), Stop>
     requires { is_identifier token.text.now ≡ true }
-    ensures { Reads result size (bit_number pin (spelled token.entry.text.now) token.entry.start) net_close cursor.old cursor.new out.old.items out.new.items }
+    ensures { Reads result size (bit_number pin (spelled token.entry.text.now) token.entry.start)
+        net_close cursor.old cursor.new out.old.items out.new.items }
 {
-    let place = number(cursor, size, out)?;
-    let close = any(cursor, size, out)?;
-    if is(&close, b"]") {
-        let name = bit_of(alloc, token.text, number_of(place.text))?;
-        out.push(Event::Connection(pin, Net::Bit(name, token.start)))?;
-        return Ok(());
+    match bit_taken(alloc, cursor, size, out, &pin, token) {
+        Ok(name) => write(out, Event::Connection(pin, Net::Bit(name, token.start))),
+        Err(stop) => {
+            drop(pin);
+            Err(stop)
+        }
     }
-    if is(&close, b":") {
-        return Err(leave_out(out, token.start));
-    }
-    Err(unexpected(out, size, &close))
 }
 
 /// Takes the end of a connection behind a bit or a constant.
 #[tactic(auto, unfolding(crate::specs::Grammar::events))]
 fn net_close(cursor: &mut Cursor<'_>, size: usize, out: &mut Vec<Event>) -> Result<(), Stop>
-    ensures { Reads result size net_close conn_next cursor.old cursor.new out.old.items out.new.items }
+    ensures { Reads result size net_close conn_next cursor.old cursor.new out.old.items
+        out.new.items }
 {
     let _ = text(cursor, size, out, b")")?;
     Ok(())
+}
+
+/// Writes the connection of a pin to a net that is a name alone.
+fn whole_net(alloc: Global, out: &mut Vec<Event>, pin: Name, token: Token<'_>) -> Result<(), Stop>
+    requires { is_identifier token.text.now ≡ true }
+    ensures { MatchResult result
+        (λ _. out.new.items
+        ≡ out.old.items
+        ++ event.Connection pin (net_is.Alone (spelled token.entry.text.now) token.entry.start) ∷ [])
+        (λ stop. stop ≡ Stop.Memory) }
+{
+    match name_of(alloc, token.text) {
+        Ok(name) => write(out, Event::Connection(pin, Net::Alone(name, token.start))),
+        Err(Memory) => {
+            drop(pin);
+            Err(Stop::Memory)
+        }
+    }
 }
 
 /// Takes the net of a pin, of which the name was taken.
@@ -65,18 +119,24 @@ fn named_net(
     token: Token<'_>,
 ) -> Result<(), Stop>
     requires { is_identifier token.text.now ≡ true }
-    ensures { Reads result size (net_next pin (spelled token.entry.text.now) token.entry.start) conn_next cursor.old cursor.new out.old.items out.new.items }
+    ensures { Reads result size (net_next pin (spelled token.entry.text.now) token.entry.start)
+        conn_next cursor.old cursor.new out.old.items out.new.items }
 {
-    let next = any(cursor, size, out)?;
+    let next = match any(cursor, size, out) {
+        Ok(next) => next,
+        Err(stop) => {
+            drop(pin);
+            return Err(stop);
+        }
+    };
     if is(&next, b")") {
-        let name = name_of(alloc, token.text)?;
-        out.push(Event::Connection(pin, Net::Alone(name, token.start)))?;
-        return Ok(());
+        return whole_net(alloc, out, pin, token);
     }
     if is(&next, b"[") {
         bit(alloc, cursor, size, out, pin, token)?;
         return net_close(cursor, size, out);
     }
+    drop(pin);
     Err(unexpected(out, size, &next))
 }
 
@@ -89,23 +149,31 @@ fn net(
     out: &mut Vec<Event>,
     pin: Name,
 ) -> Result<(), Stop>
-    ensures { Reads result size (net pin) conn_next cursor.old cursor.new out.old.items out.new.items }
+    ensures { Reads result size (net pin) conn_next cursor.old cursor.new out.old.items
+        out.new.items }
 {
-    let token = any(cursor, size, out)?;
+    let token = match any(cursor, size, out) {
+        Ok(token) => token,
+        Err(stop) => {
+            drop(pin);
+            return Err(stop);
+        }
+    };
     if is(&token, b")") {
-        out.push(Event::Connection(pin, Net::Tied))?;
-        return Ok(());
+        return write(out, Event::Connection(pin, Net::Tied));
     }
     if is_constant(token.text) {
-        out.push(Event::Connection(pin, Net::Tied))?;
+        write(out, Event::Connection(pin, Net::Tied))?;
         return net_close(cursor, size, out);
     }
     if is(&token, b"{") {
+        drop(pin);
         return Err(leave_out(out, token.start));
     }
     if is_identifier(token.text) {
         return named_net(alloc, cursor, size, out, pin, token);
     }
+    drop(pin);
     Err(unexpected(out, size, &token))
 }
 
@@ -117,13 +185,17 @@ fn pin(
     size: usize,
     out: &mut Vec<Event>,
 ) -> Result<Name, Stop>
-    ensures { ReadsValue result size pin_name (λ pin. net pin) cursor.old cursor.new out.old.items out.new.items }
+    ensures { ReadsValue result size pin_name (λ pin. net pin) cursor.old cursor.new out.old.items
+        out.new.items }
 {
     let token = identifier(cursor, size, out)?;
-    let pin = name_of(alloc, token.text)?;
-    out.push(Event::Pin(name_of(alloc, token.text)?, token.start))?;
+    let name = name_of(alloc, token.text)?;
+    write(out, Event::Pin(name, token.start))?;
     let _ = text(cursor, size, out, b"(")?;
-    Ok(pin)
+    match name_of(alloc, token.text) {
+        Ok(pin) => Ok(pin),
+        Err(Memory) => Err(Stop::Memory),
+    }
 }
 
 /// Takes a connection, of which the first token was taken.
@@ -135,7 +207,8 @@ fn connection(
     out: &mut Vec<Event>,
     token: Token<'_>,
 ) -> Result<(), Stop>
-    ensures { Reads result size conn conn_next (tok_of token.entry ∷ cursor.old) cursor.new out.old.items out.new.items }
+    ensures { Reads result size conn conn_next (tok_of token.entry ∷ cursor.old) cursor.new
+        out.old.items out.new.items }
 {
     if is(&token, b".") {
         let pin = pin(alloc, cursor, size, out)?;
@@ -155,7 +228,8 @@ fn first_connection(
     size: usize,
     out: &mut Vec<Event>,
 ) -> Result<bool, Stop>
-    ensures { ReadsValue result size first_conn first_place cursor.old cursor.new out.old.items out.new.items }
+    ensures { ReadsValue result size first_conn first_place cursor.old cursor.new out.old.items
+        out.new.items }
 {
     let token = any(cursor, size, out)?;
     if is(&token, b")") {
@@ -172,7 +246,8 @@ fn more_connections(
     size: usize,
     out: &mut Vec<Event>,
 ) -> Result<bool, Stop>
-    ensures { ReadsValue result size conn_next conn_place cursor.old cursor.new out.old.items out.new.items }
+    ensures { ReadsValue result size conn_next conn_place cursor.old cursor.new out.old.items
+        out.new.items }
 {
     let token = any(cursor, size, out)?;
     if is(&token, b",") {
@@ -205,7 +280,8 @@ fn connections(
     size: usize,
     out: &mut Vec<Event>,
 ) -> Result<(), Stop>
-    ensures { Reads result size first_conn inst_end cursor.old cursor.new out.old.items out.new.items }
+    ensures { Reads result size first_conn inst_end cursor.old cursor.new out.old.items
+        out.new.items }
 {
     if !first_connection(alloc, cursor, size, out)? {
         return Ok(());
@@ -214,6 +290,29 @@ fn connections(
         next_connection(alloc, cursor, size, out)?;
     }
     Ok(())
+}
+
+/// Writes the instance of a cell, of which the name was taken.
+fn instance_named(
+    alloc: Global,
+    out: &mut Vec<Event>,
+    cell: Name,
+    token: Token<'_>,
+) -> Result<(), Stop>
+    requires { is_identifier token.text.now ≡ true }
+    ensures { MatchResult result
+        (λ _. out.new.items
+        ≡ out.old.items
+        ++ event.Instance cell (spelled token.entry.text.now) token.entry.start ∷ [])
+        (λ stop. stop ≡ Stop.Memory) }
+{
+    match name_of(alloc, token.text) {
+        Ok(name) => write(out, Event::Instance(cell, name, token.start)),
+        Err(Memory) => {
+            drop(cell);
+            Err(Stop::Memory)
+        }
+    }
 }
 
 /// Takes the name of an instance.
@@ -225,14 +324,20 @@ fn inst_name(
     out: &mut Vec<Event>,
     cell: Name,
 ) -> Result<(), Stop>
-    ensures { Reads result size (inst_name cell) inst_open cursor.old cursor.new out.old.items out.new.items }
+    ensures { Reads result size (inst_name cell) inst_open cursor.old cursor.new out.old.items
+        out.new.items }
 {
-    let token = any(cursor, size, out)?;
+    let token = match any(cursor, size, out) {
+        Ok(token) => token,
+        Err(stop) => {
+            drop(cell);
+            return Err(stop);
+        }
+    };
     if is_identifier(token.text) {
-        let name = name_of(alloc, token.text)?;
-        out.push(Event::Instance(cell, name, token.start))?;
-        return Ok(());
+        return instance_named(alloc, out, cell, token);
     }
+    drop(cell);
     if is(&token, b"#") {
         return Err(leave_out(out, token.start));
     }
@@ -242,7 +347,8 @@ fn inst_name(
 /// Takes the bracket before the connections.
 #[tactic(auto, unfolding(crate::specs::Grammar::events))]
 fn inst_open(cursor: &mut Cursor<'_>, size: usize, out: &mut Vec<Event>) -> Result<(), Stop>
-    ensures { Reads result size inst_open first_conn cursor.old cursor.new out.old.items out.new.items }
+    ensures { Reads result size inst_open first_conn cursor.old cursor.new out.old.items
+        out.new.items }
 {
     let _ = text(cursor, size, out, b"(")?;
     Ok(())
@@ -266,9 +372,10 @@ fn instance(
     token: Token<'_>,
 ) -> Result<(), Stop>
     requires { is_identifier token.text.now ≡ true }
-    ensures { Reads result size (inst_name (spelled token.entry.text.now)) item cursor.old cursor.new (out.old.items ++ Event.CellWord token.entry.start ∷ []) out.new.items }
+    ensures { Reads result size (inst_name (spelled token.entry.text.now)) item cursor.old
+        cursor.new (out.old.items ++ Event.CellWord token.entry.start ∷ []) out.new.items }
 {
-    out.push(Event::CellWord(token.start))?;
+    write(out, Event::CellWord(token.start))?;
     let cell = name_of(alloc, token.text)?;
     inst_name(alloc, cursor, size, out, cell)?;
     inst_open(cursor, size, out)?;
@@ -289,7 +396,8 @@ fn other_item(
     requires input { bytes_eq token.text.now (codes "input") ≡ false }
     requires output { bytes_eq token.text.now (codes "output") ≡ false }
     requires wire { bytes_eq token.text.now (codes "wire") ≡ false }
-    ensures { ReadsValue result size item item_place (tok_of token.entry ∷ cursor.old) cursor.new out.old.items out.new.items }
+    ensures { ReadsValue result size item item_place (tok_of token.entry ∷ cursor.old) cursor.new
+        out.old.items out.new.items }
 {
     if is(&token, b"endmodule") {
         return Ok(false);
@@ -312,7 +420,8 @@ fn item(
     size: usize,
     out: &mut Vec<Event>,
 ) -> Result<bool, Stop>
-    ensures { ReadsValue result size item item_place cursor.old cursor.new out.old.items out.new.items }
+    ensures { ReadsValue result size item item_place cursor.old cursor.new out.old.items
+        out.new.items }
 {
     let token = any(cursor, size, out)?;
     if is(&token, b"input") {
@@ -380,6 +489,9 @@ pub(crate) fn events_of(alloc: Global, bytes: &[u8]) -> Result<Vec<Event>, Memor
     let mut out = Vec::new(alloc);
     match whole_text(alloc, &mut cursor, bytes.len(), &mut out) {
         Ok(()) | Err(Stop::Refused) => Ok(out),
-        Err(Stop::Memory) => Err(Memory),
+        Err(Stop::Memory) => {
+            drop(out);
+            Err(Memory)
+        }
     }
 }

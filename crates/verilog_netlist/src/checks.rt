@@ -20,7 +20,8 @@ use timing_defs::{Code, Name};
 /// Notes a fault.
 #[tactic(auto, unfolding(sta_text::specs::Faults::least_from))]
 pub(crate) fn note(best: Option<Wrong>, code: Code, at: usize) -> Option<Wrong>
-    ensures { (rest : List Wrong) → least_from result rest ≡ least_from best (wrong code at ∷ rest) }
+    ensures { (rest : List Wrong) → least_from result rest
+        ≡ least_from best (wrong code at ∷ rest) }
 {
     lesser(best, Wrong { code, at })
 }
@@ -40,7 +41,13 @@ fn note_double<'a>(
     at: usize,
     best: Option<Wrong>,
 ) -> Result<Option<Wrong>, Memory>
-    ensures { IfOk result (λ least. (names.new ≡ with_name names.old name.entry.now) × ((rest : List Wrong) → least_from least rest ≡ least_from best (if stands names.old name.entry.now then wrong Code.VerilogDoubleName at ∷ rest else rest))) }
+    ensures { IfOk result
+        (λ least. (names.new ≡ with_name names.old name.entry.now)
+        ×
+        ((rest : List Wrong) → least_from least rest
+        ≡ least_from best
+        (if stands names.old name.entry.now then wrong Code.VerilogDoubleName at ∷ rest else
+        rest))) }
 {
     if is_new(names, name)? {
         return Ok(best);
@@ -51,7 +58,8 @@ fn note_double<'a>(
 /// Notes what ended the reading.
 #[tactic(auto, unfolding(crate::specs::Faults::wrongs, sta_text::specs::Faults::least_from))]
 fn note_wrong(event: &Event, best: Option<Wrong>) -> Option<Wrong>
-    ensures { (rest : List Event) → least_from result (wrongs rest) ≡ least_from best (wrongs (event.now ∷ rest)) }
+    ensures { (rest : List Event) → least_from result (wrongs rest)
+        ≡ least_from best (wrongs (event.now ∷ rest)) }
 {
     match event {
         Event::Fault(wrong) => lesser(best, *wrong),
@@ -80,7 +88,9 @@ fn note_stray<'a>(
     at: usize,
     best: Option<Wrong>,
 ) -> Result<Option<Wrong>, Memory>
-    ensures { IfOk result (λ least. (rest : List Event) → least_from least (strays header.new rest) ≡ least_from best (strays header.old (event.Declared kind name.entry.now at ∷ rest))) }
+    ensures { IfOk result
+        (λ least. (rest : List Event) → least_from least (strays header.new rest)
+        ≡ least_from best (strays header.old (event.Declared kind name.entry.now at ∷ rest))) }
 {
     if kind.role.is_header() {
         let _ = is_new(header, name)?;
@@ -98,7 +108,9 @@ fn stray<'a>(
     event: &'a Event,
     best: Option<Wrong>,
 ) -> Result<Option<Wrong>, Memory>
-    ensures { IfOk result (λ least. (rest : List Event) → least_from least (strays header.new rest) ≡ least_from best (strays header.old (event.entry.now ∷ rest))) }
+    ensures { IfOk result
+        (λ least. (rest : List Event) → least_from least (strays header.new rest)
+        ≡ least_from best (strays header.old (event.entry.now ∷ rest))) }
 {
     match event {
         Event::Header(name, _) => {
@@ -133,7 +145,9 @@ fn header_double<'a>(
     event: &'a Event,
     best: Option<Wrong>,
 ) -> Result<Option<Wrong>, Memory>
-    ensures { IfOk result (λ least. (rest : List Event) → least_from least (header_doubles names.new rest) ≡ least_from best (header_doubles names.old (event.entry.now ∷ rest))) }
+    ensures { IfOk result
+        (λ least. (rest : List Event) → least_from least (header_doubles names.new rest)
+        ≡ least_from best (header_doubles names.old (event.entry.now ∷ rest))) }
 {
     match event {
         Event::Header(name, at) => note_double(names, name, *at, best),
@@ -170,7 +184,9 @@ fn instance_double<'a>(
     event: &'a Event,
     best: Option<Wrong>,
 ) -> Result<Option<Wrong>, Memory>
-    ensures { IfOk result (λ least. (rest : List Event) → least_from least (instance_doubles names.new rest) ≡ least_from best (instance_doubles names.old (event.entry.now ∷ rest))) }
+    ensures { IfOk result
+        (λ least. (rest : List Event) → least_from least (instance_doubles names.new rest)
+        ≡ least_from best (instance_doubles names.old (event.entry.now ∷ rest))) }
 {
     match event {
         Event::Instance(_, name, at) => note_double(names, name, *at, best),
@@ -199,7 +215,10 @@ pub(crate) fn instance_doubles(
 #[tactic(auto, unfolding(crate::specs::Faults::instance_excess))]
 fn counted(event: &Event, count: usize) -> Result<usize, Wrong>
     requires { count ≤ limit }
-    ensures { MatchResult result (λ n. (n ≤ limit) × ((rest : List Event) → instance_excess n rest ≡ instance_excess count (event.now ∷ rest))) (λ w. (rest : List Event) → instance_excess count (event.now ∷ rest) ≡ w ∷ []) }
+    ensures { MatchResult result
+        (λ n. (n ≤ limit)
+        × ((rest : List Event) → instance_excess n rest ≡ instance_excess count (event.now ∷ rest)))
+        (λ w. (rest : List Event) → instance_excess count (event.now ∷ rest) ≡ w ∷ []) }
 {
     match event {
         Event::CellWord(at) => {
@@ -237,7 +256,13 @@ fn note_pin<'a>(
     at: usize,
     best: Option<Wrong>,
 ) -> Result<Option<Wrong>, Memory>
-    ensures { IfOk result (λ least. (names.new ≡ with_name names.old name.entry.now) × ((rest : List Wrong) → least_from least rest ≡ least_from best (if stands names.old name.entry.now then wrong Code.VerilogDoubleName at ∷ rest else rest))) }
+    ensures { IfOk result
+        (λ least. (names.new ≡ with_name names.old name.entry.now)
+        ×
+        ((rest : List Wrong) → least_from least rest
+        ≡ least_from best
+        (if stands names.old name.entry.now then wrong Code.VerilogDoubleName at ∷ rest else
+        rest))) }
 {
     if names.add(name.as_bytes())? {
         return Ok(best);
@@ -253,7 +278,9 @@ fn pin_double<'a>(
     event: &'a Event,
     best: Option<Wrong>,
 ) -> Result<Option<Wrong>, Memory>
-    ensures { IfOk result (λ least. (rest : List Event) → least_from least (pin_doubles names.new rest) ≡ least_from best (pin_doubles names.old (event.entry.now ∷ rest))) }
+    ensures { IfOk result
+        (λ least. (rest : List Event) → least_from least (pin_doubles names.new rest)
+        ≡ least_from best (pin_doubles names.old (event.entry.now ∷ rest))) }
 {
     match event {
         Event::Instance(_, _, _) => {
@@ -301,7 +328,9 @@ fn add_vector<'a>(
 
 #[tactic(auto, unfolding(crate::specs::Faults::all_vectors))]
 fn vector<'a>(vectors: &mut FewNames<'a>, event: &'a Event) -> Result<(), Memory>
-    ensures { IfOk result (λ _. (rest : List Event) → all_vectors vectors.new rest ≡ all_vectors vectors.old (event.entry.now ∷ rest)) }
+    ensures { IfOk result
+        (λ _. (rest : List Event) → all_vectors vectors.new rest
+        ≡ all_vectors vectors.old (event.entry.now ∷ rest)) }
 {
     match event {
         Event::Declared(kind, name, _) => add_vector(vectors, kind.span, name),
@@ -324,7 +353,9 @@ pub(crate) fn all_vectors<'a>(alloc: Global, events: &'a [Event]) -> Result<FewN
 /// Notes a vector that is connected whole.
 #[tactic(auto, unfolding(crate::specs::Faults::whole_vectors))]
 fn whole_net(vectors: &FewNames<'_>, net: &Net, best: Option<Wrong>) -> Option<Wrong>
-    ensures { (pin : List ℕ) (rest : List Event) → least_from result (whole_vectors vectors.now rest) ≡ least_from best (whole_vectors vectors.now (event.Connection pin net.now ∷ rest)) }
+    ensures { (pin : List ℕ) (rest : List Event)
+        → least_from result (whole_vectors vectors.now rest)
+        ≡ least_from best (whole_vectors vectors.now (event.Connection pin net.now ∷ rest)) }
 {
     match net {
         Net::Alone(name, at) => {
@@ -343,7 +374,9 @@ fn whole_vector<'a>(
     event: &'a Event,
     best: Option<Wrong>,
 ) -> Result<Option<Wrong>, Memory>
-    ensures { IfOk result (λ least. (rest : List Event) → least_from least (whole_vectors vectors.new rest) ≡ least_from best (whole_vectors vectors.old (event.entry.now ∷ rest))) }
+    ensures { IfOk result
+        (λ least. (rest : List Event) → least_from least (whole_vectors vectors.new rest)
+        ≡ least_from best (whole_vectors vectors.old (event.entry.now ∷ rest))) }
 {
     match event {
         Event::Declared(kind, name, _) => {
@@ -362,7 +395,8 @@ pub(crate) fn whole_vectors<'a>(
     events: &'a [Event],
     best: Option<Wrong>,
 ) -> Result<Option<Wrong>, Memory>
-    ensures { IfOk result (λ least. least ≡ least_from best (whole_vectors known.entry events.entry.now)) }
+    ensures { IfOk result
+        (λ least. least ≡ least_from best (whole_vectors known.entry events.entry.now)) }
 {
     let mut vectors = known;
     let mut least = best;
@@ -374,7 +408,9 @@ pub(crate) fn whole_vectors<'a>(
 
 #[tactic(auto, unfolding(crate::specs::Faults::all_directed))]
 fn directed<'a>(names: &mut Names<'a>, event: &'a Event) -> Result<(), Memory>
-    ensures { IfOk result (λ _. (rest : List Event) → all_directed names.new rest ≡ all_directed names.old (event.entry.now ∷ rest)) }
+    ensures { IfOk result
+        (λ _. (rest : List Event) → all_directed names.new rest
+        ≡ all_directed names.old (event.entry.now ∷ rest)) }
 {
     match event {
         Event::Declared(kind, name, _) => {
@@ -401,7 +437,8 @@ fn all_directed<'a>(alloc: Global, events: &'a [Event]) -> Result<Names<'a>, Mem
 
 #[tactic(auto, unfolding(crate::specs::Faults::undirected))]
 fn undirected_port(directed: &Names<'_>, event: &Event, best: Option<Wrong>) -> Option<Wrong>
-    ensures { (rest : List Event) → least_from result (undirected directed.now rest) ≡ least_from best (undirected directed.now (event.now ∷ rest)) }
+    ensures { (rest : List Event) → least_from result (undirected directed.now rest)
+        ≡ least_from best (undirected directed.now (event.now ∷ rest)) }
 {
     match event {
         Event::Header(name, at) => {
@@ -421,7 +458,8 @@ pub(crate) fn undirected(
     events: &[Event],
     best: Option<Wrong>,
 ) -> Result<Option<Wrong>, Memory>
-    ensures { IfOk result (λ least. least ≡ least_from best (undirected (all_directed [] events.now) events.now)) }
+    ensures { IfOk result
+        (λ least. least ≡ least_from best (undirected (all_directed [] events.now) events.now)) }
 {
     let directed = all_directed(alloc, events)?;
     let mut least = best;

@@ -50,7 +50,9 @@ fn in_order(mut stretches: Vec<Stretch>) -> Result<Vec<Stretch>, Memory>
 /// The greatest upper end up to each stretch.
 fn reaches(alloc: Global, stretches: &[Stretch]) -> Result<Items<u128>, Memory>
     ensures count { IfOk result (λ ends. length ends ≡ length stretches.now) }
-    ensures reaches { IfOk result (λ ends. (i : ℕ) → i < length stretches.now → get_or ends i 0 ≡ reach (take (i + 1) stretches.now)) }
+    ensures reaches { IfOk result
+        (λ ends. (i : ℕ) → i < length stretches.now → get_or ends i 0
+        ≡ reach (take (i + 1) stretches.now)) }
 {
     let mut ends = Items::new(alloc);
     let mut end = 0u128;
@@ -73,7 +75,8 @@ fn covers(stretches: &[Stretch], reaches: &[u128], k: u128) -> bool
 impl Cover {
     /// What these stretches cover, in time `n log n`.
     pub(crate) fn of(alloc: Global, stretches: Vec<Stretch>) -> Result<Cover, Memory>
-        ensures { IfOk result (λ cover. (k : ℕ) → list_any (holds k) cover ≡ list_any (holds k) stretches.items) }
+        ensures { IfOk result
+            (λ cover. (k : ℕ) → list_any (holds k) cover ≡ list_any (holds k) stretches.items) }
     {
         let stretches = in_order(stretches)?;
         let reaches = reaches(alloc, stretches.as_slice())?;

@@ -42,26 +42,42 @@ impl<T: Drop> From<AllocFailed<T>> for Stop {
     }
 }
 
+/// Writes an event.
+pub(crate) fn write(out: &mut Vec<Event>, event: Event) -> Result<(), Stop>
+    ensures { MatchResult result (λ _. out.new.items ≡ out.old.items ++ event ∷ [])
+        (λ stop. stop ≡ Stop.Memory) }
+{
+    match out.push(event) {
+        Ok(()) => Ok(()),
+        Err(refused) => {
+            drop(refused);
+            Err(Stop::Memory)
+        }
+    }
+}
+
 /// Writes a fault, the last event.
 fn refuse(out: &mut Vec<Event>, code: Code, at: usize) -> Stop
     ensures { result ≡ Stop.Refused → out.new.items ≡ out.old.items ++ fault code at ∷ [] }
 {
-    match out.push(Event::Fault(Wrong { code, at })) {
+    match write(out, Event::Fault(Wrong { code, at })) {
         Ok(()) => Stop::Refused,
-        Err(_) => Stop::Memory,
+        Err(stop) => stop,
     }
 }
 
 /// The text ends too early.
 pub(crate) fn missing(out: &mut Vec<Event>, size: usize) -> Stop
-    ensures { result ≡ Stop.Refused → out.new.items ≡ out.old.items ++ fault Code.VerilogBadToken size ∷ [] }
+    ensures { result ≡ Stop.Refused → out.new.items
+        ≡ out.old.items ++ fault Code.VerilogBadToken size ∷ [] }
 {
     refuse(out, Code::VerilogBadToken, size)
 }
 
 /// The text has no module.
 pub(crate) fn no_module(out: &mut Vec<Event>, size: usize) -> Stop
-    ensures { result ≡ Stop.Refused → out.new.items ≡ out.old.items ++ fault Code.VerilogNoModule size ∷ [] }
+    ensures { result ≡ Stop.Refused → out.new.items
+        ≡ out.old.items ++ fault Code.VerilogNoModule size ∷ [] }
 {
     refuse(out, Code::VerilogNoModule, size)
 }
@@ -75,7 +91,8 @@ pub(crate) fn leave_out(out: &mut Vec<Event>, at: usize) -> Stop
 
 /// A token does not fit.
 pub(crate) fn unexpected(out: &mut Vec<Event>, size: usize, token: &Token<'_>) -> Stop
-    ensures { result ≡ Stop.Refused → out.new.items ≡ out.old.items ++ unexpected size (tok_of token.now) }
+    ensures { result ≡ Stop.Refused → out.new.items
+        ≡ out.old.items ++ unexpected size (tok_of token.now) }
 {
     let at = if token.is_unclosed() {
         size
@@ -98,7 +115,10 @@ pub(crate) fn any<'a>(
     size: usize,
     out: &mut Vec<Event>,
 ) -> Result<Token<'a>, Stop>
-    ensures { MatchResult result (λ t. (cursor.old ≡ tok_of t ∷ cursor.new) × (out.new.items ≡ out.old.items)) (λ stop. stop ≡ Stop.Refused → (cursor.old ≡ []) × (out.new.items ≡ out.old.items ++ fault Code.VerilogBadToken size ∷ [])) }
+    ensures { MatchResult result
+        (λ t. (cursor.old ≡ tok_of t ∷ cursor.new) × (out.new.items ≡ out.old.items))
+        (λ stop. stop ≡ Stop.Refused → (cursor.old ≡ [])
+        × (out.new.items ≡ out.old.items ++ fault Code.VerilogBadToken size ∷ [])) }
 {
     match cursor.next() {
         Some(token) => Ok(token),
@@ -113,7 +133,11 @@ pub(crate) fn text<'a>(
     out: &mut Vec<Event>,
     wanted: &[u8],
 ) -> Result<Token<'a>, Stop>
-    ensures { MatchResult result (λ t. (cursor.old ≡ tok_of t ∷ cursor.new) × (is_text (tok_of t) wanted.now ≡ true) × (out.new.items ≡ out.old.items)) (λ stop. Unfit stop (λ t. is_text t wanted.now) size cursor.old out.old.items out.new.items) }
+    ensures { MatchResult result
+        (λ t. (cursor.old ≡ tok_of t ∷ cursor.new) × (is_text (tok_of t) wanted.now ≡ true)
+        × (out.new.items ≡ out.old.items))
+        (λ stop. Unfit stop (λ t. is_text t wanted.now) size cursor.old out.old.items
+        out.new.items) }
 {
     match cursor.next() {
         Some(token) => {
@@ -132,7 +156,11 @@ pub(crate) fn identifier<'a>(
     size: usize,
     out: &mut Vec<Event>,
 ) -> Result<Token<'a>, Stop>
-    ensures { MatchResult result (λ t. (cursor.old ≡ tok_of t ∷ cursor.new) × (is_identifier (tok_of t).text ≡ true) × (out.new.items ≡ out.old.items)) (λ stop. Unfit stop (λ t. is_identifier t.text) size cursor.old out.old.items out.new.items) }
+    ensures { MatchResult result
+        (λ t. (cursor.old ≡ tok_of t ∷ cursor.new) × (is_identifier (tok_of t).text ≡ true)
+        × (out.new.items ≡ out.old.items))
+        (λ stop. Unfit stop (λ t. is_identifier t.text) size cursor.old out.old.items
+        out.new.items) }
 {
     match cursor.next() {
         Some(token) => {
@@ -151,7 +179,10 @@ pub(crate) fn number<'a>(
     size: usize,
     out: &mut Vec<Event>,
 ) -> Result<Token<'a>, Stop>
-    ensures { MatchResult result (λ t. (cursor.old ≡ tok_of t ∷ cursor.new) × (is_number (tok_of t).text ≡ true) × (out.new.items ≡ out.old.items)) (λ stop. Unfit stop (λ t. is_number t.text) size cursor.old out.old.items out.new.items) }
+    ensures { MatchResult result
+        (λ t. (cursor.old ≡ tok_of t ∷ cursor.new) × (is_number (tok_of t).text ≡ true)
+        × (out.new.items ≡ out.old.items))
+        (λ stop. Unfit stop (λ t. is_number t.text) size cursor.old out.old.items out.new.items) }
 {
     match cursor.next() {
         Some(token) => {

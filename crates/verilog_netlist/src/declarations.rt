@@ -66,8 +66,11 @@ fn declare_narrow(
 ) -> Result<Option<Wrong>, Memory>
     requires { is_wide kind.span ≡ false }
     ensures fault { IfOk result (λ found. found ≡ declaration_fault known.old kind name.now at) }
-    ensures known { IfOk result (λ found. found ≡ None → known.new ≡ declaring kind.role known.old (nets_of kind.span name.now)) }
-    ensures nets { IfOk result (λ found. IsDeclared known.old.nets (nets_of kind.span name.now) known.new.nets) }
+    ensures known { IfOk result
+        (λ found. found ≡ None → known.new
+        ≡ declaring kind.role known.old (nets_of kind.span name.now)) }
+    ensures nets { IfOk result
+        (λ found. IsDeclared known.old.nets (nets_of kind.span name.now) known.new.nets) }
 {
     let nets = nets_of(alloc, kind.span, name)?;
     if alike(known, kind.role).has_any(nets.as_slice()) {
@@ -116,8 +119,11 @@ fn declare_name(
     at: usize,
 ) -> Result<Option<Wrong>, Memory>
     ensures fault { IfOk result (λ found. found ≡ declaration_fault known.old kind name.now at) }
-    ensures known { IfOk result (λ found. found ≡ None → known.new ≡ declaring kind.role known.old (nets_of kind.span name.now)) }
-    ensures nets { IfOk result (λ found. IsDeclared known.old.nets (nets_of kind.span name.now) known.new.nets) }
+    ensures known { IfOk result
+        (λ found. found ≡ None → known.new
+        ≡ declaring kind.role known.old (nets_of kind.span name.now)) }
+    ensures nets { IfOk result
+        (λ found. IsDeclared known.old.nets (nets_of kind.span name.now) known.new.nets) }
 {
     match kind.span {
         Some(span) if is_wide(kind.span) => {
@@ -129,9 +135,15 @@ fn declare_name(
 
 #[tactic(auto, unfolding(crate::specs::Faults::declaration_faults, crate::specs::Faults::all_declared), using(crate::proofs::LateLemmas::declared_again))]
 fn declare_event(alloc: Global, known: &mut Known, event: &Event) -> Result<Option<Wrong>, Memory>
-    ensures fault { IfOk result (λ found. (rest : List Event) → declaration_faults known.old (event.now ∷ rest) ≡ told found (declaration_faults known.new rest)) }
-    ensures nets { IfOk result (λ found. found ≡ None → (rest : List Event) → all_declared known.old.nets (event.now ∷ rest) ≡ all_declared known.new.nets rest) }
-    ensures kept { IfOk result (λ _. (rest : List Event) → all_declared known.new.nets (event.now ∷ rest) ≡ all_declared known.old.nets (event.now ∷ rest)) }
+    ensures fault { IfOk result
+        (λ found. (rest : List Event) → declaration_faults known.old (event.now ∷ rest)
+        ≡ told found (declaration_faults known.new rest)) }
+    ensures nets { IfOk result
+        (λ found. found ≡ None → (rest : List Event)
+        → all_declared known.old.nets (event.now ∷ rest) ≡ all_declared known.new.nets rest) }
+    ensures kept { IfOk result
+        (λ _. (rest : List Event) → all_declared known.new.nets (event.now ∷ rest)
+        ≡ all_declared known.old.nets (event.now ∷ rest)) }
 {
     match event {
         Event::Declared(kind, name, at) => declare_name(alloc, known, *kind, name, *at),
@@ -153,7 +165,8 @@ pub(crate) fn declared_nets<'a>(
     alloc: Global,
     events: &'a [Event],
 ) -> Result<Declarations<'a>, Memory>
-    ensures fault { IfOk result (λ found. declaration_faults nothing events.entry.now ≡ option_to_list found.fault) }
+    ensures fault { IfOk result
+        (λ found. declaration_faults nothing events.entry.now ≡ option_to_list found.fault) }
     ensures nets { IfOk result (λ found. found.nets ≡ all_declared [] events.entry.now) }
 {
     let mut known = Known {
@@ -183,7 +196,9 @@ fn undeclared_bit(
     event: &Event,
     best: Option<Wrong>,
 ) -> Result<Option<Wrong>, Memory>
-    ensures { IfOk result (λ least. (rest : List Event) → least_from least (undeclared_bits declared.now rest) ≡ least_from best (undeclared_bits declared.now (event.now ∷ rest))) }
+    ensures { IfOk result
+        (λ least. (rest : List Event) → least_from least (undeclared_bits declared.now rest)
+        ≡ least_from best (undeclared_bits declared.now (event.now ∷ rest))) }
 {
     match event {
         Event::Connection(_, Net::Bit(name, at)) => {
@@ -204,7 +219,8 @@ pub(crate) fn undeclared_bits(
     events: &[Event],
     best: Option<Wrong>,
 ) -> Result<Option<Wrong>, Memory>
-    ensures { IfOk result (λ least. least ≡ least_from best (undeclared_bits declared.now events.now)) }
+    ensures { IfOk result
+        (λ least. least ≡ least_from best (undeclared_bits declared.now events.now)) }
 {
     let mut least = best;
     for event in events {
@@ -234,7 +250,8 @@ fn add_implicit(
     vectors: &FewNames<'_>,
     name: &Name,
 ) -> Result<(), Memory>
-    ensures { IfOk result (λ _. nets.new ≡ with_implicit declared.now vectors.now nets.old name.now) }
+    ensures { IfOk result
+        (λ _. nets.new ≡ with_implicit declared.now vectors.now nets.old name.now) }
 {
     if declared.has(alloc, name)? || vectors.has(name.as_bytes()) {
         return Ok(());
@@ -250,8 +267,10 @@ fn add_declared(
     name: &Name,
     at: usize,
 ) -> Result<Option<Wrong>, Memory>
-    ensures fault { IfOk result (λ found. found ≡ excess kind.span (with_names nets.old (nets_of kind.span name.now)) at) }
-    ensures nets { IfOk result (λ found. found ≡ None → nets.new ≡ with_names nets.old (nets_of kind.span name.now)) }
+    ensures fault { IfOk result
+        (λ found. found ≡ excess kind.span (with_names nets.old (nets_of kind.span name.now)) at) }
+    ensures nets { IfOk result
+        (λ found. found ≡ None → nets.new ≡ with_names nets.old (nets_of kind.span name.now)) }
 {
     if is_wide(kind.span) {
         return Ok(Some(Wrong {
@@ -273,8 +292,14 @@ fn add_nets(
     vectors: &FewNames<'_>,
     event: &Event,
 ) -> Result<Option<Wrong>, Memory>
-    ensures fault { IfOk result (λ found. (rest : List Event) → net_excess declared.now vectors.now nets.old (event.now ∷ rest) ≡ told found (net_excess declared.now vectors.now nets.new rest)) }
-    ensures nets { IfOk result (λ found. found ≡ None → (rest : List Event) → all_nets declared.now vectors.now nets.old (event.now ∷ rest) ≡ all_nets declared.now vectors.now nets.new rest) }
+    ensures fault { IfOk result
+        (λ found. (rest : List Event)
+        → net_excess declared.now vectors.now nets.old (event.now ∷ rest)
+        ≡ told found (net_excess declared.now vectors.now nets.new rest)) }
+    ensures nets { IfOk result
+        (λ found. found ≡ None → (rest : List Event)
+        → all_nets declared.now vectors.now nets.old (event.now ∷ rest)
+        ≡ all_nets declared.now vectors.now nets.new rest) }
 {
     match event {
         Event::Declared(kind, name, at) => add_declared(alloc, nets, *kind, name, *at),
@@ -294,7 +319,11 @@ pub(crate) fn all_nets(
     vectors: &FewNames<'_>,
     events: &[Event],
 ) -> Result<Result<NetSet, Wrong>, Memory>
-    ensures { IfOk result (λ found. MatchResult found (λ nets. (net_excess declared.now vectors.now [] events.now ≡ []) × (nets ≡ all_nets declared.now vectors.now [] events.now)) (λ w. net_excess declared.now vectors.now [] events.now ≡ w ∷ [])) }
+    ensures { IfOk result
+        (λ found. MatchResult found
+        (λ nets. (net_excess declared.now vectors.now [] events.now ≡ [])
+        × (nets ≡ all_nets declared.now vectors.now [] events.now))
+        (λ w. net_excess declared.now vectors.now [] events.now ≡ w ∷ [])) }
 {
     let mut nets = NetSet::new(alloc);
     for event in events {

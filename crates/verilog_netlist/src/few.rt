@@ -42,7 +42,9 @@ fn put<'a>(first: &mut Vec<&'a [u8]>, behind: &mut Names<'a>, name: &'a [u8]) ->
     requires few { length first.old.items < 16 → behind.old ≡ [] }
     requires new { stands (texts first.old.items ++ behind.old) name.now ≡ false }
     ensures few { length first.new.items < 16 → behind.new ≡ [] }
-    ensures list { IfOk result (λ _. texts first.new.items ++ behind.new ≡ (texts first.old.items ++ behind.old) ++ name.entry.now ∷ []) }
+    ensures list { IfOk result
+        (λ _. texts first.new.items ++ behind.new
+        ≡ (texts first.old.items ++ behind.old) ++ name.entry.now ∷ []) }
 {
     if FEW <= first.len() {
         let _ = behind.add(name)?;

@@ -7,7 +7,9 @@ ghost use Rattle.verilog_netlist.specs.Lexicon.{spelled, is_identifier, has_colo
 ghost use Rattle.verilog_netlist.specs.Grammar.{State, events, at_name, at_port, is_header, is_port, is_output, next_of, scalar, vector, declared, port_event, start, module_name, ports_open, first_port, port, port_next, head_end, type_of, range_of, range_first, range_colon, range_last, range_close, declared_name, declared_next, item};
 ghost use Rattle.verilog_netlist.specs.Reads.{Names, Reads, ReadsValue, ports_place, declared_place, header_place};
 
-use crate::cursor::{Stop, any, identifier, is, leave_out, no_module, number, text, unexpected};
+use crate::cursor::{
+    Stop, any, identifier, is, leave_out, no_module, number, text, unexpected, write,
+};
 use crate::events::{Event, Kind, Role, Span};
 use crate::lexicon::{has_colon, is_identifier, is_variable_type, name_of, number_of, spelled};
 use sta_text::{Cursor, Token};
@@ -49,7 +51,8 @@ impl Role {
 /// Takes `module`.
 #[tactic(auto, unfolding(crate::specs::Grammar::events))]
 fn module_word(cursor: &mut Cursor<'_>, size: usize, out: &mut Vec<Event>) -> Result<(), Stop>
-    ensures { Reads result size start module_name cursor.old cursor.new out.old.items out.new.items }
+    ensures { Reads result size start module_name cursor.old cursor.new out.old.items
+        out.new.items }
 {
     match cursor.next() {
         None => Err(no_module(out, size)),
@@ -70,18 +73,19 @@ fn module_name(
     size: usize,
     out: &mut Vec<Event>,
 ) -> Result<(), Stop>
-    ensures { Reads result size module_name ports_open cursor.old cursor.new out.old.items out.new.items }
+    ensures { Reads result size module_name ports_open cursor.old cursor.new out.old.items
+        out.new.items }
 {
     let token = identifier(cursor, size, out)?;
     let name = name_of(alloc, token.text)?;
-    out.push(Event::Module(name))?;
-    Ok(())
+    write(out, Event::Module(name))
 }
 
 /// Takes the bracket before the ports.
 #[tactic(auto, unfolding(crate::specs::Grammar::events))]
 fn ports_open(cursor: &mut Cursor<'_>, size: usize, out: &mut Vec<Event>) -> Result<(), Stop>
-    ensures { Reads result size ports_open first_port cursor.old cursor.new out.old.items out.new.items }
+    ensures { Reads result size ports_open first_port cursor.old cursor.new out.old.items
+        out.new.items }
 {
     let token = any(cursor, size, out)?;
     if is(&token, b"(") {
@@ -101,7 +105,9 @@ fn declare(
     kind: Kind,
     token: Token<'_>,
 ) -> Result<(), Stop>
-    ensures { Names result size (is_port kind.role) (tok_of token.entry) (declared kind (spelled (tok_of token.entry).text) token.entry.start) out.old.items out.new.items }
+    ensures { Names result size (is_port kind.role) (tok_of token.entry)
+        (declared kind (spelled (tok_of token.entry).text) token.entry.start) out.old.items
+        out.new.items }
 {
     if !is_identifier(token.text) {
         return Err(unexpected(out, size, &token));
@@ -110,8 +116,7 @@ fn declare(
         return Err(leave_out(out, token.start));
     }
     let name = name_of(alloc, token.text)?;
-    out.push(Event::Declared(kind, name, token.start))?;
-    Ok(())
+    write(out, Event::Declared(kind, name, token.start))
 }
 
 /// The event of a port of the header: a name alone, or one of the kind that was declared before it.
@@ -132,7 +137,9 @@ fn list_port(
     kind: Option<Kind>,
     token: Token<'_>,
 ) -> Result<(), Stop>
-    ensures { Names result size true (tok_of token.entry) (port_event kind (spelled (tok_of token.entry).text) token.entry.start) out.old.items out.new.items }
+    ensures { Names result size true (tok_of token.entry)
+        (port_event kind (spelled (tok_of token.entry).text) token.entry.start) out.old.items
+        out.new.items }
 {
     if !is_identifier(token.text) {
         return Err(unexpected(out, size, &token));
@@ -141,8 +148,7 @@ fn list_port(
         return Err(leave_out(out, token.start));
     }
     let name = name_of(alloc, token.text)?;
-    out.push(port_event(kind, name, token.start))?;
-    Ok(())
+    write(out, port_event(kind, name, token.start))
 }
 
 /// Takes a range, of which the opening bracket was taken.
@@ -153,7 +159,8 @@ fn range(
     out: &mut Vec<Event>,
     role: Role,
 ) -> Result<Kind, Stop>
-    ensures reads { ReadsValue result size (range_first role) (λ kind. declared_name kind) cursor.old cursor.new out.old.items out.new.items }
+    ensures reads { ReadsValue result size (range_first role) (λ kind. declared_name kind)
+        cursor.old cursor.new out.old.items out.new.items }
     ensures role { IfOk result (λ kind. kind.role ≡ role) }
 {
     let first = number(cursor, size, out)?;
@@ -179,7 +186,8 @@ fn declared_name(
     out: &mut Vec<Event>,
     kind: Kind,
 ) -> Result<(), Stop>
-    ensures { Reads result size (declared_name kind) (next_of kind) cursor.old cursor.new out.old.items out.new.items }
+    ensures { Reads result size (declared_name kind) (next_of kind) cursor.old cursor.new
+        out.old.items out.new.items }
 {
     let token = any(cursor, size, out)?;
     declare(alloc, size, out, kind, token)
@@ -195,7 +203,8 @@ fn range_or_name(
     role: Role,
     token: Token<'_>,
 ) -> Result<Kind, Stop>
-    ensures reads { ReadsValue result size (range_of role) (λ kind. next_of kind) (tok_of token.entry ∷ cursor.old) cursor.new out.old.items out.new.items }
+    ensures reads { ReadsValue result size (range_of role) (λ kind. next_of kind)
+        (tok_of token.entry ∷ cursor.old) cursor.new out.old.items out.new.items }
     ensures role { IfOk result (λ kind. kind.role ≡ role) }
 {
     if is(&token, b"[") {
@@ -217,7 +226,8 @@ pub(crate) fn first_declared(
     out: &mut Vec<Event>,
     role: Role,
 ) -> Result<Kind, Stop>
-    ensures reads { ReadsValue result size (type_of role) (λ kind. next_of kind) cursor.old cursor.new out.old.items out.new.items }
+    ensures reads { ReadsValue result size (type_of role) (λ kind. next_of kind) cursor.old
+        cursor.new out.old.items out.new.items }
     ensures role { IfOk result (λ kind. kind.role ≡ role) }
 {
     let token = any(cursor, size, out)?;
@@ -240,7 +250,8 @@ fn more_declared(
     out: &mut Vec<Event>,
     kind: Kind,
 ) -> Result<bool, Stop>
-    ensures { ReadsValue result size (declared_next kind) (λ more. declared_place more kind) cursor.old cursor.new out.old.items out.new.items }
+    ensures { ReadsValue result size (declared_next kind) (λ more. declared_place more kind)
+        cursor.old cursor.new out.old.items out.new.items }
 {
     let token = any(cursor, size, out)?;
     if is(&token, b",") {
@@ -261,7 +272,8 @@ pub(crate) fn declaration(
     role: Role,
 ) -> Result<(), Stop>
     requires { is_header role ≡ false }
-    ensures { Reads result size (type_of role) item cursor.old cursor.new out.old.items out.new.items }
+    ensures { Reads result size (type_of role) item cursor.old cursor.new out.old.items
+        out.new.items }
 {
     let kind = first_declared(alloc, cursor, size, out, role)?;
     'each: while more_declared(cursor, size, out, kind)? {
@@ -280,7 +292,8 @@ fn port(
     kind: Option<Kind>,
     token: Token<'_>,
 ) -> Result<Option<Kind>, Stop>
-    ensures { ReadsValue result size (port kind) (λ next. port_next next) (tok_of token.entry ∷ cursor.old) cursor.new out.old.items out.new.items }
+    ensures { ReadsValue result size (port kind) (λ next. port_next next)
+        (tok_of token.entry ∷ cursor.old) cursor.new out.old.items out.new.items }
 {
     if is(&token, b"input") {
         let first = first_declared(alloc, cursor, size, out, Role::HeaderInput)?;
@@ -305,7 +318,8 @@ fn more_ports(
     out: &mut Vec<Event>,
     kind: Option<Kind>,
 ) -> Result<bool, Stop>
-    ensures { ReadsValue result size (port_next kind) (λ more. header_place more kind) cursor.old cursor.new out.old.items out.new.items }
+    ensures { ReadsValue result size (port_next kind) (λ more. header_place more kind) cursor.old
+        cursor.new out.old.items out.new.items }
 {
     let token = any(cursor, size, out)?;
     if is(&token, b",") {
@@ -325,7 +339,8 @@ fn first_port(
     size: usize,
     out: &mut Vec<Event>,
 ) -> Result<Option<Option<Kind>>, Stop>
-    ensures { ReadsValue result size first_port ports_place cursor.old cursor.new out.old.items out.new.items }
+    ensures { ReadsValue result size first_port ports_place cursor.old cursor.new out.old.items
+        out.new.items }
 {
     let token = any(cursor, size, out)?;
     if is(&token, b")") {
@@ -344,7 +359,8 @@ fn next_port(
     out: &mut Vec<Event>,
     kind: Option<Kind>,
 ) -> Result<Option<Kind>, Stop>
-    ensures { ReadsValue result size (port kind) (λ next. port_next next) cursor.old cursor.new out.old.items out.new.items }
+    ensures { ReadsValue result size (port kind) (λ next. port_next next) cursor.old cursor.new
+        out.old.items out.new.items }
 {
     let token = any(cursor, size, out)?;
     port(alloc, cursor, size, out, kind, token)
@@ -357,7 +373,8 @@ fn ports(
     size: usize,
     out: &mut Vec<Event>,
 ) -> Result<(), Stop>
-    ensures { Reads result size first_port head_end cursor.old cursor.new out.old.items out.new.items }
+    ensures { Reads result size first_port head_end cursor.old cursor.new out.old.items
+        out.new.items }
 {
     let Some(mut kind) = first_port(alloc, cursor, size, out)? else {
         return Ok(());

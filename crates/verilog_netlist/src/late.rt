@@ -20,7 +20,8 @@ use timing_defs::{Items, Name};
 
 /// The last bracket of a net's name.
 fn last_bracket(net: &[u8]) -> Option<usize>
-    ensures { MatchOption result (list_any (λ b. b == 91) net.now ≡ false) (λ at. (at < length net.now) × (take at net.now ≡ vector_of net.now)) }
+    ensures { MatchOption result (list_any (λ b. b == 91) net.now ≡ false)
+        (λ at. (at < length net.now) × (take at net.now ≡ vector_of net.now)) }
 {
     let mut last = None;
     for (place, byte) in net.iter().enumerate() {
@@ -42,7 +43,10 @@ fn ends_are_small(span: Span)
 /// Notes where a vector is declared.
 #[tactic(auto, unfolding(crate::specs::Late::vector_place))]
 fn set_place<'a>(places: &mut Places<'a>, place: usize, event: &'a Event) -> Result<(), Memory>
-    ensures places { IfOk result (λ _. (vector : List ℕ) (rest : List Event) → vector_place (place + 1) (said places.new vector) rest vector ≡ vector_place place (said places.old vector) (event.entry.now ∷ rest) vector) }
+    ensures places { IfOk result
+        (λ _. (vector : List ℕ) (rest : List Event)
+        → vector_place (place + 1) (said places.new vector) rest vector
+        ≡ vector_place place (said places.old vector) (event.entry.now ∷ rest) vector) }
     ensures small { Small event.entry.now }
 {
     let Event::Declared(kind, name, _) = event else {
@@ -60,7 +64,9 @@ fn set_place<'a>(places: &mut Places<'a>, place: usize, event: &'a Event) -> Res
 /// The last declaration of each vector, by its place.
 #[tactic(auto, unfolding(crate::specs::Late::vector_place), using(std::proofs::lemmas::List::drop_more))]
 fn vector_places<'a>(alloc: Global, events: &'a [Event]) -> Result<Places<'a>, Memory>
-    ensures places { IfOk result (λ places. (vector : List ℕ) → said places vector ≡ vector_place 0 None events.entry.now vector) }
+    ensures places { IfOk result
+        (λ places. (vector : List ℕ) → said places vector
+        ≡ vector_place 0 None events.entry.now vector) }
     ensures small { OnOk result (AreSmall events.entry.now) }
 {
     let mut places = Places::new(alloc);
@@ -97,7 +103,9 @@ fn stretch_of(place: usize, span: Span) -> Stretch
 /// Adds the stretch of a declared range.
 #[tactic(auto, unfolding(crate::specs::Late::stretches))]
 fn add_stretch(found: &mut Items<Stretch>, places: &Places<'_>, event: &Event) -> Result<(), Memory>
-    ensures { IfOk result (λ _. (rest : List Event) → found.new ++ stretches (said places.now) rest ≡ found.old ++ stretches (said places.now) (event.now ∷ rest)) }
+    ensures { IfOk result
+        (λ _. (rest : List Event) → found.new ++ stretches (said places.now) rest
+        ≡ found.old ++ stretches (said places.now) (event.now ∷ rest)) }
 {
     let Event::Declared(kind, name, _) = event else {
         return Ok(());
@@ -123,7 +131,9 @@ fn stretches(alloc: Global, places: &Places<'_>, events: &[Event]) -> Result<Ite
 /// Adds a name that is declared alone.
 #[tactic(auto, using(crate::proofs::LateLemmas::or_past))]
 fn add_alone<'a>(names: &mut Names<'a>, event: &'a Event) -> Result<(), Memory>
-    ensures { IfOk result (λ _. (net : List ℕ) (rest : Bool) → (stands names.new net || rest) ≡ (stands names.old net || (declares_alone net event.entry.now || rest))) }
+    ensures { IfOk result
+        (λ _. (net : List ℕ) (rest : Bool) → (stands names.new net || rest)
+        ≡ (stands names.old net || (declares_alone net event.entry.now || rest))) }
 {
     match event {
         Event::Declared(kind, name, _) if kind.span.is_none() => {
@@ -137,7 +147,9 @@ fn add_alone<'a>(names: &mut Names<'a>, event: &'a Event) -> Result<(), Memory>
 /// The names that are declared alone.
 #[tactic(auto, using(std::proofs::lemmas::List::drop_more, crate::proofs::LateLemmas::or_nothing))]
 fn alone<'a>(alloc: Global, events: &'a [Event]) -> Result<Names<'a>, Memory>
-    ensures { IfOk result (λ names. (net : List ℕ) → stands names net ≡ list_any (declares_alone net) events.entry.now) }
+    ensures { IfOk result
+        (λ names. (net : List ℕ) → stands names net
+        ≡ list_any (declares_alone net) events.entry.now) }
 {
     let mut names = Names::new(alloc);
     for event in events {
@@ -172,7 +184,8 @@ impl<'a> Late<'a> {
 
     /// Whether a bit of this number of the vector of this place is declared.
     fn has_number(&self, place: usize, k: u64) -> bool
-        ensures { result ≡ (if nat_lt k (2 ^ 32) then list_any (holds (key place k)) self.now.cover else false) }
+        ensures { result
+            ≡ (if nat_lt k (2 ^ 32) then list_any (holds (key place k)) self.now.cover else false) }
     {
         match u32::try_from(k) {
             Ok(k) => self.cover.has(key(place, k)),
@@ -200,7 +213,9 @@ impl<'a> Late<'a> {
 
     /// Whether a declaration has the net, in constant time on average but for the search among the ranges.
     pub(crate) fn has(&self, alloc: Global, net: &Name) -> Result<bool, Memory>
-        ensures { IfOk result (λ is. (events : List Event) → IsLate self.now events → is ≡ list_any (declares net.now) events) }
+        ensures { IfOk result
+            (λ is. (events : List Event) → IsLate self.now events → is
+            ≡ list_any (declares net.now) events) }
     {
         let net = net.as_bytes();
         if self.alone.has(net) {

@@ -41,7 +41,9 @@ fn add_ports(alloc: Global, ports: &mut Items<Port>, dir: Dir, names: &[Name]) -
 
 #[tactic(auto, unfolding(crate::specs::Modules::ports_of))]
 fn add_declared(alloc: Global, ports: &mut Items<Port>, event: &Event) -> Result<(), Memory>
-    ensures { IfOk result (λ _. (rest : List Event) → ports.new ++ ports_of rest ≡ ports.old ++ ports_of (event.now ∷ rest)) }
+    ensures { IfOk result
+        (λ _. (rest : List Event) → ports.new ++ ports_of rest
+        ≡ ports.old ++ ports_of (event.now ∷ rest)) }
 {
     match event {
         Event::Declared(kind, name, _) => {
@@ -86,7 +88,9 @@ fn begin(
     cell: Name,
     name: Name,
 ) -> Result<(), Memory>
-    ensures { IfOk result (λ _. (at : ℕ) (rest : List Event) → insts.new ++ begun_insts begun.new rest ≡ insts.old ++ begun_insts begun.old (event.Instance cell name at ∷ rest)) }
+    ensures { IfOk result
+        (λ _. (at : ℕ) (rest : List Event) → insts.new ++ begun_insts begun.new rest
+        ≡ insts.old ++ begun_insts begun.old (event.Instance cell name at ∷ rest)) }
 {
     let inst = Inst {
         name,
@@ -102,7 +106,9 @@ fn begin(
 /// Adds a connection to the instance that has begun, where one has.
 #[tactic(auto, unfolding(crate::specs::Modules::insts_of, crate::specs::Modules::conns_of))]
 fn join(begun: &mut Option<Inst>, pin: Name, net: Net) -> Result<(), Memory>
-    ensures { IfOk result (λ _. (rest : List Event) → begun_insts begun.new rest ≡ begun_insts begun.old (event.Connection pin net ∷ rest)) }
+    ensures { IfOk result
+        (λ _. (rest : List Event) → begun_insts begun.new rest
+        ≡ begun_insts begun.old (event.Connection pin net ∷ rest)) }
 {
     match begun {
         None => Ok(()),
@@ -121,7 +127,9 @@ fn take_event(
     begun: &mut Option<Inst>,
     event: Event,
 ) -> Result<(), Memory>
-    ensures { IfOk result (λ _. (rest : List Event) → insts.new ++ begun_insts begun.new rest ≡ insts.old ++ begun_insts begun.old (event ∷ rest)) }
+    ensures { IfOk result
+        (λ _. (rest : List Event) → insts.new ++ begun_insts begun.new rest
+        ≡ insts.old ++ begun_insts begun.old (event ∷ rest)) }
 {
     match event {
         Event::Instance(cell, name, _) => begin(alloc, insts, begun, cell, name),
@@ -157,7 +165,9 @@ fn insts_of(alloc: Global, events: Vec<Event>) -> Result<Items<Inst>, Memory>
 
 #[tactic(auto, unfolding(crate::specs::Modules::module_name))]
 fn named(event: &Event) -> Option<&Name>
-    ensures { (rest : List Event) → MatchOption result (module_name (event.now ∷ rest) ≡ module_name rest) (λ name. module_name (event.now ∷ rest) ≡ Some name.now) }
+    ensures { (rest : List Event)
+        → MatchOption result (module_name (event.now ∷ rest) ≡ module_name rest)
+        (λ name. module_name (event.now ∷ rest) ≡ Some name.now) }
 {
     match event {
         Event::Module(name) => Some(name),

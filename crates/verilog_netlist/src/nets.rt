@@ -40,7 +40,8 @@ fn taken(alloc: Global, names: IndexSet<Name>) -> Result<Items<Name>, Memory>
 /// Whether one of the nets is a bit of a vector.
 #[tactic(auto, using(std::proofs::lemmas::List::drop_more))]
 fn any_bit(alloc: Global, nets: &[Name], span: Span, name: &Name) -> Result<bool, Memory>
-    ensures { IfOk result (λ found. found ≡ list_any (stands (nets_of (Some span) name.now)) nets.now) }
+    ensures { IfOk result
+        (λ found. found ≡ list_any (stands (nets_of (Some span) name.now)) nets.now) }
 {
     for net in nets {
         if is_bit(alloc, span, name, net)? {

@@ -75,8 +75,14 @@ fn check_nets(
     declared: &Declared<'_>,
     best: Option<Wrong>,
 ) -> Result<Checked, Memory>
-    ensures fault { IfOk result (λ checked. checked.fault ≡ least_from best (undeclared_bits declared.now events.now ++ net_excess declared.now (all_vectors [] events.now) [] events.now)) }
-    ensures nets { IfOk result (λ checked. net_excess declared.now (all_vectors [] events.now) [] events.now ≡ [] → checked.nets ≡ all_nets declared.now (all_vectors [] events.now) [] events.now) }
+    ensures fault { IfOk result
+        (λ checked. checked.fault
+        ≡ least_from best
+        (undeclared_bits declared.now events.now ++ net_excess declared.now
+        (all_vectors [] events.now) [] events.now)) }
+    ensures nets { IfOk result
+        (λ checked. net_excess declared.now (all_vectors [] events.now) [] events.now ≡ []
+        → checked.nets ≡ all_nets declared.now (all_vectors [] events.now) [] events.now) }
 {
     let bits = undeclared_bits(alloc, declared, events, best)?;
     let vectors = all_vectors(alloc, events)?;
@@ -98,8 +104,10 @@ fn check_whole(
     best: Option<Wrong>,
 ) -> Result<Checked, Memory>
     requires { declared.now ≡ all_declared [] events.now }
-    ensures fault { IfOk result (λ checked. checked.fault ≡ least_from best (whole_faults events.now)) }
-    ensures nets { IfOk result (λ checked. net_faults events.now ≡ [] → checked.nets ≡ module_nets events.now) }
+    ensures fault { IfOk result
+        (λ checked. checked.fault ≡ least_from best (whole_faults events.now)) }
+    ensures nets { IfOk result
+        (λ checked. net_faults events.now ≡ [] → checked.nets ≡ module_nets events.now) }
 {
     let vectors = whole_vectors(all_vectors(alloc, events)?, events, best)?;
     let ports = undirected(alloc, events, vectors)?;
@@ -108,7 +116,8 @@ fn check_whole(
 
 /// Checks a text of which the grammar does not accept all.
 fn check_broken(alloc: Global, events: &[Event], best: Option<Wrong>) -> Result<Checked, Memory>
-    ensures { IfOk result (λ checked. checked.fault ≡ least_from best (whole_vectors [] events.now)) }
+    ensures { IfOk result
+        (λ checked. checked.fault ≡ least_from best (whole_vectors [] events.now)) }
 {
     Ok(Checked {
         fault: whole_vectors(FewNames::new(alloc), events, best)?,
@@ -128,8 +137,10 @@ fn check_rest(
     requires declared { declared.now ≡ all_declared [] events.now }
     requires stop { stop ≡ least_from None (stops events.now) }
     requires best { best ≡ least_from stop (early_faults events.now) }
-    ensures fault { IfOk result (λ checked. checked.fault ≡ least_from None (faults_of events.now)) }
-    ensures nets { IfOk result (λ checked. faults_of events.now ≡ [] → checked.nets ≡ module_nets events.now) }
+    ensures fault { IfOk result
+        (λ checked. checked.fault ≡ least_from None (faults_of events.now)) }
+    ensures nets { IfOk result
+        (λ checked. faults_of events.now ≡ [] → checked.nets ≡ module_nets events.now) }
 {
     match stop {
         Some(_) => check_broken(alloc, events, best),
@@ -139,8 +150,10 @@ fn check_rest(
 
 /// Checks a text.
 fn check(alloc: Global, events: &[Event]) -> Result<Checked, Memory>
-    ensures fault { IfOk result (λ checked. checked.fault ≡ least_from None (faults_of events.now)) }
-    ensures nets { IfOk result (λ checked. faults_of events.now ≡ [] → checked.nets ≡ module_nets events.now) }
+    ensures fault { IfOk result
+        (λ checked. checked.fault ≡ least_from None (faults_of events.now)) }
+    ensures nets { IfOk result
+        (λ checked. faults_of events.now ≡ [] → checked.nets ≡ module_nets events.now) }
 {
     let stop = stops(alloc, events)?;
     let Declarations { fault, nets } = declared_nets(alloc, events)?;
@@ -151,7 +164,9 @@ fn check(alloc: Global, events: &[Event]) -> Result<Checked, Memory>
 /// The module of a text, or its least fault.
 #[tactic(auto, using(sta_text::proofs::FaultsLemmas::least_none, crate::proofs::FaultLemmas::is_named))]
 fn whole_module(alloc: Global, bytes: &[u8]) -> Result<Module, ReadFault>
-    ensures { MatchResult result (λ m. (faults_of (events_of bytes.now) ≡ []) × (module_of (events_of bytes.now) ≡ Some m)) (λ e. Fails e (faults_of (events_of bytes.now))) }
+    ensures { MatchResult result
+        (λ m. (faults_of (events_of bytes.now) ≡ []) × (module_of (events_of bytes.now) ≡ Some m))
+        (λ e. Fails e (faults_of (events_of bytes.now))) }
 {
     let events = events_of(alloc, bytes)?;
     let Checked { fault, nets } = check(alloc, events.as_slice())?;
@@ -188,7 +203,9 @@ fn whole_module(alloc: Global, bytes: &[u8]) -> Result<Module, ReadFault>
 /// What needs the whole text counts only where the grammar accepts all of it. Want of memory may
 /// come at any time. It reads the bytes once, in linear time.
 pub fn read_module(alloc: Global, bytes: &[u8]) -> Result<Module, ReadFault>
-    ensures value { MatchResult result (λ m. (faults_of (events_of bytes.now) ≡ []) × (module_of (events_of bytes.now) ≡ Some m)) (λ e. Fails e (faults_of (events_of bytes.now))) }
+    ensures value { MatchResult result
+        (λ m. (faults_of (events_of bytes.now) ≡ []) × (module_of (events_of bytes.now) ≡ Some m))
+        (λ e. Fails e (faults_of (events_of bytes.now))) }
     ensures kept { IfOk result IsNetlist }
 {
     whole_module(alloc, bytes)

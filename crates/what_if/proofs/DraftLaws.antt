@@ -8,19 +8,17 @@ use Rattle.timing_defs.specs.declared.faults.Fault.TheVariants.{Memory as no_roo
 use Rattle.timing_defs.specs.declared.faults.QueryFault.{QueryFault}
 use Rattle.timing_defs.specs.declared.faults.QueryFault.TheVariants.{Memory as no_answer}
 use Rattle.timing_defs.specs.declared.reports.Query.{Query}
-use Rattle.timing_defs.specs.declared.reports.Query.TheVariants.{Slew, At, Rat, Slack, Endpoint, WorstPath, Wns, Tns, Worst, Through, Paths, WhatIf', Advise}
 use Rattle.timing_defs.specs.declared.reports.Report.{Report}
 use Rattle.timing_defs.specs.declared.reports.Trial.{Trial}
 use Rattle.timing_defs.specs.declared.reports.Trial.TheVariants.{Try, Drop, Ask}
 use Rattle.timing_defs.specs.declared.reports.TrialRow.{TrialRow}
 use Rattle.timing_defs.specs.declared.reports.TrialAnswer.TheVariants.{Tried, Refused, Dropped, NoDraft, No, Told as told_answer}
 use Rattle.timing_rules.specs.Checks.{Accepts}
-use Rattle.timing_defs.specs.Documents.{is_trial}
+use Rattle.timing_defs.specs.Documents.{is_single}
 use Rattle.timing_rules.specs.Drafts.{shown_design, AreTrials}
 use Rattle.timing_rules.specs.Questions.{Told, query_fault}
-use Rattle.timing_defs.specs.Documents.{is_plain}
 use Rattle.timing_defs.proofs.Members.{some_is}
-use Rattle.timing_rules.proofs.TrialLaws.{plain_told, plain_refused}
+use Rattle.timing_rules.proofs.TrialLaws.{single_told}
 use Rattle.eco_analysis.specs.Soundness.{IsRefusal}
 use Rattle.eco_analysis.specs.Counting.{tells}
 use Rattle.what_if.specs.Layers.{OfLast, Drops, Follows, IsRowOf, AreSoFar}
@@ -74,31 +72,15 @@ none_follows [] new h = absurd (let no : 0 ≡ 1 = h.1 in omega (arith, no))
 none_follows (s ∷ []) new h = ([], h.0, (refl, refl))
 none_follows (s ∷ d ∷ ds) new h = absurd (let no : suc (suc (length ds)) ≡ 1 = h.1 in omega (arith, no))
 
-pub told_follows : (designs : List Design) (q : Query) (r : Report) → is_plain q ≡ true → OfLast designs (λ last. Told last q r) → Follows designs (Ask q) (told_answer r) designs
-told_follows [] q r plain h = absurd h
-told_follows (s ∷ ds) q r plain h = (ds, refl, (plain_told (shown_design s ds) q r plain h, refl))
+pub told_follows : (designs : List Design) (q : Query) (r : Report) → is_single q ≡ true → OfLast designs (λ last. Told last q r) → Follows designs (Ask q) (told_answer r) designs
+told_follows [] q r single h = absurd h
+told_follows (s ∷ ds) q r single h = (ds, refl, (single_told (shown_design s ds) q r single h, refl))
 
-pub no_follows : (designs : List Design) (q : Query) (x : QueryFault) → is_plain q ≡ true → (x ≡ no_answer → ⊥)
+pub no_follows : (designs : List Design) (q : Query) (x : QueryFault) → (x ≡ no_answer → ⊥)
     → OfLast designs (λ last. (x ≡ no_answer) ⊎ (query_fault last q ≡ Some x)) → Follows designs (Ask q) (No x) designs
-no_follows [] q x plain other h = absurd h
-no_follows (s ∷ ds) q x plain other (inl wanting) = absurd (other wanting)
-no_follows (s ∷ ds) q x plain other (inr fault) = (ds, refl, (sym (plain_refused (shown_design s ds) q plain) ∙ fault, refl))
-
--- a question of a trial is plain
-pub trial_plain : (q : Query) → is_trial (Ask q) ≡ true → is_plain q ≡ true
-trial_plain (Slew pin split tran) h = refl
-trial_plain (At pin split tran) h = refl
-trial_plain (Rat pin split tran) h = refl
-trial_plain (Slack pin split tran) h = refl
-trial_plain (Endpoint pin kind) h = refl
-trial_plain (WorstPath pin kind) h = refl
-trial_plain (Wns kind) h = refl
-trial_plain (Tns kind) h = refl
-trial_plain (Worst kind count) h = refl
-trial_plain (Through pin kind pins) h = h
-trial_plain (Paths pin kind count) h = h
-trial_plain (WhatIf' shape trials) h = h
-trial_plain (Advise kind candidates) h = h
+no_follows [] q x other h = absurd h
+no_follows (s ∷ ds) q x other (inl wanting) = absurd (other wanting)
+no_follows (s ∷ ds) q x other (inr fault) = (ds, refl, (fault, refl))
 
 -- rows from the front on
 module _ (snapshot : Design) (trials : List Trial) where

@@ -1,17 +1,18 @@
 //! Trials of ECOs on a design, one over the other.
 
-ghost use Rattle.std.specs.Prelude.{◌≡◌, ◌⊎◌, ◌-◌, ◌≤◌, [], ◌∷◌, ◌++◌, true, Some, IfOk, IfErr, OnOk, OnErr};
+ghost use Rattle.std.specs.Prelude.{◌≡◌, ◌⊎◌, ◌-◌, ◌≤◌, [], ◌∷◌, ◌++◌, true, false, Some, IfOk, IfErr, OnOk, OnErr};
 ghost use Rattle.timing_defs.specs.declared.design.Design.{Design};
 ghost use Rattle.timing_defs.specs.declared.faults.QueryFault.TheVariants.{Memory as no_answer};
 ghost use Rattle.timing_rules.specs.Checks.{Accepts};
 ghost use Rattle.timing_rules.specs.Cones.{IsCounted};
 ghost use Rattle.timing_defs.specs.Documents.{is_eco};
 ghost use Rattle.timing_rules.specs.Questions.{Told, query_fault};
-ghost use Rattle.timing_defs.specs.Documents.{is_plain};
+ghost use Rattle.timing_defs.specs.Documents.{is_plain, is_single};
 ghost use Rattle.eco_analysis.specs.Counting.{is_told};
 ghost use Rattle.eco_analysis.specs.Soundness.{IsRefusal};
 ghost use Rattle.what_if.specs.Layers.{OfLast, Drops};
 
+use crate::answers::DraftAnswers;
 use affected_cone::{Analysis, ask};
 use eco_analysis::{Edited, after_eco};
 use netlist_store::Store;
@@ -126,10 +127,13 @@ impl<'a> Draft<'a> {
         requires eco { is_eco eco.now ≡ true }
         requires some { 1 ≤ workers }
         requires most { workers ≤ 32 }
-        ensures accepts { IfOk result (λ layer. OfLast self.now (λ last. Accepts last eco.now layer)) }
+        ensures accepts { IfOk result
+            (λ layer. OfLast self.now (λ last. Accepts last eco.now layer)) }
         ensures rises { steps.old ≤ steps.new }
-        ensures counted { OfLast self.now (λ last. IsCounted last eco.now (is_told result) (steps.new - steps.old)) }
-        ensures refused { IfErr result (λ fault. OfLast self.now (λ last. IsRefusal last eco.now fault)) }
+        ensures counted { OfLast self.now
+            (λ last. IsCounted last eco.now (is_told result) (steps.new - steps.old)) }
+        ensures refused { IfErr result
+            (λ fault. OfLast self.now (λ last. IsRefusal last eco.now fault)) }
     {
         let shown = self.shown();
         match after_eco(
@@ -167,11 +171,15 @@ impl<'a> Draft<'a> {
         requires eco { is_eco eco.now ≡ true }
         requires some { 1 ≤ workers }
         requires most { workers ≤ 32 }
-        ensures tried { OnOk result (OfLast self.old (λ last. (d : Design) × Accepts last eco.now d × (self.new ≡ self.old ++ d ∷ []))) }
+        ensures tried { OnOk result
+            (OfLast self.old
+            (λ last. (d : Design) × Accepts last eco.now d × (self.new ≡ self.old ++ d ∷ []))) }
         ensures kept { OnErr result (self.new ≡ self.old) }
         ensures rises { steps.old ≤ steps.new }
-        ensures counted { OfLast self.old (λ last. IsCounted last eco.now (is_told result) (steps.new - steps.old)) }
-        ensures refused { IfErr result (λ fault. OfLast self.old (λ last. IsRefusal last eco.now fault)) }
+        ensures counted { OfLast self.old
+            (λ last. IsCounted last eco.now (is_told result) (steps.new - steps.old)) }
+        ensures refused { IfErr result
+            (λ fault. OfLast self.old (λ last. IsRefusal last eco.now fault)) }
     {
         match self.layers.reserve(1) {
             Ok(()) => match self.edited(rt, eco, workers, gate, steps) {
@@ -207,10 +215,32 @@ impl<'a> Draft<'a> {
     pub fn ask(&self, q: &Query) -> Result<Report, QueryFault>
         requires { is_plain q.now ≡ true }
         ensures told { IfOk result (λ report. OfLast self.now (λ last. Told last q.now report)) }
-        ensures refused { IfErr result (λ x. OfLast self.now (λ last. (x ≡ no_answer) ⊎ (query_fault last q.now ≡ Some x))) }
+        ensures refused { IfErr result
+            (λ x. OfLast self.now (λ last. (x ≡ no_answer) ⊎ (query_fault last q.now ≡ Some x))) }
     {
         let shown = self.shown();
         ask(self.alloc, shown.store, shown.analysis, q)
+    }
+
+    /// The answer to a question of the last design that is neither plain nor about a draft.
+    ///
+    /// # Errors
+    ///
+    /// The fault of the question, as the design has it; want of memory.
+    pub fn ask_further<H: Threads + Sync, A: DraftAnswers>(
+        &self,
+        rt: &H,
+        answers: &A,
+        q: &Query,
+    ) -> Result<Report, QueryFault>
+        requires single { is_single q.now ≡ true }
+        requires further { is_plain q.now ≡ false }
+        ensures told { IfOk result (λ report. OfLast self.now (λ last. Told last q.now report)) }
+        ensures refused { IfErr result
+            (λ x. OfLast self.now (λ last. (x ≡ no_answer) ⊎ (query_fault last q.now ≡ Some x))) }
+    {
+        let shown = self.shown();
+        answers.answer_draft(rt, self.alloc, shown.store, shown.analysis, q)
     }
 
     /// Gives the draft up. Takes no memory.

@@ -12,7 +12,8 @@ use std::alloc::Global;
 #[tactic(auto, using(crate::proofs::Marking::marked_more))]
 fn mark_all(marks: &mut [bool], launches: &[Launch])
     requires { All (λ launch. launch.node < length marks.old) launches.now }
-    ensures { (n : ℕ) → is_marked marks.new n ≡ (is_marked marks.old n || is_launched launches.now n) }
+    ensures { (n : ℕ) → is_marked marks.new n
+        ≡ (is_marked marks.old n || is_launched launches.now n) }
 {
     for launch in launches {
         marks[launch.node as usize] = true;

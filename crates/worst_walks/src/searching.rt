@@ -35,7 +35,9 @@ fn tied_walk<O: WalkOrder>(
     requires rows { IsTable (O.rank order.now) cone.now end.now.node rows.now }
     requires launch { launch < length end.now.launches }
     requires least { BestOf int_lt (IsSlackTo cone.now place) (Some least) }
-    ensures { IfOk result (BestOf (comes_before (O.rank order.now) (O.before order.now)) (IsTied cone.now place least launch)) }
+    ensures { IfOk result
+        (BestOf (comes_before (O.rank order.now) (O.before order.now))
+        (IsTied cone.now place least launch)) }
 {
     let begin = end.launch_at(launch);
     let Some(slack) = slack_at(rows, begin) else {
@@ -70,7 +72,8 @@ fn first_tied<O: WalkOrder>(
     requires end { IsEnd cone.now end.now }
     requires rows { IsTable (O.rank order.now) cone.now end.now.node rows.now }
     requires least { BestOf int_lt (IsSlackTo cone.now place) (Some least) }
-    ensures { IfOk result (BestOf (comes_before (O.rank order.now) (O.before order.now)) (IsTo cone.now place)) }
+    ensures { IfOk result
+        (BestOf (comes_before (O.rank order.now) (O.before order.now)) (IsTo cone.now place)) }
 {
     let mut first = None;
     for launch in 0..end.launches.len() {
@@ -93,7 +96,8 @@ fn worst_to<O: WalkOrder>(
     requires order { IsOrdered cone.now (O.count order.now) (O.rank order.now) }
     requires marks { AreFirst cone.now marks.now }
     requires place { place < length cone.now.ends }
-    ensures { IfOk result (BestOf (comes_before (O.rank order.now) (O.before order.now)) (IsTo cone.now place)) }
+    ensures { IfOk result
+        (BestOf (comes_before (O.rank order.now) (O.before order.now)) (IsTo cone.now place)) }
 {
     let end = cone.end_at(place);
     let rows = table_to(alloc, cone, order, marks, end.node)?;

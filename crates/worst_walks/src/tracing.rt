@@ -77,7 +77,9 @@ fn compared<O: WalkOrder>(order: &O, one: u32, other: u32) -> Ordering
 fn is_less<O: WalkOrder>(order: &O, left: &[u32], right: &[u32]) -> bool
     requires left { All (λ n. n < O.count order.now) left.now }
     requires right { All (λ n. n < O.count order.now) right.now }
-    ensures { result ≡ is_lt (slice_cmp nat_cmp (map (O.rank order.now) left.now) (map (O.rank order.now) right.now)) }
+    ensures { result
+        ≡ is_lt
+        (slice_cmp nat_cmp (map (O.rank order.now) left.now) (map (O.rank order.now) right.now)) }
 {
     for place in 0..left.len().min(right.len()) {
         match compared(order, left[place], right[place]) {
@@ -99,7 +101,9 @@ pub fn comes_before<O: WalkOrder>(
 ) -> Result<bool, Memory>
     requires one { All (λ n. n < O.count order.now) one.now.nodes }
     requires other { All (λ n. n < O.count order.now) other.now.nodes }
-    ensures { IfOk result (λ before. before ≡ comes_before (O.rank order.now) (O.before order.now) one.now other.now) }
+    ensures { IfOk result
+        (λ before. before
+        ≡ comes_before (O.rank order.now) (O.before order.now) one.now other.now) }
 {
     if one.slack != other.slack {
         return Ok(one.slack < other.slack);
@@ -118,7 +122,9 @@ pub(crate) fn former<O: WalkOrder>(
 ) -> Result<Option<Walk>, Memory>
     requires first { AreKnown (O.count order.now) first }
     requires second { AreKnown (O.count order.now) second }
-    ensures { IfOk result (λ best. best ≡ better (comes_before (O.rank order.now) (O.before order.now)) first second) }
+    ensures { IfOk result
+        (λ best. best
+        ≡ better (comes_before (O.rank order.now) (O.before order.now)) first second) }
 {
     match (first, second) {
         (None, other) => Ok(other),

@@ -13,6 +13,7 @@ from lizdrog_tools.read_answers import (
     Output,
     Row,
     answer_text,
+    asked_slacks,
     draft_rows,
     lines_of_row,
     may_answer,
@@ -109,14 +110,9 @@ def endpoint_slacks(corner: CornerAnswers) -> dict[str, dict[str, str]]:
     """The slacks of endpoints by kind, from the rows of the last design that has such rows."""
     by_design: dict[int, dict[str, dict[str, str]]] = {}
     for answer in corner.answers:
-        words, row = answer.command.words, answer.row
-        if row.sort == "endpoint":
-            pairs, kind = [(words[1], row.words[0])], words[2]
-        elif row.sort == "worst":
-            pairs, kind = row.below, words[1]
-        else:
-            continue
-        by_design.setdefault(row.design, {it: {} for it in KINDS})[kind].update(pairs)
+        asked = asked_slacks(answer.command.words, answer.row)
+        if asked is not None:
+            by_design.setdefault(answer.row.design, {it: {} for it in KINDS})[asked[0]].update(asked[1])
     return by_design[max(by_design)] if by_design else {it: {} for it in KINDS}
 
 

@@ -25,6 +25,8 @@ MOST_OPEN = 1 << 20
 MOST_UNREAD = 4 << 20
 MOST_ENTRIES, MOST_CLIENTS = 1000, 256
 OPEN_SECONDS, LONG_SECONDS, OVER_SECONDS, LAST_SECONDS = 0.01, 0.002, 0.2, 2.0
+# Signals that come so close are one: timeout(1) sends its own to the command and to the group of it.
+PAIR_SECONDS = 0.3
 IN, OUT = select.EPOLLIN, select.EPOLLOUT
 GONE = select.EPOLLHUP | select.EPOLLERR
 SIGNALS = (signal.SIGTERM, signal.SIGINT, signal.SIGHUP)
@@ -94,6 +96,7 @@ class Bridge:
         self.entries: list[dict] = []
         self.newest, self.served, self.output = about["first"], 0, b""
         self.is_ready, self.is_ending, self.signals, self.heeded = False, False, 0, 0
+        self.last_signal = -PAIR_SECONDS
 
     # ------------------------------------------------------------------------------------------------ waiting
 
@@ -481,7 +484,9 @@ class Bridge:
         self.output += data
 
     def signalled(self, number: int, _: object) -> None:
-        self.signals += 1
+        now = time.monotonic()
+        self.signals += now - self.last_signal >= PAIR_SECONDS
+        self.last_signal = now
 
     def heed_signals(self) -> None:
         """The first signal ends all inputs, so that the server ends by itself; a later one ends the server."""
@@ -489,6 +494,7 @@ class Bridge:
             return
         self.heeded = self.signals
         if self.is_ending:
+            self.say("ending: a further signal ends the server at once")
             self.child.send_signal(signal.SIGTERM)
             return
         self.say("ending: the inputs of all sessions are closed")

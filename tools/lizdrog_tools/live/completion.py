@@ -15,18 +15,20 @@ OF_PROMPT = {
     "leave": "gives the seat up and ends",
     "quit": "ends; the seat is kept for your name",
 }
-FIXED = {"SPLIT": ["early", "late"], "EDGE": ["rise", "fall"], "KIND": ["setup", "hold"]}
+FIXED = {"SPLIT": ["early", "late"], "EDGE": ["rise", "fall"], "KIND": ["setup", "hold"], "AIM": ["wns", "tns"],
+         "each": ["each"]}
 FURTHER = ["begin_eco", "commit_eco", "begin_what_if", "end_what_if"]
-ENDPOINTS = ("report_endpoint", "report_path", "report_paths", "report_through")
+ENDPOINTS = ("report_endpoint", "report_path", "report_paths", "report_through", "report_timing",
+             "report_timing_through")
 MOST = 500
 
 
 def templates() -> dict[str, list[str]]:
     """The words of each command, by what `lizdrog --help` says of it."""
     found = {}
-    for words, _, _ in [*help_text.QUESTIONS, *help_text.EDITS, *help_text.OTHERS]:
+    for words, _, _ in [*help_text.QUESTIONS, *help_text.CLOSING, *help_text.EDITS, *help_text.OTHERS]:
         name, *rest = words.split()
-        found.setdefault(name, rest)
+        found[name] = max(found.get(name, []), rest, key=len)
     return {**found, "set_parasitics": ["NET", "ITEM", ".."], **{it: [] for it in FURTHER}}
 
 
@@ -38,7 +40,7 @@ def sort_at(command: str, place: int) -> str:
     """What stands at a place of a command, from 0; nothing known is empty."""
     words = TEMPLATES.get(command, [])
     if words[-1:] == [".."] and place >= len(words) - 1:
-        if command == "advise":
+        if command in ("advise", "advise_tns"):
             return words[1 + (place - 1) % 2]
         return words[-2]
     return words[place] if place < len(words) else ""
@@ -48,9 +50,10 @@ class Names:
     """The names of a design, each sort in order."""
 
     def __init__(self, design: Design, libraries: Iterable[dict]):
-        self.design = design
+        self.design, self.libraries = design, list(libraries)
+        self.alike: dict[str, list[str]] = {}
         self.instances, self.nets = sorted(design.parts), sorted(design.wires)
-        self.ports, self.cells = sorted(design.ports), sorted({it for cells in libraries for it in cells})
+        self.ports, self.cells = sorted(design.ports), sorted({it for cells in self.libraries for it in cells})
         self.ends = sorted([*(it for it, way in design.ports.items() if way == "output"), *self.data_pins()])
 
     def data_pins(self) -> Iterable[str]:
@@ -72,6 +75,19 @@ class Names:
         part = self.design.parts[instance]
         cell = self.design.library.cells.get(part.cell)
         return sorted(f"{instance}:{it}" for it in (cell.pins if cell else part.nets))
+
+    def sizes(self, instance: str, prefix: str) -> list[str]:
+        """The cells that begin so and are alike that of an instance, in all libraries; all cells where there is none.
+        """
+        part = self.design.parts.get(instance)
+        if part is not None and part.cell not in self.alike:
+            self.alike[part.cell] = [it for it in self.cells if self.is_size(it, part.cell)]
+        return begins(self.alike[part.cell] if part else [], prefix) or begins(self.cells, prefix)
+
+    def is_size(self, name: str, present: str) -> bool:
+        """Whether a cell is another one that is alike, in all libraries."""
+        pairs = [(cells.get(name), cells.get(present)) for cells in self.libraries]
+        return name != present and all(one and other and one.is_alike(other) for one, other in pairs)
 
     def of(self, sort: str, prefix: str) -> list[str]:
         """The names of a sort that begin so."""
@@ -109,4 +125,6 @@ def complete(line: str, names: Callable[[], Names | None]) -> tuple[str, list[st
     known = names()
     if known is None or not sort:
         return prefix, []
+    if sort == "CELL" and sort_at(command, place - 1) == "INSTANCE":
+        return prefix, known.sizes(words[-1], prefix)
     return prefix, known.of("END" if sort == "PIN" and place == 0 and command in ENDPOINTS else sort, prefix)

@@ -35,9 +35,11 @@ from lizdrog_tools.live.design import MOST_EDITS, CannotUndo, standing_undo
 from lizdrog_tools.live.replies import Reply
 from lizdrog_tools.live.shown import Documents
 from lizdrog_tools.read_answers import ENDS, Command, Row, commands_of
+from lizdrog_tools.refused_parasitics import CODES
 
 WRONG_WORDS, LOST, INTERRUPTED = 2, 4, 130
 NO_ANSWERS = ("refused", "no", "not_yet")
+PATHS = ("path", "paths", "worst_paths", "timing")
 SHOWN_ENTRIES = 20
 SHOWN_EDITS = 3
 MOST_DIGITS = 10
@@ -172,10 +174,11 @@ class Talk:
         print(json.dumps(what), flush=True)
 
     def beside(self, row: Row) -> read_answers.Edited | None:
-        """What tells of the pins of the paths in a row; none where it has none."""
-        has_path = row.sort in ("path", "paths") or row.sort == "what_if" and any(it[0] == "path" for it in row.below)
+        """What tells of the pins of the paths in a row, or of refused parasitics; none where it has none."""
+        answers = row.below if row.sort == "what_if" else [[row.sort, *row.words]]
+        is_told = any(it[0] in PATHS or it[0] == "refused" and it[1] in CODES for it in answers)
         # A person is not kept waiting while a large netlist is read.
-        if not has_path or self.prompt.is_person and not self.documents.is_read or not self.documents.wait():
+        if not is_told or self.prompt.is_person and not self.documents.is_read or not self.documents.wait():
             return None
         self.know(row.design)
         return self.documents.beside(row.design)
@@ -386,6 +389,7 @@ class Talk:
         if words:
             rows = [
                 *help_text.QUESTIONS,
+                *help_text.CLOSING,
                 *help_text.EDITS,
                 *help_text.OTHERS,
                 *((name, name, what) for name, what in OF_PROMPT.items()),

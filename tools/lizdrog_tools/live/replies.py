@@ -2,12 +2,16 @@
 import dataclasses
 import re
 
+from lizdrog_tools import closing_answers
+
 BLANKS = re.compile(rb"[ \t]+")
 LONGEST_LINE = 65536
 # What stands for the words of a line that is wrong whatever it says.
 WRONG = [b"\xff"]
 # A reply whose lines are more than this is handed on in parts: such an answer is none that the server gives.
 MOST_LINES = 10_000_000
+# How many of an answer's words, counted from the end, say how many plain lines follow.
+COUNTS = {b"path": (1,), **{sort.encode(): places for sort, places in closing_answers.COUNTS.items()}}
 
 
 def words_of(line: bytes) -> list[bytes]:
@@ -23,7 +27,7 @@ def words_of(line: bytes) -> list[bytes]:
 
 def count_of(words: list[bytes], at: int) -> int:
     """The number that a word is, or 0."""
-    if at >= len(words) or not words[at].isdigit():
+    if not 0 <= at < len(words) or not words[at].isdigit():
         return 0
     return min(int(words[at][:9]), MOST_LINES)
 
@@ -31,13 +35,15 @@ def count_of(words: list[bytes], at: int) -> int:
 def counts_below(answer: list[bytes]) -> tuple[int, int]:
     """How many answers and how many plain lines follow the line of an answer."""
     sort = answer[0] if answer else b""
-    if sort in (b"paths", b"what_if"):
+    if sort in (b"paths", b"worst_paths", b"what_if"):
         return count_of(answer, 1), 0
-    if sort == b"worst":
+    if sort in (b"worst", b"skew", b"resizes"):
         return 0, count_of(answer, 1)
-    if sort == b"path" and answer[1:2] != [b"none"]:
-        return 0, count_of(answer, len(answer) - 1)
-    return 0, 0
+    if sort == b"summary":
+        return 0, count_of(answer, 3)
+    if sort in (b"path", b"timing") and answer[1:2] == [b"none"]:
+        return 0, 0
+    return 0, sum(count_of(answer, len(answer) - it) for it in COUNTS.get(sort, ()))
 
 
 @dataclasses.dataclass(frozen=True)

@@ -11,14 +11,14 @@ outlives its client, who takes it up again by its name.
   --transcript FOLDER            keeps what each session asked and heard, for tools/check_sessions.py
   --program FILE, --proved       this program; refuses one that is not proved
 
-SIGTERM and SIGINT end it: the sessions are closed, and the server writes its last line. The status is that of the live
-server (`lizdrog --help`), and 70 where there is none. docs/LIVE.md walks through it.
+SIGTERM and SIGINT end it: the sessions are closed, and the server writes its last line. A further signal, a third of a
+second later or more, ends the server at once, with status 143. The status is else that of the live server (`lizdrog
+--help`), and 70 where there is none. docs/LIVE.md walks through it.
 """
 import argparse
 import contextlib
 import os
 import shutil
-import signal
 import socket
 import stat
 import subprocess

@@ -14,6 +14,12 @@ def picoseconds(value: int) -> str:
     return f"{sign}{value // 1000}.{value % 1000:03d}"
 
 
+def endpoints_text(values: list[int]) -> str:
+    """How many endpoints these slacks are of, and whether all of them fail."""
+    failing = "failing " if values and max(values) < 0 else ""
+    return f"{len(values)} {failing}endpoint{'' if len(values) == 1 else 's'}"
+
+
 def bins_of(values: list[int]) -> list[tuple[int, int, int]]:
     """Bins of one, two or five times a power of ten, some ten of them, with their counts; 0 is a border."""
     low, high = min(values), max(values)
@@ -97,5 +103,5 @@ def histograms(number: int, slacks: dict[str, dict[str, int | None]]) -> Picture
     panels = {kind: values for kind, values in panels.items() if values}
     picture = Picture(WIDTH, HEIGHT * max(1, len(panels)), f"slacks of endpoints, design {number}")
     for place, (kind, values) in enumerate(panels.items()):
-        draw_histogram(picture, place * HEIGHT, f"{kind} slack of {len(values)} endpoints, design {number}", values)
+        draw_histogram(picture, place * HEIGHT, f"{kind} slack of {endpoints_text(values)}, design {number}", values)
     return picture

@@ -14,7 +14,7 @@ from lizdrog_tools.read_answers import Edited, Row, thousandths
 from lizdrog_tools.reporting.clocks import Clock, capture_clocks, read_clocks
 from lizdrog_tools.reporting.histogram import histogram, picoseconds
 from lizdrog_tools.reporting.path_picture import bar, path_picture
-from lizdrog_tools.reporting.paths import ShownPath, Times, shown_path
+from lizdrog_tools.reporting.paths import ShownPath, Times, shown_path, shown_timing
 from lizdrog_tools.reporting.replay import Replay
 from lizdrog_tools.verilog import read_netlist
 
@@ -214,27 +214,31 @@ class Page:
         return sum(max(0, len(it) - MOST_ENDPOINTS) for it in self.merged.endpoints.values())
 
     def shown_paths(self) -> Iterator[ShownPath]:
-        """The paths of all answers, worst first, setup before hold."""
+        """The paths of all answers, worst first, setup before hold; of one that was asked twice, that with most."""
         found: dict[tuple, ShownPath] = {}
         for corner in self.source.with_paths:
-            answers = list(path_rows(corner))
-            edited = self.edited(corner) if answers else None
-            clocks = self.clocks_of_corner(corner.name)
-            for design, rows in answers:
-                times = Times(
-                    {
-                        tuple(answer.command.words): answer.row
-                        for answer in corner.answers
-                        if answer.row.design == design
-                    }
-                )
-                for row in rows:
-                    path = shown_path(corner.name, row, edited, clocks, times)
-                    path.is_former = design != corner.design()
-                    found[(path.kind, path.pin, path.corner, design, tuple(it.pin for it in path.stages))] = path
+            for design, path in self.paths_of_corner(corner):
+                key = (path.kind, path.pin, path.corner, design, path.nodes())
+                if key not in found or path.is_timed or not found[key].is_timed:
+                    found[key] = path
         last = max((key[3] for key in found), default=0)
         paths = [path for key, path in found.items() if key[3] == last]
         return iter(sorted(paths, key=lambda it: (KINDS.index(it.kind), it.slack, it.pin)))
+
+    def paths_of_corner(self, corner: CornerAnswers) -> Iterator[tuple[int, ShownPath]]:
+        """The paths of the answers of a corner, each with the number of its design."""
+        answers = list(path_rows(corner))
+        edited = self.edited(corner) if answers else None
+        clocks = self.clocks_of_corner(corner.name)
+        for design, rows in answers:
+            times = Times({tuple(it.command.words): it.row for it in corner.answers if it.row.design == design})
+            for row in rows:
+                if row.sort == "timing":
+                    path = shown_timing(corner.name, row, edited)
+                else:
+                    path = shown_path(corner.name, row, edited, clocks, times)
+                path.is_former = design != corner.design()
+                yield design, path
 
     def picture(self, path: ShownPath) -> str:
         """The picture of a path."""
@@ -276,9 +280,9 @@ def path_rows(corner: CornerAnswers) -> Iterator[tuple[int, list[Row]]]:
     """The paths of the rows of a corner, with the design that each row speaks of."""
     for answer in corner.answers:
         row = answer.row
-        if row.sort == "path" and row.words[0] != NONE and row.below:
+        if row.sort in ("path", "timing") and row.words[0] != NONE and row.below:
             yield row.design, [row]
-        elif row.sort == "paths":
+        elif row.sort in ("paths", "worst_paths"):
             yield row.design, [it for it in row.parts() if it.below]
 
 

@@ -1,7 +1,8 @@
 """A path as a page shows it: its stages along the time axis, and the parts of its required time."""
 import dataclasses
 
-from lizdrog_tools.read_answers import Edited, Row, path_lines, picoseconds, thousandths
+from lizdrog_tools import closing_answers
+from lizdrog_tools.read_answers import Edited, Row, cells_beside, path_lines, picoseconds, thousandths
 from lizdrog_tools.reporting.clocks import SETUP, Clock, clock_edge, ends_the_network, separation
 from lizdrog_tools.verilog import Joined
 
@@ -21,10 +22,19 @@ class Stage:
     cell: str
     net: str
     sinks: tuple[str, ...]
+    # What report_timing tells besides: the count of sinks, the load of the net, and the slew.
+    fanout: int = 0
+    load: str = ""
+    slew: str = ""
 
     def delay(self) -> int:
         """What the step adds."""
         return self.end - self.start
+
+    def net_text(self) -> str:
+        """The net that the step drives, with the count of its sinks, and its load where it is known."""
+        load = f", {self.load} fF" if self.load else ""
+        return f"{self.net}, {self.fanout}{load}" if self.net else ""
 
     def sinks_text(self) -> str:
         """The sinks of the net that the step drives, by name."""
@@ -60,8 +70,13 @@ class ShownPath:
     start: tuple[str, str, int]
     stages: list[Stage]
     parts: list[Part]
-    # Whether a later ECO of the same run came after it.
+    # Whether a later ECO of the same run came after it; and whether report_timing has told of slews and loads.
     is_former: bool = False
+    is_timed: bool = False
+
+    def nodes(self) -> tuple[tuple[str, str], ...]:
+        """Its pins with their edges, which are those of no other path."""
+        return (self.start[:2], *((it.pin, it.edge) for it in self.stages))
 
     def arrival(self) -> int:
         """When the path ends."""
@@ -77,33 +92,35 @@ class ShownPath:
         return max(stages, key=Stage.delay, default=None)
 
 
-def stages_of(row: Row, edited: Edited | None) -> tuple[tuple[str, str, int], list[Stage]]:
+def stages_of(lines: list[dict], joined: Joined | None) -> tuple[tuple[str, str, int], list[Stage]]:
     """The start of a path and its stages."""
-    lines = path_lines(row, edited)
-    joined = edited.at(row.design) if edited else None
     # The clock network ends at the last clock pin of a register that the path enters before its data part.
     entries = [at for at, line in enumerate(lines[:-1]) if joined and ends_the_network(joined, line["pin"])]
     last = entries[0] if entries else 0
-    stages = []
-    for at in range(1, len(lines)):
-        line, before = lines[at], lines[at - 1]
-        instance = line["pin"].rpartition(":")[0]
-        is_cell = bool(instance) and instance == before["pin"].rpartition(":")[0]
-        stages.append(
-            Stage(
-                line["pin"],
-                line["edge"],
-                thousandths(before["time"]),
-                thousandths(line["time"]),
-                is_cell,
-                at <= last,
-                line.get("cell", ""),
-                line.get("net") or "",
-                tuple(joined.nets[line["net"]].sinks) if line.get("net") else (),
-            )
-        )
-    first = lines[0]
+    first, stages = lines[0], []
+    for at, (before, line) in enumerate(zip(lines, lines[1:]), 1):
+        stages.append(stage_of(before, line, at <= last, joined))
     return (first["pin"], first["edge"], thousandths(first["time"])), stages
+
+
+def stage_of(before: dict, line: dict, is_network: bool, joined: Joined | None) -> Stage:
+    """The step from one line of a path to the next one."""
+    instance, net = line["pin"].rpartition(":")[0], line.get("net") or ""
+    known = joined.nets.get(net) if joined else None
+    return Stage(
+        line["pin"],
+        line["edge"],
+        thousandths(before["time"]),
+        thousandths(line["time"]),
+        bool(instance) and instance == before["pin"].rpartition(":")[0],
+        is_network,
+        line.get("cell", ""),
+        net,
+        tuple(known.sinks) if known else (),
+        line.get("fanout") or 0,
+        line.get("load") or "",
+        line.get("slew") or "",
+    )
 
 
 @dataclasses.dataclass
@@ -166,15 +183,41 @@ def required_parts(path: ShownPath, joined: Joined | None, clocks: dict[str, Clo
     return chain(0, [*steps, ("credit", "credit", sign * path.credit), ("exceptions", "edge", exceptions)])
 
 
+def path_of_row(corner: str, row: Row, lines: list[dict], joined: Joined | None) -> ShownPath:
+    """What a page shows of a row with a path, but the parts of its required time."""
+    words = row.words
+    launch, capture = (words[7], words[8]), (words[10], words[11])
+    slack, credit = thousandths(words[3]), thousandths(words[5])
+    return ShownPath(corner, words[0], words[1], slack, credit, launch, capture, *stages_of(lines, joined), [])
+
+
 def shown_path(corner: str, row: Row, edited: Edited | None, clocks: dict[str, Clock], times: Times) -> ShownPath:
     """What a page shows of a row of `report_path`."""
-    words = row.words
-    start, stages = stages_of(row, edited)
-    launch, capture = (words[7], words[8]), (words[10], words[11])
-    path = ShownPath(
-        corner, words[0], words[1], thousandths(words[3]), thousandths(words[5]), launch, capture, start, stages, []
-    )
-    path.parts = required_parts(path, edited.at(row.design) if edited else None, clocks, times)
+    joined = edited.at(row.design) if edited else None
+    path = path_of_row(corner, row, path_lines(row, edited), joined)
+    path.parts = required_parts(path, joined, clocks, times)
+    return path
+
+
+# How the picture and the table of a required time name and draw the parts of report_timing.
+PARTS = {
+    "capture_edge": ("capture edge", "edge"),
+    "capture_arrival": ("capture clock", "early"),
+    "setup_time": ("setup time", "margin"),
+    "hold_time": ("hold time", "margin"),
+    "output_delay": ("output delay", "margin"),
+    "uncertainty": ("uncertainty", "margin"),
+    "credit": ("credit", "credit"),
+}
+
+
+def shown_timing(corner: str, row: Row, edited: Edited | None) -> ShownPath:
+    """What a page shows of a row of `report_timing`, which has each part of the required time."""
+    joined = edited.at(row.design) if edited else None
+    lines, _, parts = closing_answers.stages(row.words, row.below, cells_beside(row, edited))
+    path = path_of_row(corner, row, lines, joined)
+    path.parts = chain(0, [(*PARTS[name], thousandths(more[-1])) for name, *more in parts if name in PARTS])
+    path.is_timed = True
     return path
 
 

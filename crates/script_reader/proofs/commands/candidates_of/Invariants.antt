@@ -1,6 +1,6 @@
 use Rattle.std.proofs.Common.{◌≡◌, ◌++◌, map, length}
 use Rattle.eco_journal.specs.Lines.{part_of}
-use Rattle.script_reader.specs.Commands.{are_pairs, candidates_of}
+use Rattle.script_reader.specs.Words.{are_pairs, candidates_of}
 use Rattle.script_reader.proofs.commands.candidates_of.Given as goal
 
 -- the words that are left stand in pairs where all do, and the candidates passed and those that they name are those of the words

@@ -1,0 +1,6 @@
+pub mod OrderLaws
+pub mod CellLaws
+pub mod PinLaws
+pub mod ResizeLaws
+pub mod SizeLaws
+pub mod AskedLaws

@@ -1,0 +1,4 @@
+pub mod WireLaws
+pub mod OrderLaws
+pub mod SinkLaws
+pub mod NetLaws

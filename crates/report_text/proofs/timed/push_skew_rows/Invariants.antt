@@ -1,0 +1,8 @@
+use Rattle.std.proofs.Common.{◌≡◌, ◌++◌, drop}
+use Rattle.std.specs.List.{flat_map}
+use Rattle.timing_defs.specs.Output.{skew_text}
+use Rattle.report_text.proofs.timed.push_skew_rows.Given as goal
+
+abbrev pub invariant-loop-row : goal.invariant-loop-row
+invariant-loop-row l =
+    l.out.items ++ flat_map (skew_text l.clocks) (drop l.row-index l.rows) ≡ l.initial.out.items ++ flat_map (skew_text l.clocks) l.rows

@@ -1,0 +1,6 @@
+pub mod FirstLists
+pub mod Placing
+pub mod TrialLaws
+pub mod ReportLaws
+pub mod OnceLaws
+pub mod SizeLaws

@@ -1,0 +1,4 @@
+pub mod Failures
+pub mod Registers
+pub mod Outermost
+pub mod Skews

@@ -1,0 +1,12 @@
+pub mod CaptureLaws
+pub mod ChoiceLaws
+pub mod CreditLaws
+pub mod LaunchLaws
+pub mod NumberLaws
+pub mod PartLaws
+pub mod PathLaws
+pub mod StageLaws
+pub mod TestLaws
+pub mod CourseLaws
+pub mod WantedLaws
+pub mod AnswerLaws
