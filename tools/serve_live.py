@@ -1,13 +1,11 @@
 #!/usr/bin/env python3
 """Serves a design to clients: `lizdrog serve` starts this."""
-import _signal as signal
-
 from lizdrog_tools import ending
 
 
 def main() -> int:
     """Heeds signals before it reads what takes time."""
-    ending.heed("lizdrog serve", " before a server was started", (*ending.NUMBERS, signal.SIGINT))
+    ending.heed("lizdrog serve", " before a server was started", ending.ALL)
     from lizdrog_tools.live import serve
     return serve.main()
 

@@ -9,7 +9,7 @@ import os
 import signal
 import subprocess
 
-from lizdrog_tools import command_line, programs, run_lizdrog
+from lizdrog_tools import command_line, ending, programs, run_lizdrog
 from lizdrog_tools.live.children import with_parent
 from lizdrog_tools.run_lizdrog import say
 
@@ -18,16 +18,25 @@ SOME_NO_ANSWER, WRONG_WORDS, REFUSED, NOT_READ, NOT_WRITTEN, WANTING = range(1, 
 DOCUMENTS = 5
 
 
-def run(program: str, words: list[str]) -> int:
-    """Runs the live server with these words, and explains its status."""
+def start(program: str, words: list[str]) -> subprocess.Popen:
+    """Starts the live server and passes signals on to it."""
+    before = ending.hold(PASSED_ON)
     try:
         child = subprocess.Popen(
-            [program, *words], env=run_lizdrog.surroundings(), close_fds=False, preexec_fn=with_parent()
+            [program, *words], env=run_lizdrog.surroundings(), close_fds=False, preexec_fn=with_parent(before)
         )
+        for number in PASSED_ON:
+            signal.signal(number, lambda got, _: child.send_signal(got))
     except OSError as why:
         raise programs.Stop(f"{program} does not start: {why.strerror}") from why
-    for number in PASSED_ON:
-        signal.signal(number, lambda got, _: child.send_signal(got))
+    finally:
+        ending.release(PASSED_ON)
+    return child
+
+
+def run(program: str, words: list[str]) -> int:
+    """Runs the live server with these words, and explains its status."""
+    child = start(program, words)
     status = child.wait()
     if status < 0:
         return 128 - status

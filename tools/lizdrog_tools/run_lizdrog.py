@@ -45,6 +45,14 @@ def surroundings() -> dict[str, str]:
     return {**os.environ, "GLIBC_TUNABLES": ":".join([*([said] if said else []), *added])}
 
 
+def pass_on(child: int, number: int) -> None:
+    """Passes a signal on to a process, which may have ended meanwhile."""
+    try:
+        os.kill(child, number)
+    except ProcessLookupError:
+        pass
+
+
 def start(program: str, words: list[str]) -> tuple[int, int]:
     """Starts the program and passes signals on to it; gives the number of its process, and what to read its output
     from."""
@@ -55,7 +63,7 @@ def start(program: str, words: list[str]) -> tuple[int, int]:
         child = os.posix_spawn(program, [program, *words], surroundings(), setsigdef=as_default, setsigmask=before,
                                file_actions=[(os.POSIX_SPAWN_DUP2, writing, 1)])
         for number in passed_on:
-            signal.signal(number, lambda got, _: os.kill(child, got))
+            signal.signal(number, lambda got, _: pass_on(child, got))
     except OSError as why:
         raise Stop(f"{program} does not start: {why.strerror}") from why
     finally:
@@ -123,8 +131,8 @@ def usage(why: str) -> None:
 def explain(status: int, first: bytes, words: list[str]) -> None:
     """Says more of a run that did not end with answers alone."""
     if status == 1:
-        say("status 1: some row is refused, no or not_yet; tools/read_answers.py SCRIPT OUTPUT shows the command of each, "
-            "and what its code means")
+        say("status 1: some row is refused, no or not_yet; tools/read_answers.py SCRIPT OUTPUT shows the command of "
+            "each, and what its code means")
         if any(it in first for it in (b" refused E14 ", b"\nrefused E14 ", b" refused E15 ", b"\nrefused E15 ")):
             say("its options --netlist and --library tell which pin of a net its parasitics do not fit (E14, E15)")
         return
@@ -208,7 +216,9 @@ def answer(words: list[str]) -> int:
     """The status of a call with these words."""
     if words and words[0] in BESIDE:
         if words[0] == "serve":
-            ending.hold(ending.heeded())
+            ending.hold(ending.heeded(ending.ALL))
+        else:
+            ending.leave()
         os.execv(sys.executable, [sys.executable, f"{programs.TOP}/tools/{BESIDE[words[0]]}", *words[1:]])
     asked = command_line.asked_help(words)
     if asked is not None:

@@ -17,6 +17,17 @@ from lizdrog_tools import quick_build
 from lizdrog_tools.live import bridge
 
 NAMES = {signal.SIGTERM: 143, signal.SIGHUP: 129, signal.SIGINT: 130}
+# A signal that comes to this process behind the last step of Python's own before a call: no such step lies between the
+# parts of a chain. kill(2) comes of the C library, because that of Python looks at signals.
+LATE = """
+import collections, ctypes, itertools, os, runpy, signal, sys
+from lizdrog_tools import ending
+
+def late(number, call, *words):
+    kill = itertools.starmap(ctypes.CDLL(None).kill, [(os.getpid(), number)])
+    return collections.deque(itertools.chain(kill, itertools.starmap(call, [words])), maxlen=1).pop()
+
+"""
 
 
 class Folder(unittest.TestCase):
@@ -39,6 +50,12 @@ class Folder(unittest.TestCase):
         for it in (child.stdout, child.stderr):
             it.close()
 
+    def late(self, code, *words):
+        """How a command ends of which parts send a signal late."""
+        child = self.start(sys.executable, "-c", LATE + code, *words)
+        out, err = child.communicate(timeout=SECONDS)
+        return child.returncode, out, err
+
     def reached(self, fifo):
         """Waits until somebody reads a FIFO; gives its other end, which keeps the reader there."""
         deadline = time.monotonic() + SECONDS
@@ -52,10 +69,12 @@ class Folder(unittest.TestCase):
     def ended(self, child, number, *more):
         """How a command ends that reads a FIFO when this signal comes."""
         held = self.reached(self.folder / "p.toml")
-        for it in (number, *more):
-            child.send_signal(it)
-        out, err = child.communicate(timeout=SECONDS)
-        os.close(held)
+        try:
+            for it in (number, *more):
+                child.send_signal(it)
+            out, err = child.communicate(timeout=SECONDS)
+        finally:
+            os.close(held)
         return child.returncode, out, err
 
 
@@ -95,6 +114,81 @@ class BeforeAServer(Folder):
         self.assertIn("lizdrog serve: ended by signal 15 before a server was started\n", err)
 
 
+class BeforeAWait(Folder):
+    """A signal that comes after Python has looked for one, and before a call that waits begins."""
+
+    def test_a_tool_that_opens_a_document(self):
+        """Here between open(2) and read(2) of a FIFO that nobody writes."""
+        os.mkfifo(self.folder / "p.toml")
+        code = ("import io\nclass File(io.FileIO):\n    def read(self):\n        return late(int(sys.argv.pop()), "
+                "super().read)\nfrom lizdrog_tools import files\nfiles.open = lambda name, _: File(name, 'r+')\n"
+                "runpy.run_path(sys.argv.pop(1), run_name='__main__')")
+        tool = (common.TOOLS / "serve_live.py", "p.toml", "--listen", "unix:s", "--program", STAND_IN)
+        for number, status in NAMES.items():
+            line = f"lizdrog serve: ended by signal {int(number)} before a server was started\n"
+            self.assertEqual(self.late(code, *tool, int(number)), (status, "", line))
+
+    def test_a_call_that_waits_for_ever(self):
+        code = "ending.heed('it')\nlate(signal.SIGTERM, os.read, os.pipe()[0], 1)"
+        line = "it: ended by signal 15\n"
+        self.assertEqual(self.late(code), (143, "", line))
+        self.assertEqual(self.late("os.close(0); os.close(1)\n" + code), (143, "", line))
+
+    def test_standard_files_stay_closed(self):
+        """Where the caller has closed them, nothing of this takes their numbers."""
+        code = ("for it in (0, 1, 2): os.close(it)\nending.heed('it')\nfor it in (0, 1, 2):\n    try:\n"
+                "        os.fstat(it)\n        os._exit(9)\n    except OSError:\n        pass\n"
+                "late(signal.SIGTERM, os.read, os.pipe()[0], 1)")
+        self.assertEqual(self.late(code), (143, "", ""))
+
+    def test_more_of_them(self):
+        """Each is looked at, however many have come before."""
+        code = ("ending.heed('it')\ncame = []\nsignal.signal(signal.SIGHUP, lambda got, _: (came.append(got), "
+                "os.write(writing, b'x')))\nreading, writing = os.pipe()\n"
+                "for _ in range(100): late(signal.SIGHUP, os.read, reading, 1)\nprint(len(came))")
+        self.assertEqual(self.late(code), (0, "100\n", ""))
+
+    def test_what_cannot_raise(self):
+        """Python reports what a `__del__` raises, and goes on."""
+        code = ("class It:\n    def __del__(self):\n        os.kill(os.getpid(), signal.SIGTERM)\n"
+                "ending.heed('it')\nIt()\nos.read(os.pipe()[0], 1)")
+        self.assertEqual(self.late(code), (143, "", "it: ended by signal 15\n"))
+        # A poke that comes while the end is being kept.
+        poked = "write = os.write\nos.write = lambda *it: (os.kill(os.getpid(), ending.POKE), write(*it))\n"
+        self.assertEqual(self.late(code.replace("\nIt()", f"\n{poked}It()")), (143, "", "it: ended by signal 15\n"))
+
+    def test_all_at_once(self):
+        """Signals of several numbers are one end, and one line; what is cleared up is."""
+        code = ("ending.hold(ending.ALL)\nfor it in ending.ALL: os.kill(os.getpid(), it)\n"
+                "try:\n    ending.heed('it', '', ending.ALL)\nfinally:\n    print('cleared up')")
+        status, out, err = self.late(code)
+        self.assertIn(status, NAMES.values())
+        self.assertEqual((out, err), ("cleared up\n", f"it: ended by signal {status - 128}\n"))
+
+    def test_a_run_that_says_nothing(self):
+        """The signal is passed on at once, not behind the program's next output."""
+        program = self.folder / "program"
+        program.write_text("#!/bin/sh\ntrap 'echo told; exit 9' TERM\n: >ready\nwhile :; do sleep 0.05; done\n")
+        program.chmod(0o755)
+        code = ("import threading, time\nfrom lizdrog_tools import run_lizdrog\nread, numbers = os.read, "
+                "[signal.SIGTERM]\ndef read_late(file, size):\n"
+                "    if not numbers or threading.get_ident() != threading.main_thread().ident:\n"
+                "        return read(file, size)\n"
+                "    while not os.path.exists('ready'): time.sleep(0.01)\n"
+                "    return late(numbers.pop(), read, file, size)\n"
+                "os.read = read_late\nraise SystemExit(run_lizdrog.main())")
+        status, out, _ = self.late(code, "--program", program, "generate", "7", "400", "40")
+        self.assertEqual((status, out), (9, "told\n"))
+
+    def test_a_tool_that_takes_the_place_of_the_command(self):
+        """A signal is not lost with the process of before, but heeded by the tool."""
+        code = ("from lizdrog_tools import run_lizdrog\nexecv = os.execv\n"
+                "os.execv = lambda *words: late(signal.SIGTERM, execv, *words)\nrun_lizdrog.main()")
+        self.assertEqual(self.late(code, "connect", "unix:s"), (-signal.SIGTERM, "", ""))
+        line = "lizdrog serve: ended by signal 15 before a server was started\n"
+        self.assertEqual(self.late(code, "serve", "p.toml", "--listen", "unix:s"), (143, "", line))
+
+
 class WhileAServerRuns(unittest.TestCase):
     def test_signals_at_once_are_one(self):
         it = bridge.Bridge.__new__(bridge.Bridge)
@@ -119,6 +213,10 @@ class WhileAProgramRuns(Folder):
 
 
 class WhileAProgramIsBuilt(Folder):
+    def setUp(self):
+        super().setUp()
+        self.addCleanup(quick_build.IS_ENDING.clear)
+
     def test_tools_end_with_what_they_started(self):
         """What a tool has started holds the other end of a pipe, until it ends, too."""
         found, (reading, writing) = [], os.pipe()
@@ -134,6 +232,13 @@ class WhileAProgramIsBuilt(Folder):
             thread.join(SECONDS)
             self.assertEqual(pipe.read(), b"")
         self.assertEqual((found, len(quick_build.RUNNING)), ([-signal.SIGTERM], 0))
+
+    def test_no_further_tool_is_started(self):
+        """A signal may come between two tools of a build."""
+        quick_build.end_all()
+        with open(self.folder / "log", "wb") as log, self.assertRaises(quick_build.CannotBuild):
+            quick_build.call(("touch", self.folder / "started"), log)
+        self.assertEqual(os.listdir(self.folder), ["log"])
 
 
 if __name__ == "__main__":

@@ -17,7 +17,7 @@ import unittest
 
 import common
 import live_serving
-from live_serving import SECONDS, Serving
+from live_serving import SECONDS, Serving, is_gone
 
 KILLED = """import os, socket, sys, time
 client = socket.socket(socket.AF_UNIX)
@@ -319,14 +319,14 @@ class Hostile(Live):
         for number in range(1, 101):
             self.assertEqual(ann.ask("take"), f"{number} 0 taken")
             time.sleep(0.01)
-        self.assertLess(time.monotonic() - began, 20)
+        self.assertLess(time.monotonic() - began, SECONDS)
         heads = (
             [it for it in (slow.line() for _ in range(3 * count)) if it[:1].isdigit()]
             if not live_serving.REAL
             else self.heads(slow, count)
         )
         self.assertEqual([it.split(" ")[0] for it in heads], [str(it) for it in range(1, count + 1)])
-        thread.join(20)
+        thread.join(SECONDS)
 
     def heads(self, client, count):
         """The first lines of so many rows."""
@@ -346,7 +346,7 @@ class Hostile(Live):
         began = time.monotonic()
         status, out, _ = serving.end()
         self.assertEqual((status, out[:8]), (0, "final 0 "))
-        self.assertLess(time.monotonic() - began, 20)
+        self.assertLess(time.monotonic() - began, SECONDS)
 
     def test_a_client_for_each_command(self):
         serving = self.serve(sessions=1, answers=False)
@@ -396,8 +396,9 @@ class Kept(Live):
             self.assertEqual(file.read_text().count("\nentry "), number)
             ann.tell(ask="journal", first=number)
             self.assertEqual([it["number"] for it in ann.control("journal")["journal"]], [number])
+            server = serving.child()
             serving.end(signal.SIGKILL)
-            time.sleep(0.3)
+            self.assertTrue(is_gone(server))
         self.assertTrue(file.read_text().endswith("entry 3 session 1 edits 1\ninsert_net m3\n"))
         self.assertEqual(common.tool("mend_journal", file)[0], 0)
 

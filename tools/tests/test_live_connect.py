@@ -377,7 +377,14 @@ class Terminal:
                 [sys.executable, *map(str, words)],
                 {**os.environ, "TERM": "xterm", "XDG_STATE_HOME": str(folder), **surroundings},
             )
-        self.seen = ""
+        # How long the terminal is left to do what it was told: longer where the machine is busy.
+        self.seen, self.began, self.pause = "", time.monotonic(), 0.5
+
+    def ready(self, pattern):
+        """Waits for what is seen at the start, which tells how fast the machine is now; and gives it rest."""
+        self.until(pattern)
+        self.pause = max(self.pause, time.monotonic() - self.began)
+        time.sleep(self.pause)
 
     def until(self, pattern):
         """What is seen from here until this is."""
@@ -402,7 +409,7 @@ class Terminal:
         """Types, and waits for what a tab completes."""
         for part in re.split("(?<=\t)", text):
             os.write(self.file, part.encode())
-            time.sleep(0.5 if part.endswith("\t") else 0)
+            time.sleep(self.pause if part.endswith("\t") else 0)
 
     def status(self):
         """How the prompt ended by itself."""
@@ -430,8 +437,7 @@ class Persons(Connected):
         """
         serving = self.serve()
         terminal = self.sit(serving, **surroundings)
-        terminal.until("ann>")
-        time.sleep(0.5)
+        terminal.ready("ann>")
         for typed, wanted in (
             ("report_wn\tse\t\r", r"report_wns setup -> -2\.500 ps \(design 0\)"),
             ("report_endpoint r2\tsetup\r", r"r2:D setup -> -1\.000 ps \(design 0\)"),
@@ -468,8 +474,7 @@ class Persons(Connected):
     def test_an_interrupt_while_an_answer_is_awaited(self):
         serving = self.serve()
         terminal = self.sit(serving)
-        terminal.until("ann>")
-        time.sleep(0.3)
+        terminal.ready("ann>")
         terminal.type("await 1 1000\r")
         time.sleep(0.3)
         terminal.type("\x03")

@@ -13,7 +13,7 @@ import time
 import unittest
 
 import common
-from live_serving import REAL, SECONDS, STAND_IN, take_signals
+from live_serving import REAL, SECONDS, STAND_IN, is_gone, take_signals
 
 PROGRAM = REAL or STAND_IN
 # A program that tells its words, and ends with the status that its first document holds.
@@ -121,18 +121,6 @@ class Ends(Folder):
             time.sleep(0.01)
         return int(file.read_text().split()[0])
 
-    def is_gone(self, number):
-        deadline = time.monotonic() + SECONDS
-        while time.monotonic() < deadline:
-            try:
-                state = pathlib.Path(f"/proc/{number}/stat").read_text().rpartition(")")[2].split()[0]
-            except OSError:
-                return True
-            if state == "Z":
-                return True
-            time.sleep(0.01)
-        return False
-
     def test_signals_are_passed_on(self):
         for number in (signal.SIGTERM, signal.SIGHUP, signal.SIGINT, signal.SIGQUIT):
             child = self.live(*self.documents)
@@ -140,14 +128,14 @@ class Ends(Folder):
             server = self.of_process(child)
             child.send_signal(number)
             self.assertIn(child.wait(SECONDS), (128 + number, 1))
-            self.assertTrue(self.is_gone(server))
+            self.assertTrue(is_gone(server))
 
     def test_the_server_ends_with_the_command(self):
         child = self.live(*self.documents)
         self.assertEqual(self.ask(child, "take"), "1 0 taken\n")
         server = self.of_process(child)
         child.kill()
-        self.assertTrue(self.is_gone(server))
+        self.assertTrue(is_gone(server))
 
     def said(self, *words, status):
         child = self.live(*words)

@@ -118,12 +118,12 @@ class Bridge:
         waking, woken = socket.socketpair()
         for it in (waking, woken):
             it.setblocking(False)
-        before = signal.set_wakeup_fd(woken.fileno(), warn_on_full_buffer=False)
         for number in SIGNALS:
             if signal.getsignal(number) is not signal.SIG_IGN:
                 signal.signal(number, self.signalled)
         # The handler does nothing: the signal wakes the loop.
         signal.signal(signal.SIGCHLD, lambda *_: None)
+        before = signal.set_wakeup_fd(woken.fileno(), warn_on_full_buffer=False)
         try:
             self.watch(waking.fileno(), IN, lambda _: waking.recv(READ_BYTES))
             self.child = start()
@@ -135,7 +135,7 @@ class Bridge:
                 self.step()
             return self.ended()
         finally:
-            signal.set_wakeup_fd(before)
+            signal.set_wakeup_fd(before, warn_on_full_buffer=False)
             self.poll.close()
             for it in (waking, woken):
                 it.close()
