@@ -1,7 +1,8 @@
 -- Nodes that wait by their levels, as a list of keys: a key is a level times 2^32, and a node.
 
-use Rattle.std.specs.Prelude.{◌≡◌, ℕ, ◌+◌, ◌-◌, ◌*◌, ◌/◌, ◌%◌, ◌<◌, ◌≤◌, ◌==◌, ◌&&◌, Bool, false, not, max, List, [], ◌∷◌, length, All, slice_index}
-use Rattle.std.specs.List.{list_any}
+use Rattle.std.specs.Prelude.{◌≡◌, ℕ, ◌+◌, ◌-◌, ◌*◌, ◌/◌, ◌%◌, ◌<◌, ◌==◌, ◌&&◌, Bool, false, not, max, List, [], ◌∷◌, length, map, All}
+use Rattle.std.specs.List.{list_any, flat_map}
+use Rattle.std.specs.Map.{values_of}
 use Rattle.std.specs.List.Sorted.{IsStrictlyIncreasing}
 
 abbrev pub key_level : ℕ → ℕ
@@ -18,13 +19,22 @@ key_of level node = level * 4294967296 + node
 unfoldable pub waits : List ℕ → ℕ → ℕ → Bool
 waits keys level node = list_any (λ key. (key_level key == level) && (key_node key == node)) keys
 
+-- the keys of nodes that are listed by their levels
+abbrev pub listed_keys : List (ℕ × List ℕ) → List ℕ
+listed_keys lists = flat_map (λ e. map (key_of e.0) e.1) lists
+
+-- each level's list has a node, and its nodes are below the span of a level
+abbrev pub AreLists : List (ℕ × List ℕ) → Type 0
+AreLists lists = All (λ nodes. (0 < length nodes) × All (λ node. node < 4294967296) nodes) (values_of lists)
+
+-- the same numbers, each once and rising
+pub record IsRisingOf (numbers sorted : List ℕ) : Type 0 where
+  pub rising : IsStrictlyIncreasing sorted
+  pub same : (n : ℕ) → list_any (λ node. node == n) sorted ≡ list_any (λ node. node == n) numbers
+
 -- no node waits
 abbrev pub IsIdle : List ℕ → Type 0
 IsIdle keys = (level node : ℕ) → waits keys level node ≡ false
-
--- what waits, waits at this level or above
-abbrev pub AreFrom : ℕ → List ℕ → Type 0
-AreFrom level keys = All (λ key. level ≤ key_level key) keys
 
 -- what waits, waits above this level
 abbrev pub ArePast : ℕ → List ℕ → Type 0
@@ -34,13 +44,6 @@ ArePast level keys = All (λ key. level < key_level key) keys
 abbrev pub room : List ℕ → ℕ
 room [] = 0
 room (key ∷ keys) = max (4294967296 - key_level key) (room keys)
-
--- a level is the least at which a node waits
-pub record IsLeast (level : ℕ) (keys : List ℕ) : Type 0 where
-  pub low : level < 4294967296
-  pub some : 0 < length keys
-  pub first : key_level (slice_index keys 0) ≡ level
-  pub from : AreFrom level keys
 
 -- a turn takes out all nodes that wait at the least level, each once
 pub record IsTurn (old new : List ℕ) (level : ℕ) (nodes : List ℕ) : Type 0 where
