@@ -10,11 +10,11 @@ use Rattle.timing_defs.specs.declared.kinds.Kind.{Kind}
 use Rattle.timing_defs.specs.declared.library.CellPin.{CellPin}
 use Rattle.timing_defs.specs.declared.netlist.Inst.{Inst}
 use Rattle.timing_defs.specs.declared.design.Design.{Design}
-use Rattle.timing_defs.specs.Netlist.{Node, cell_pin, cell_pins, cell_of, both_nodes}
+use Rattle.timing_defs.specs.Netlist.{Pin, Node, cell_pin, cell_pins, cell_of, both_nodes}
 use Rattle.timing_rules.specs.Rows.{arrival, row}
 use Rattle.timing_rules.specs.Tests.{Test, network_walk, first_edge, test_on, test_along}
 use Rattle.timing_rules.specs.Range.{is_need_origin_at}
-use Rattle.netlist_store.specs.Numbering.{Stored, inst_numbered}
+use Rattle.netlist_store.specs.Numbering.{Stored, inst_numbered, pin_numbered, owner_number}
 use Rattle.pin_graph.specs.Nodes.{node_at, pin_under}
 use Rattle.pin_graph.specs.RowTables.{AreRowsFine}
 use Rattle.node_tests.specs.declared.needs.TestEnds.{TestEnds}
@@ -59,6 +59,11 @@ pin_node s inst pin tran = option_map (λ i. record { pin = cell_pin i pin; tran
 
 abbrev pub late_pins : Stored → ℕ → List CellPin
 late_pins s inst = cell_pins (option_and_then (cell_of s.design Late) (inst_numbered s inst))
+
+-- a number is that of the pin of an instance with this name in the cell
+pub record IsPinOf (s : Stored) (inst : ℕ) (word : List ℕ) (number : ℕ) : Type 0 where
+  pub owner : owner_number s number ≡ Some inst
+  pub own : option_map (λ (p : Pin). p.own) (pin_numbered s number) ≡ Some word
 
 -- what is asked is the data node of a register, with its row; no quantity of slews leaves its limit
 pub record IsAsked (asked : Asked) : Type 0 where

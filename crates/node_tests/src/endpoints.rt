@@ -10,7 +10,7 @@ ghost use Rattle.node_tests.specs.Registers.{late_pins};
 ghost use Rattle.node_tests.specs.Endpoints.{is_clocked_test, is_on_network, is_clocked_by};
 
 use crate::needs::same_kind;
-use crate::pins::pin_node;
+use crate::pins::named_node;
 use netlist_store::Store;
 use pin_graph::Graph;
 use sta_units::Memory;
@@ -89,7 +89,7 @@ fn is_on_network(
 {
     store.laws();
     graph.laws();
-    let node = pin_node(alloc, store, graph, inst, pin, Tran::Rise)?;
+    let node = named_node(alloc, store, graph, inst, pin, Tran::Rise)?;
     Ok(graph.is_network(node))
 }
 

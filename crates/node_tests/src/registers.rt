@@ -195,7 +195,15 @@ fn clock_test<A: Rows>(
     if !has_test(cell.tests.as_slice(), &ends) {
         return Ok(None);
     }
-    let clock = pin_node(alloc, asked.store, asked.graph, asked.inst, pin, active)?;
+    let clock = pin_node(
+        alloc,
+        asked.store,
+        asked.graph,
+        asked.inst,
+        pin,
+        active,
+        asked.pin,
+    )?;
     let row = arrivals.row(clock);
     test_against(alloc, asked, cell.tests.as_slice(), &ends, clock, row)
 }

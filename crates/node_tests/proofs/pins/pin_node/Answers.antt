@@ -1,8 +1,11 @@
-use Rattle.node_tests.proofs.PinNumbers.{number_found, number_there}
+use Rattle.node_tests.proofs.PinNumbers.{near_low, near_found}
 use Rattle.node_tests.proofs.pins.pin_node.Goals as goal
 
-pub unreachable-requires : goal.unreachable-requires
-unreachable-requires c = number_there c.args.graph.now.stored c.args.store.now c.requires.graph c.laws.ensures.numbered c.laws.ensures.linked c.args.inst c.args.pin.now c.args.tran c.requires.pin c.inst_at.result.now c.inst_at.ensures.value c.in_ok-name.name c.in_ok-name.ensures c.in-None.ensures.value
+pub node_of-requires : goal.node_of-requires
+node_of-requires c = near_low c.args.store.now c.laws.ensures.numbered c.laws.ensures.linked c.args.inst c.args.pin.now c.args.tran c.requires.pin c.as_bytes.result.now c.as_bytes.ensures.value c.in-Some.number c.in-Some.ensures
 
-pub returns-clause-node : goal.returns-clause-node
-returns-clause-node c = (number_found c.args.graph.now.stored c.args.store.now c.requires.graph c.laws.ensures.numbered c.laws.ensures.linked c.args.inst c.args.pin.now c.args.tran c.requires.pin c.inst_at.result.now c.inst_at.ensures.value c.in_ok-name.name c.in_ok-name.ensures c.in-Some.node c.in-Some.ensures.value).0
+pub returns-in-Some-clause-node : goal.returns-in-Some-clause-node
+returns-in-Some-clause-node c = (near_found c.args.store.now c.laws.ensures.numbered c.laws.ensures.linked c.args.inst c.args.pin.now c.args.tran c.requires.pin c.as_bytes.result.now c.as_bytes.ensures.value c.in-Some.number c.in-Some.ensures c.node_of.result c.node_of.ensures).0
+
+pub returns-in-Some-clause-below : goal.returns-in-Some-clause-below
+returns-in-Some-clause-below c = (near_found c.args.store.now c.laws.ensures.numbered c.laws.ensures.linked c.args.inst c.args.pin.now c.args.tran c.requires.pin c.as_bytes.result.now c.as_bytes.ensures.value c.in-Some.number c.in-Some.ensures c.node_of.result c.node_of.ensures).1
