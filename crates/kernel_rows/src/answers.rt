@@ -43,8 +43,15 @@ impl Answer {
     /// Adds a value as a word.
     pub(crate) fn value<D: Display + Drop>(&mut self, value: D) -> Result<(), Stop> {
         match format!(in self.alloc; "{value}") {
-            Ok(text) => self.word(text.as_str()),
-            Err(_) => Err(Stop::Memory),
+            Ok(text) => {
+                let told = self.word(text.as_str());
+                drop(text);
+                told
+            }
+            Err(refused) => {
+                drop(refused);
+                Err(Stop::Memory)
+            }
         }
     }
 

@@ -1,6 +1,6 @@
 //! Arcs as texts.
 
-use crate::words::{Stop, is_none, place_and_amount};
+use crate::words::{Stop, add, is_none, place_and_amount};
 use timing_defs::Items;
 use worst_walks::WalkArc;
 
@@ -12,7 +12,7 @@ pub(crate) fn add_arcs(arcs: &mut Items<WalkArc>, text: &str) -> Result<(), Stop
     }
     for part in text.split(',') {
         let (from, delay) = place_and_amount(part)?;
-        arcs.push(WalkArc { from, delay })?;
+        add(arcs, WalkArc { from, delay })?;
     }
     Ok(())
 }

@@ -111,8 +111,14 @@ fn named_rows(alloc: Global, name: &str) -> Result<Items<TreeRow>, Stop>
 pub(crate) fn answer(alloc: Global, answer: &mut Answer, row: &str) -> Result<(), Stop> {
     let (name, asked) = parted(row, ' ')?;
     let rows = named_rows(alloc, name)?;
-    match ClockTree::of(alloc, &rows) {
-        Ok(tree) => add_told(alloc, answer, &tree, asked),
+    let told = match ClockTree::of(alloc, &rows) {
+        Ok(tree) => {
+            let told = add_told(alloc, answer, &tree, asked);
+            drop(tree);
+            told
+        }
         Err(Memory) => Err(Stop::Memory),
-    }
+    };
+    drop(rows);
+    told
 }

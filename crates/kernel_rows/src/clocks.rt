@@ -13,7 +13,7 @@ ghost use Rattle.path_rules.specs.Clocks.{IsClock};
 use crate::answers::Answer;
 use crate::words::{Stop, name, number, parted, place};
 use path_rules::{Rule, moved, separation};
-use sta_units::{Fs, LIM};
+use sta_units::{Fs, LIM, Pair, both};
 use std::alloc::Global;
 use timing_defs::{Clock, Kind, Tran};
 
@@ -73,9 +73,12 @@ struct Crossing {
 }
 
 fn crossing_of(alloc: Global, launch: &str, capture: &str) -> Result<Crossing, Stop> {
-    match (named_clock(alloc, launch), named_clock(alloc, capture)) {
-        (Ok(launch), Ok(capture)) => Ok(Crossing { launch, capture }),
-        (Err(stop), _) | (_, Err(stop)) => Err(stop),
+    match both(named_clock(alloc, launch), named_clock(alloc, capture)) {
+        Ok(Pair { one, other }) => Ok(Crossing {
+            launch: one,
+            capture: other,
+        }),
+        Err(stop) => Err(stop),
     }
 }
 
@@ -87,9 +90,12 @@ fn separation_row(alloc: Global, answer: &mut Answer, words: &[&str]) -> Result<
     let to = edge(to)?;
     let tested = kind(tested)?;
     match crossing_of(alloc, launch, capture) {
-        Ok(Crossing { launch, capture }) => answer.value(
-            separation(&launch, from, &capture, to, tested).0,
-        ),
+        Ok(Crossing { launch, capture }) => {
+            let apart = separation(&launch, from, &capture, to, tested).0;
+            drop(launch);
+            drop(capture);
+            answer.value(apart)
+        }
         Err(stop) => Err(stop),
     }
 }
@@ -122,9 +128,12 @@ fn moved_row(alloc: Global, answer: &mut Answer, words: &[&str]) -> Result<(), S
         return Err(Stop::Row);
     }
     match crossing_of(alloc, launch, capture) {
-        Ok(Crossing { launch, capture }) => answer.value(
-            moved(Fs(time), tested, rule, &launch, &capture).0,
-        ),
+        Ok(Crossing { launch, capture }) => {
+            let time = moved(Fs(time), tested, rule, &launch, &capture).0;
+            drop(launch);
+            drop(capture);
+            answer.value(time)
+        }
         Err(stop) => Err(stop),
     }
 }

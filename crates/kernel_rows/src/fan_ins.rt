@@ -14,7 +14,7 @@ ghost use Rattle.kernel_rows.specs.WrittenNets.{net_of};
 
 use crate::answers::Answer;
 use crate::arc_lists::add_arcs;
-use crate::words::{Stop, add_maybe_numbers, parted, place};
+use crate::words::{Stop, add, add_maybe_numbers, parted, place, three_parts};
 use crate::written_nets::{Written, is_written};
 use bounded_slack::{least_of_two, least_slack};
 use sta_units::Memory;
@@ -44,18 +44,27 @@ impl Lists {
 
 fn add_node(alloc: Global, nodes: &mut Items<Items<WalkArc>>, text: &str) -> Result<(), Stop> {
     let mut arcs = Items::new(alloc);
-    add_arcs(&mut arcs, text)?;
-    nodes.push(arcs)?;
+    match add_arcs(&mut arcs, text) {
+        Ok(()) => add(nodes, arcs),
+        Err(stop) => {
+            drop(arcs);
+            Err(stop)
+        }
+    }
+}
+
+/// Adds the arcs into each node of a text such as `1 2, 2 4 / 3 9 / -`.
+fn add_nodes(alloc: Global, nodes: &mut Items<Items<WalkArc>>, text: &str) -> Result<(), Stop> {
+    for node in text.split('/') {
+        add_node(alloc, nodes, node)?;
+    }
     Ok(())
 }
 
 /// Adds the arcs, the offers and the bounds of a row to lists.
 fn add_lists(alloc: Global, lists: &mut Lists, row: &str) -> Result<(), Stop> {
-    let (arcs, rest) = parted(row, ';')?;
-    let (offers, bounds) = parted(rest, ';')?;
-    for node in arcs.split('/') {
-        add_node(alloc, &mut lists.arcs, node)?;
-    }
+    let (arcs, offers, bounds) = three_parts(row)?;
+    add_nodes(alloc, &mut lists.arcs, arcs)?;
     add_maybe_numbers(&mut lists.offers, offers)?;
     add_maybe_numbers(&mut lists.bounds, bounds)
 }
@@ -114,8 +123,10 @@ pub(crate) fn answer(alloc: Global, answer: &mut Answer, row: &str) -> Result<()
         offers: Items::new(alloc),
         bounds: Items::new(alloc),
     };
-    match add_lists(alloc, &mut lists, rest) {
+    let told = match add_lists(alloc, &mut lists, rest) {
         Ok(()) => add_ends(alloc, answer, &lists, ends),
         Err(stop) => Err(stop),
-    }
+    };
+    drop(lists);
+    told
 }

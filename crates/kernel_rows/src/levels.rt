@@ -8,7 +8,7 @@ ghost use Rattle.std.specs.Prelude.{IsTrue};
 ghost use Rattle.levelizer.specs.Levels.{AreWithin};
 
 use crate::answers::Answer;
-use crate::words::{Stop, is_none, parted, place};
+use crate::words::{Stop, add, is_none, parted, place};
 use levelizer::{LevelFault, Link, levels};
 use std::alloc::Global;
 use timing_defs::Items;
@@ -27,7 +27,7 @@ fn add_links(links: &mut Items<Link>, text: &str) -> Result<(), Stop> {
         return Ok(());
     }
     for part in text.split(',') {
-        links.push(link(part)?)?;
+        add(links, link(part)?)?;
     }
     Ok(())
 }
@@ -44,18 +44,26 @@ fn are_within(nodes: u32, links: &[Link]) -> bool
     true
 }
 
+/// Adds a word and nodes.
+fn add_nodes(answer: &mut Answer, word: &str, nodes: &[u32]) -> Result<(), Stop> {
+    answer.word(word)?;
+    answer.places(nodes)
+}
+
 fn add_levels(alloc: Global, answer: &mut Answer, nodes: u32, links: &[Link]) -> Result<(), Stop> {
     if !are_within(nodes, links) {
         return Err(Stop::Row);
     }
     match levels(alloc, nodes, links) {
         Ok(levels) => {
-            answer.word("levels")?;
-            answer.places(levels.as_slice())
+            let told = add_nodes(answer, "levels", levels.as_slice());
+            drop(levels);
+            told
         }
         Err(LevelFault::Cycle(cycle)) => {
-            answer.word("cycle")?;
-            answer.places(cycle.as_slice())
+            let told = add_nodes(answer, "cycle", cycle.as_slice());
+            drop(cycle);
+            told
         }
         Err(LevelFault::Memory) => Err(Stop::Memory),
     }
@@ -65,8 +73,10 @@ pub(crate) fn answer(alloc: Global, answer: &mut Answer, row: &str) -> Result<()
     let (nodes, arcs) = parted(row, ';')?;
     let nodes = place(nodes)?;
     let mut links = Items::new(alloc);
-    match add_links(&mut links, arcs) {
+    let told = match add_links(&mut links, arcs) {
         Ok(()) => add_levels(alloc, answer, nodes, links.as_slice()),
         Err(stop) => Err(stop),
-    }
+    };
+    drop(links);
+    told
 }

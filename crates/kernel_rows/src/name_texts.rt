@@ -5,7 +5,7 @@
 
 use crate::answers::Answer;
 use crate::words::{Stop, between_bars, name, parted};
-use sta_units::Memory;
+use sta_units::{Memory, Pair, both};
 use std::alloc::Global;
 use std::str;
 use timing_defs::{Name, same_name};
@@ -22,14 +22,22 @@ fn add_name(answer: &mut Answer, name: &Name) -> Result<(), Stop> {
 fn add_twice(alloc: Global, answer: &mut Answer, name: &Name) -> Result<(), Stop> {
     add_name(answer, name)?;
     match name.copied(alloc) {
-        Ok(copy) => add_name(answer, &copy),
+        Ok(copy) => {
+            let told = add_name(answer, &copy);
+            drop(copy);
+            told
+        }
         Err(Memory) => Err(Stop::Memory),
     }
 }
 
 fn text_row(alloc: Global, answer: &mut Answer, row: &str) -> Result<(), Stop> {
     match Name::from_bytes(alloc, between_bars(row)?.as_bytes()) {
-        Ok(Some(name)) => add_twice(alloc, answer, &name),
+        Ok(Some(name)) => {
+            let told = add_twice(alloc, answer, &name);
+            drop(name);
+            told
+        }
         Ok(None) => answer.word("no name"),
         Err(Memory) => Err(Stop::Memory),
     }
@@ -50,9 +58,13 @@ fn add_order(answer: &mut Answer, one: &Name, other: &Name) -> Result<(), Stop> 
 
 fn order_row(alloc: Global, answer: &mut Answer, row: &str) -> Result<(), Stop> {
     let (one, other) = parted(row, ' ')?;
-    let one = name(alloc, one)?;
-    match name(alloc, other) {
-        Ok(other) => add_order(answer, &one, &other),
+    match both(name(alloc, one), name(alloc, other)) {
+        Ok(Pair { one, other }) => {
+            let told = add_order(answer, &one, &other);
+            drop(one);
+            drop(other);
+            told
+        }
         Err(stop) => Err(stop),
     }
 }

@@ -1,7 +1,7 @@
 //! Nets and pins as texts.
 
-use crate::words::{Stop, name, number, parted};
-use sta_units::{Af, Mo};
+use crate::words::{Stop, add, name, number, parted};
+use sta_units::{Af, Mo, Pair, both};
 use std::alloc::Global;
 use timing_defs::{Items, NetRc, PinCap, RcCap, RcNode, RcRes};
 
@@ -17,7 +17,7 @@ fn pin(alloc: Global, text: &str) -> Result<PinCap, Stop> {
 /// Adds the pins of a text such as `d 0, s 1000`, with their capacitances in aF.
 pub(crate) fn add_pins(alloc: Global, pins: &mut Items<PinCap>, text: &str) -> Result<(), Stop> {
     for part in text.split(',') {
-        pins.push(pin(alloc, part)?)?;
+        add(pins, pin(alloc, part)?)?;
     }
     Ok(())
 }
@@ -32,8 +32,7 @@ fn node(alloc: Global, word: &str) -> Result<RcNode, Stop> {
 
 /// Adds a resistor between two nodes to a net.
 pub(crate) fn add_resistor(net: &mut NetRc, a: RcNode, b: RcNode, res: i64) -> Result<(), Stop> {
-    net.ress.push(RcRes { a, b, res: Mo(res) })?;
-    Ok(())
+    add(&mut net.ress, RcRes { a, b, res: Mo(res) })
 }
 
 /// Adds a resistor between the nodes of two words.
@@ -42,9 +41,9 @@ fn add_resistance(alloc: Global, net: &mut NetRc, words: &[&str]) -> Result<(), 
         return Err(Stop::Row);
     };
     let res = number(milliohms)?;
-    match (node(alloc, a), node(alloc, b)) {
-        (Ok(a), Ok(b)) => add_resistor(net, a, b, res),
-        _ => Err(Stop::Row),
+    match both(node(alloc, a), node(alloc, b)) {
+        Ok(Pair { one, other }) => add_resistor(net, one, other, res),
+        Err(_) => Err(Stop::Row),
     }
 }
 
@@ -54,8 +53,7 @@ fn add_capacitance(alloc: Global, net: &mut NetRc, words: &[&str]) -> Result<(),
     };
     let cap = Af(number(attofarads)?);
     let node = node(alloc, at)?;
-    net.caps.push(RcCap { node, cap })?;
-    Ok(())
+    add(&mut net.caps, RcCap { node, cap })
 }
 
 /// Adds `r NODE NODE MILLIOHMS`, `c NODE ATTOFARADS` or `lump ATTOFARADS`.
@@ -75,7 +73,9 @@ fn add_part(alloc: Global, net: &mut NetRc, words: &[&str]) -> Result<(), Stop> 
 pub(crate) fn add_parts(alloc: Global, net: &mut NetRc, text: &str) -> Result<(), Stop> {
     for part in text.split(',') {
         let words: Vec<&str> = part.split_whitespace().collect(alloc)?;
-        add_part(alloc, net, words.as_slice())?;
+        let added = add_part(alloc, net, words.as_slice());
+        drop(words);
+        added?;
     }
     Ok(())
 }

@@ -37,6 +37,15 @@ pub(crate) fn parted(text: &str, mark: char) -> Result<(&str, &str), Stop> {
     }
 }
 
+/// The parts of a text before, between and after two semicolons.
+pub(crate) fn three_parts(text: &str) -> Result<(&str, &str, &str), Stop> {
+    let (first, rest) = parted(text, ';')?;
+    match parted(rest, ';') {
+        Ok((second, third)) => Ok((first, second, third)),
+        Err(stop) => Err(stop),
+    }
+}
+
 /// The text between two bars.
 pub(crate) fn between_bars(text: &str) -> Result<&str, Stop> {
     match text.strip_prefix('|') {
@@ -83,6 +92,14 @@ pub(crate) fn place_and_amount(text: &str) -> Result<(u32, i64), Stop> {
     Ok((place(first)?, number(second)?))
 }
 
+/// Adds an item to a list.
+pub(crate) fn add<T: Drop>(items: &mut Items<T>, item: T) -> Result<(), Stop> {
+    match items.push(item) {
+        Ok(()) => Ok(()),
+        Err(Memory) => Err(Stop::Memory),
+    }
+}
+
 /// Adds the places of a text to a list.
 pub(crate) fn add_places(places: &mut Items<u32>, text: &str) -> Result<(), Stop> {
     for word in text.split_whitespace() {
@@ -91,18 +108,10 @@ pub(crate) fn add_places(places: &mut Items<u32>, text: &str) -> Result<(), Stop
     Ok(())
 }
 
-/// Adds the numbers of a text to a list.
-pub(crate) fn add_numbers(numbers: &mut Items<i64>, text: &str) -> Result<(), Stop> {
-    for word in text.split_whitespace() {
-        numbers.push(number(word)?)?;
-    }
-    Ok(())
-}
-
 /// Adds the numbers of a text to a list, none for each `-`.
 pub(crate) fn add_maybe_numbers(numbers: &mut Items<Option<i64>>, text: &str) -> Result<(), Stop> {
     for word in text.split_whitespace() {
-        numbers.push(maybe_number(word)?)?;
+        add(numbers, maybe_number(word)?)?;
     }
     Ok(())
 }

@@ -9,7 +9,7 @@ use crate::library_units::Known;
 use crate::statements::groups;
 use crate::templates::{Templates, read_table};
 use crate::timing::{Sense, Timing, sense_of};
-use sta_units::{Again, Memory};
+use sta_units::{Again, Memory, Pair, both};
 use std::alloc::Global;
 use timing_defs::{ArcKind, CellArc, Item, Items, Lexeme, Name, Table, Tran, Tree};
 
@@ -66,7 +66,9 @@ pub(crate) fn table_of(
         (λ table. table ≡ table_of form (told templates.now.trees) name.now group.now) }
 {
     let found = groups(alloc, group.items.as_slice(), name)?;
-    match last_tree(found.as_slice()) {
+    let tree = last_tree(found.as_slice());
+    drop(found);
+    match tree {
         None => Ok(None),
         Some(tree) => table_named(
             alloc,
@@ -103,10 +105,14 @@ fn edge_tables(
         purpose: Purpose::Delay,
         known,
     };
-    Ok(EdgeTables {
-        delay: table_of(alloc, form, templates, names.0, group)?,
-        slew: table_of(alloc, form, templates, names.1, group)?,
-    })
+    let Pair {
+        one: delay,
+        other: slew,
+    } = both(
+        table_of(alloc, form, templates, names.0, group),
+        table_of(alloc, form, templates, names.1, group),
+    )?;
+    Ok(EdgeTables { delay, slew })
 }
 
 /// What a group of timing says of arcs.
@@ -121,7 +127,10 @@ pub(crate) fn group_arcs(
         (λ arcs. arcs ≡ group_arcs known (told templates.now.trees) group.now timing) }
 {
     let sense = sense_of(alloc, group)?;
-    let rise = edge_tables(
+    let EdgeTables {
+        delay: rise_delay,
+        slew: rise_slew,
+    } = edge_tables(
         alloc,
         known,
         templates,
@@ -134,15 +143,27 @@ pub(crate) fn group_arcs(
         templates,
         (b"cell_fall", b"fall_transition"),
         group,
-    )?;
-    Ok(Arcs {
-        timing,
-        sense,
-        rise_delay: rise.delay,
-        rise_slew: rise.slew,
-        fall_delay: fall.delay,
-        fall_slew: fall.slew,
-    })
+    );
+    match fall {
+        Ok(
+            EdgeTables {
+                delay: fall_delay,
+                slew: fall_slew,
+            },
+        ) => Ok(Arcs {
+            timing,
+            sense,
+            rise_delay,
+            rise_slew,
+            fall_delay,
+            fall_slew,
+        }),
+        Err(wanting) => {
+            drop(rise_delay);
+            drop(rise_slew);
+            Err(wanting)
+        }
+    }
 }
 
 fn other(tran: Tran) -> Tran
@@ -185,14 +206,29 @@ fn push_arc(
         ≡ arcs.old ++ arc_from draft.now.timing draft.now.from.now draft.now.to.now draft.now.tran
         draft.now.delay.now draft.now.slew.now from_tran ∷ []) }
 {
+    let Pair {
+        one: ends,
+        other: tables,
+    } = both(
+        both(draft.from.again(alloc), draft.to.again(alloc)),
+        both(draft.delay.again(alloc), draft.slew.again(alloc)),
+    )?;
+    let Pair {
+        one: from,
+        other: to,
+    } = ends;
+    let Pair {
+        one: delay,
+        other: slew,
+    } = tables;
     arcs.push(CellArc {
-        from: draft.from.again(alloc)?,
+        from,
         from_tran,
-        to: draft.to.again(alloc)?,
+        to,
         to_tran: draft.tran,
         kind: kind_of(draft.timing),
-        delay: draft.delay.again(alloc)?,
-        slew: draft.slew.again(alloc)?,
+        delay,
+        slew,
     })
 }
 

@@ -147,5 +147,7 @@ pub(crate) fn check_attribute(
         (λ least. least ≡ least_from best (each_value code check (values name.now items.now))) }
 {
     let found = values(alloc, items, name)?;
-    Ok(note_values(best, code, check, found.as_slice()))
+    let least = note_values(best, code, check, found.as_slice());
+    drop(found);
+    Ok(least)
 }

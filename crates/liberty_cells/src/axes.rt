@@ -8,7 +8,7 @@ ghost use Rattle.liberty_cells.specs.Tables.{over_xs, over_ys, unit_of, side_nam
 
 use crate::library_units::Known;
 use crate::statements::{last, one_text, values};
-use sta_units::{Memory, Unit};
+use sta_units::{Memory, Pair, Unit, both};
 use std::alloc::Global;
 use timing_defs::{Item, Lexeme};
 
@@ -146,16 +146,26 @@ fn has_third(alloc: Global, template: &[Item]) -> Result<bool, Memory>
     ensures { IfOk result (λ has. has ≡ has_third template.now) }
 {
     let found = values(alloc, template, b"variable_3")?;
-    Ok(!found.is_empty())
+    let has = !found.is_empty();
+    drop(found);
+    Ok(has)
 }
 
 /// The axes of the first and the second variable of a template.
 fn two_axes(alloc: Global, purpose: Purpose, template: &[Item]) -> Result<Option<Axes>, Memory>
     ensures { IfOk result (λ axes. axes ≡ two_axes purpose template.now) }
 {
-    let first = values(alloc, template, b"variable_1")?;
-    let second = values(alloc, template, b"variable_2")?;
-    Ok(axes_between(purpose, first.as_slice(), second.as_slice()))
+    let Pair {
+        one: first,
+        other: second,
+    } = both(
+        values(alloc, template, b"variable_1"),
+        values(alloc, template, b"variable_2"),
+    )?;
+    let axes = axes_between(purpose, first.as_slice(), second.as_slice());
+    drop(first);
+    drop(second);
+    Ok(axes)
 }
 
 /// The axes of a template in the order of its indexes; none where a variable is another, stands

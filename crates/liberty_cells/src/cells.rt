@@ -3,7 +3,7 @@
 ghost use Rattle.std.specs.Prelude.{◌≡◌, ◌++◌, ◌∷◌, [], map, option_map, IfOk, MatchOption};
 ghost use Rattle.std.specs.List.{flat_map};
 ghost use Rattle.liberty_cells.specs.Statements.{told};
-ghost use Rattle.liberty_cells.specs.Cells.{pin_told, pins_told, pin_names, related, group_arcs, all_arcs, group_tests, all_tests, arcs_of, tests_of, pin_arcs, pin_tests, cap_in, cap_of_pin, cell_pin, cell_pins, first_name, cell_with, cell_in, names_in, texts_of};
+ghost use Rattle.liberty_cells.specs.Cells.{pin_told, pins_told, pin_names, related, group_arcs, all_arcs, group_tests, all_tests, arcs_of, tests_of, pin_arcs, pin_tests, cap_in, cap_of_pin, cell_pin, cell_pins, first_name, cell_with, cell_in, names_in, texts_of, read_pins};
 
 use crate::arcs::{add_arcs, group_arcs};
 use crate::library_units::Known;
@@ -14,7 +14,7 @@ use crate::statements::{groups, text_of};
 use crate::templates::Templates;
 use crate::timing::{Timing, arg_names, names_in, related, timing_of};
 use sta_text::Names;
-use sta_units::{Af, Again, Memory, Unit};
+use sta_units::{Af, Again, Memory, Pair, Unit, both};
 use std::alloc::Global;
 use timing_defs::{
     Cell, CellArc, CellPin, CellTest, Dir, Items, Kind, Lexeme, Library, Name, Tran, Tree,
@@ -25,6 +25,16 @@ use timing_defs::{
 struct Given {
     arcs: Items<CellArc>,
     tests: Items<CellTest>,
+}
+
+/// The names of the related pins that are pins of the cell.
+fn related_names(alloc: Global, names: &Names<'_>, group: &Tree) -> Result<Items<Name>, Memory>
+    ensures { IfOk result (λ found. found ≡ names_in (related names.now group.now)) }
+{
+    let words = related(alloc, names, group)?;
+    let found = names_in(alloc, words.as_slice());
+    drop(words);
+    found
 }
 
 /// Adds the arcs of a group.
@@ -43,11 +53,21 @@ fn add_group_arcs(
         ≡ arcs.old ++ all_arcs (group_arcs known (told templates.now.trees) group.now timing)
         (names_in (related names.now group.now)) (names_in (texts_of args.now))) }
 {
-    let found = related(alloc, names, group)?;
-    let froms = names_in(alloc, found.as_slice())?;
-    let tos = arg_names(alloc, args)?;
-    let read = group_arcs(alloc, known, templates, group, timing)?;
-    add_arcs(alloc, arcs, &read, froms.as_slice(), tos.as_slice())
+    let ends = both(related_names(alloc, names, group), arg_names(alloc, args));
+    let Pair {
+        one: ends,
+        other: read,
+    } = both(ends, group_arcs(alloc, known, templates, group, timing))?;
+    let added = add_arcs(
+        alloc,
+        arcs,
+        &read,
+        ends.one.as_slice(),
+        ends.other.as_slice(),
+    );
+    drop(ends);
+    drop(read);
+    added
 }
 
 /// Adds the tests of a group.
@@ -67,11 +87,24 @@ fn add_group_tests(
         (group_tests known (told templates.now.trees) group.now edge.0 edge.1)
         (names_in (related names.now group.now)) (names_in (texts_of args.now))) }
 {
-    let found = related(alloc, names, group)?;
-    let clocks = names_in(alloc, found.as_slice())?;
-    let pins = arg_names(alloc, args)?;
-    let needs = group_tests(alloc, known, templates, group, edge.0, edge.1)?;
-    add_tests(alloc, tests, &needs, clocks.as_slice(), pins.as_slice())
+    let ends = both(related_names(alloc, names, group), arg_names(alloc, args));
+    let Pair {
+        one: ends,
+        other: needs,
+    } = both(
+        ends,
+        group_tests(alloc, known, templates, group, edge.0, edge.1),
+    )?;
+    let added = add_tests(
+        alloc,
+        tests,
+        &needs,
+        ends.one.as_slice(),
+        ends.other.as_slice(),
+    );
+    drop(ends);
+    drop(needs);
+    added
 }
 
 /// Adds what a group of timing of a pin gives.
@@ -144,8 +177,15 @@ fn add_pin_groups(
 {
     let found = groups(alloc, pin.tree.items.as_slice(), b"timing")?;
     for group in found.as_slice() {
-        add_group(alloc, known, templates, names, pin, *group, given)?;
+        match add_group(alloc, known, templates, names, pin, *group, given) {
+            Ok(()) => {}
+            Err(wanting) => {
+                drop(found);
+                return Err(wanting);
+            }
+        }
     }
+    drop(found);
     Ok(())
 }
 
@@ -172,8 +212,16 @@ fn given_of(
         tests: Items::new(alloc),
     };
     for pin in pins {
-        add_pin_groups(alloc, known, templates, &names, pin, &mut given)?;
+        match add_pin_groups(alloc, known, templates, &names, pin, &mut given) {
+            Ok(()) => {}
+            Err(wanting) => {
+                drop(names);
+                drop(given);
+                return Err(wanting);
+            }
+        }
     }
+    drop(names);
     Ok(given)
 }
 
@@ -227,7 +275,9 @@ fn add_pins(
 {
     let cap = cap_of_pin(alloc, unit, pin.tree)?;
     let names = arg_names(alloc, pin.tree.args.as_slice())?;
-    add_named_pins(alloc, pins, pin.dir, cap, names.as_slice())
+    let added = add_named_pins(alloc, pins, pin.dir, cap, names.as_slice());
+    drop(names);
+    added
 }
 
 /// The pins of a cell.
@@ -237,7 +287,13 @@ fn cell_pins(alloc: Global, unit: Option<Unit>, pins: &[Pin<'_>]) -> Result<Item
 {
     let mut found = Items::new(alloc);
     for pin in pins {
-        add_pins(alloc, unit, &mut found, pin)?;
+        match add_pins(alloc, unit, &mut found, pin) {
+            Ok(()) => {}
+            Err(wanting) => {
+                drop(found);
+                return Err(wanting);
+            }
+        }
     }
     Ok(found)
 }
@@ -253,14 +309,29 @@ fn cell_with(
     ensures { IfOk result
         (λ cell. cell ≡ cell_with known (told templates.now.trees) (pins_told pins.now) name) }
 {
-    let found = cell_pins(alloc, known.cap, pins)?;
-    let given = given_of(alloc, known, templates, pins)?;
-    Ok(Cell {
-        name,
-        pins: found,
-        arcs: given.arcs,
-        tests: given.tests,
-    })
+    let read = both(
+        cell_pins(alloc, known.cap, pins),
+        given_of(alloc, known, templates, pins),
+    );
+    match read {
+        Ok(read) => {
+            let Pair {
+                one: pins,
+                other: given,
+            } = read;
+            let Given { arcs, tests } = given;
+            Ok(Cell {
+                name,
+                pins,
+                arcs,
+                tests,
+            })
+        }
+        Err(wanting) => {
+            drop(name);
+            Err(wanting)
+        }
+    }
 }
 
 /// The name of a cell, where it has one.
@@ -273,6 +344,16 @@ fn first_name(alloc: Global, args: &[Lexeme]) -> Result<Option<Name>, Memory>
         None => Ok(None),
         Some((first, _)) => Name::from_bytes(alloc, first.text.as_slice()),
     }
+}
+
+/// The pins of a cell that are read.
+fn pins_in<'a>(alloc: Global, cell: &'a Tree) -> Result<Items<Pin<'a>>, Memory>
+    ensures { IfOk result (λ pins. pins_told pins ≡ read_pins cell.entry.now) }
+{
+    let groups = groups(alloc, cell.items.as_slice(), b"pin")?;
+    let pins = read_pins(alloc, groups.as_slice());
+    drop(groups);
+    pins
 }
 
 /// Adds a cell, where it has a name.
@@ -289,9 +370,17 @@ fn add_cell(
     let Some(name) = first_name(alloc, cell.args.as_slice())? else {
         return Ok(());
     };
-    let groups = groups(alloc, cell.items.as_slice(), b"pin")?;
-    let pins = read_pins(alloc, groups.as_slice())?;
-    cells.push(cell_with(alloc, known, templates, pins.as_slice(), name)?)
+    match pins_in(alloc, cell) {
+        Ok(pins) => {
+            let read = cell_with(alloc, known, templates, pins.as_slice(), name);
+            drop(pins);
+            cells.push(read?)
+        }
+        Err(wanting) => {
+            drop(name);
+            Err(wanting)
+        }
+    }
 }
 
 /// The library of these cells.
@@ -308,7 +397,13 @@ pub(crate) fn library_of(
 {
     let mut found = Items::new(alloc);
     for cell in cells {
-        add_cell(alloc, known, templates, &mut found, *cell)?;
+        match add_cell(alloc, known, templates, &mut found, *cell) {
+            Ok(()) => {}
+            Err(wanting) => {
+                drop(found);
+                return Err(wanting);
+            }
+        }
     }
     Ok(Library { cells: found })
 }

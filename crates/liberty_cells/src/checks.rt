@@ -17,7 +17,7 @@ use crate::statements::groups;
 use crate::templates::{Templates, read_table};
 use crate::timing::{Timing, related, timing_of};
 use sta_text::{Names, Wrong};
-use sta_units::{Memory, Unit};
+use sta_units::{Memory, Pair, Unit, both};
 use std::alloc::Global;
 use timing_defs::{Code, Dir, Item, Lexeme, Table, Tree};
 
@@ -39,7 +39,10 @@ fn note_read(
             }
             best
         }
-        Some(Ok(_)) => best,
+        Some(Ok(table)) => {
+            drop(table);
+            best
+        }
         Some(Err(code)) => note(best, code, &table.word),
     }
 }
@@ -96,8 +99,15 @@ fn check_tables(
     let found = groups(alloc, group.items.as_slice(), name)?;
     let mut least = best;
     for table in found.as_slice() {
-        least = check_table(alloc, least, extent, form, templates, *table)?;
+        match check_table(alloc, least, extent, form, templates, *table) {
+            Ok(next) => least = next,
+            Err(wanting) => {
+                drop(found);
+                return Err(wanting);
+            }
+        }
     }
+    drop(found);
     Ok(least)
 }
 
@@ -231,7 +241,9 @@ fn check_reached(
         names.now timing group.now)) }
 {
     let found = related(alloc, names, group)?;
-    if found.is_empty() {
+    let none = found.is_empty();
+    drop(found);
+    if none {
         return Ok(best);
     }
     check_body(
@@ -365,7 +377,9 @@ fn check_pin_timings(
         names.now pin.now.dir) (timing_groups pin.now.tree.now))) }
 {
     let found = groups(alloc, pin.tree.items.as_slice(), b"timing")?;
-    check_timings(alloc, best, basis, names, pin.dir, found.as_slice())
+    let least = check_timings(alloc, best, basis, names, pin.dir, found.as_slice());
+    drop(found);
+    least
 }
 
 /// Checks a pin that is read.
@@ -447,7 +461,9 @@ fn check_pins(
     let doubles = check_pin_doubles(alloc, best, pins)?;
     let counted = check_pin_count(doubles, pins);
     let names = pin_names(alloc, pins)?;
-    check_each_pin(alloc, counted, basis, &names, pins)
+    let least = check_each_pin(alloc, counted, basis, &names, pins);
+    drop(names);
+    least
 }
 
 /// Checks a cell.
@@ -466,9 +482,16 @@ fn check_cell(
 {
     let named = check_one_name(best, basis.extent, cell.args.as_slice());
     let found = groups(alloc, cell.items.as_slice(), b"pin")?;
-    let directed = check_directions(alloc, named, found.as_slice())?;
-    let pins = read_pins(alloc, found.as_slice())?;
-    check_pins(alloc, directed, basis, pins.as_slice())
+    let directed = check_directions(alloc, named, found.as_slice());
+    let pins = read_pins(alloc, found.as_slice());
+    drop(found);
+    let Pair {
+        one: directed,
+        other: pins,
+    } = both(directed, pins)?;
+    let least = check_pins(alloc, directed, basis, pins.as_slice());
+    drop(pins);
+    least
 }
 
 /// Checks the cells of a library.

@@ -89,7 +89,9 @@ fn check_load(
     ensures { IfOk result (λ least. least ≡ least_from best (load_faults extent items.now)) }
 {
     let found = lists(alloc, items, b"capacitive_load_unit")?;
-    Ok(check_cap_units(best, extent, found.as_slice()))
+    let least = check_cap_units(best, extent, found.as_slice());
+    drop(found);
+    Ok(least)
 }
 
 #[tactic(auto, unfolding(crate::specs::Faults::model_faults))]

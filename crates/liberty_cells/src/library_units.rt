@@ -54,7 +54,9 @@ fn time_unit(alloc: Global, whole: bool, items: &[Item]) -> Result<Option<Unit>,
     ensures { IfOk result (λ unit. unit ≡ time_unit whole items.now) }
 {
     let found = values(alloc, items, b"time_unit")?;
-    Ok(time_of(whole, last(found.as_slice())))
+    let unit = time_of(whole, last(found.as_slice()));
+    drop(found);
+    Ok(unit)
 }
 
 fn is_ff(text: &[u8]) -> bool
@@ -137,7 +139,9 @@ fn cap_unit(alloc: Global, items: &[Item]) -> Result<Option<Unit>, Memory>
     ensures { IfOk result (λ unit. unit ≡ cap_unit items.now) }
 {
     let found = lists(alloc, items, b"capacitive_load_unit")?;
-    Ok(last_cap(last(found.as_slice())))
+    let unit = last_cap(last(found.as_slice()));
+    drop(found);
+    Ok(unit)
 }
 
 /// The units that a library's statements write, or that a whole text has without them.

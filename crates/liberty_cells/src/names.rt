@@ -67,8 +67,15 @@ pub(crate) fn check_pin_doubles(
     let mut names = Names::new(alloc);
     let mut least = best;
     for pin in pins {
-        least = note_doubles(least, &mut names, pin.tree.args.as_slice())?;
+        match note_doubles(least, &mut names, pin.tree.args.as_slice()) {
+            Ok(next) => least = next,
+            Err(wanting) => {
+                drop(names);
+                return Err(wanting);
+            }
+        }
     }
+    drop(names);
     Ok(least)
 }
 
@@ -102,8 +109,15 @@ pub(crate) fn check_doubles(
     let mut names = Names::new(alloc);
     let mut least = best;
     for tree in trees {
-        least = note_first_double(least, &mut names, *tree)?;
+        match note_first_double(least, &mut names, *tree) {
+            Ok(next) => least = next,
+            Err(wanting) => {
+                drop(names);
+                return Err(wanting);
+            }
+        }
     }
+    drop(names);
     Ok(least)
 }
 

@@ -8,7 +8,7 @@ use crate::arcs::table_of;
 use crate::axes::{Form, Purpose};
 use crate::library_units::Known;
 use crate::templates::Templates;
-use sta_units::{Again, Memory};
+use sta_units::{Again, Memory, Pair, both};
 use std::alloc::Global;
 use timing_defs::{CellTest, Items, Kind, Name, Table, Tran, Tree};
 
@@ -37,12 +37,19 @@ pub(crate) fn group_tests(
         purpose: Purpose::Constraint,
         known,
     };
-    Ok(Needs {
-        kind,
-        edge,
-        rise: table_of(alloc, form, templates, b"rise_constraint", group)?,
-        fall: table_of(alloc, form, templates, b"fall_constraint", group)?,
-    })
+    let rise = table_of(alloc, form, templates, b"rise_constraint", group)?;
+    match table_of(alloc, form, templates, b"fall_constraint", group) {
+        Ok(fall) => Ok(Needs {
+            kind,
+            edge,
+            rise,
+            fall,
+        }),
+        Err(wanting) => {
+            drop(rise);
+            Err(wanting)
+        }
+    }
 }
 
 /// Adds the test of a transition where it has a table.
@@ -60,14 +67,27 @@ fn add_test(
 {
     match need {
         None => Ok(()),
-        Some(need) => tests.push(CellTest {
-            pin: pin.again(alloc)?,
-            tran,
-            clock: clock.again(alloc)?,
-            active: edge.1,
-            kind: edge.0,
-            need: need.again(alloc)?,
-        }),
+        Some(need) => {
+            let Pair {
+                one: names,
+                other: need,
+            } = both(
+                both(pin.again(alloc), clock.again(alloc)),
+                need.again(alloc),
+            )?;
+            let Pair {
+                one: pin,
+                other: clock,
+            } = names;
+            tests.push(CellTest {
+                pin,
+                tran,
+                clock,
+                active: edge.1,
+                kind: edge.0,
+                need,
+            })
+        }
     }
 }
 

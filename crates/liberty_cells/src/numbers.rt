@@ -119,8 +119,13 @@ pub(crate) fn flat(alloc: Global, unit: Option<Unit>, args: &[Lexeme]) -> Result
     let mut good = true;
     let mut values = Items::new(alloc);
     for arg in args {
-        let is_good = add_row(unit, arg.text.as_slice(), &mut values)?;
-        good = good && is_good;
+        match add_row(unit, arg.text.as_slice(), &mut values) {
+            Ok(is_good) => good = good && is_good,
+            Err(wanting) => {
+                drop(values);
+                return Err(wanting);
+            }
+        }
     }
     Ok(Numbers { good, values })
 }

@@ -87,7 +87,9 @@ fn has_group(alloc: Global, cell: &Tree, name: &[u8]) -> Result<bool, Memory>
     ensures { IfOk result (λ has. has ≡ has_group name.now cell.now) }
 {
     let found = groups(alloc, cell.items.as_slice(), name)?;
-    Ok(!found.is_empty())
+    let has = !found.is_empty();
+    drop(found);
+    Ok(has)
 }
 
 /// Whether a cell has no bus, no bundle, no inout pin and no pin name with a colon.
@@ -97,8 +99,9 @@ fn is_kept(alloc: Global, cell: &Tree) -> Result<bool, Memory>
     let has_bus = has_group(alloc, cell, b"bus")?;
     let has_bundle = has_group(alloc, cell, b"bundle")?;
     let pins = groups(alloc, cell.items.as_slice(), b"pin")?;
-    let is_out = any_left_out(alloc, pins.as_slice())?;
-    Ok(!(has_bus || has_bundle || is_out))
+    let is_out = any_left_out(alloc, pins.as_slice());
+    drop(pins);
+    Ok(!(has_bus || has_bundle || is_out?))
 }
 
 /// Adds a cell where it is in the library.
@@ -121,8 +124,16 @@ pub(crate) fn cells_of<'a>(alloc: Global, items: &'a [Item]) -> Result<Items<&'a
     let all = groups(alloc, items, b"cell")?;
     let mut found = Items::new(alloc);
     for cell in all.as_slice() {
-        add_kept(alloc, &mut found, *cell)?;
+        match add_kept(alloc, &mut found, *cell) {
+            Ok(()) => {}
+            Err(wanting) => {
+                drop(all);
+                drop(found);
+                return Err(wanting);
+            }
+        }
     }
+    drop(all);
     Ok(found)
 }
 
@@ -144,7 +155,13 @@ pub(crate) fn read_pins<'a>(alloc: Global, pins: &[&'a Tree]) -> Result<Items<Pi
 {
     let mut found = Items::new(alloc);
     for pin in pins {
-        add_pin(alloc, &mut found, *pin)?;
+        match add_pin(alloc, &mut found, *pin) {
+            Ok(()) => {}
+            Err(wanting) => {
+                drop(found);
+                return Err(wanting);
+            }
+        }
     }
     Ok(found)
 }
@@ -185,7 +202,13 @@ pub(crate) fn pin_names<'a>(alloc: Global, pins: &[Pin<'a>]) -> Result<Names<'a>
 {
     let mut names = Names::new(alloc);
     for pin in pins {
-        add_pin_names(&mut names, pin)?;
+        match add_pin_names(&mut names, pin) {
+            Ok(()) => {}
+            Err(wanting) => {
+                drop(names);
+                return Err(wanting);
+            }
+        }
     }
     Ok(names)
 }

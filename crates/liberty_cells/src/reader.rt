@@ -20,7 +20,7 @@ use crate::statements::groups;
 use crate::templates::Templates;
 use liberty_syntax::{Reading, read};
 use sta_text::Wrong;
-use sta_units::{Memory, Unit};
+use sta_units::{Memory, Pair, Unit, both};
 use std::alloc::Global;
 use timing_defs::{Item, Items, Library, ReadFault, Tree, Units};
 
@@ -38,11 +38,16 @@ fn parts_of<'a>(alloc: Global, whole: bool, items: &'a [Item]) -> Result<Parts<'
         (λ parts. told parts.templates.trees ≡ templates_of items.entry.now) }
     ensures cells { IfOk result (λ parts. told parts.cells ≡ cells_of items.entry.now) }
 {
+    let known = known_units(alloc, whole, items)?;
     let trees = groups(alloc, items, b"lu_table_template")?;
+    let Pair {
+        one: templates,
+        other: cells,
+    } = both(Templates::new(alloc, trees), cells_of(alloc, items))?;
     Ok(Parts {
-        known: known_units(alloc, whole, items)?,
-        templates: Templates::new(alloc, trees)?,
-        cells: cells_of(alloc, items)?,
+        known,
+        templates,
+        cells,
     })
 }
 
@@ -95,8 +100,13 @@ fn check_statements<'a>(
 {
     let header = check_header(alloc, best, extent, items)?;
     let parts = parts_of(alloc, extent.whole, items)?;
-    let least = check_groups(alloc, header, extent, &parts)?;
-    Ok(Checked { least, parts })
+    match check_groups(alloc, header, extent, &parts) {
+        Ok(least) => Ok(Checked { least, parts }),
+        Err(wanting) => {
+            drop(parts);
+            Err(wanting)
+        }
+    }
 }
 
 /// The parts of a whole text without a fault.
@@ -110,9 +120,13 @@ fn faultless<'a>(alloc: Global, size: usize, items: &'a [Item]) -> Result<Parts<
         (λ e. Fails e (statement_faults (record { size = size; whole = true }) items.entry.now)) }
 {
     let found = check_statements(alloc, None, Extent { size, whole: true }, items)?;
-    match found.least {
-        Some(wrong) => Err(wrong.told()),
-        None => Ok(found.parts),
+    let Checked { least, parts } = found;
+    match least {
+        Some(wrong) => {
+            drop(parts);
+            Err(wrong.told())
+        }
+        None => Ok(parts),
     }
 }
 
@@ -134,7 +148,9 @@ fn broken(alloc: Global, size: usize, items: &[Item], wrong: Wrong) -> Result<Wr
 {
     let extent = Extent { size, whole: false };
     let found = check_statements(alloc, Some(wrong), extent, items)?;
-    Ok(known_least(found.least, wrong))
+    let least = known_least(found.least, wrong);
+    drop(found);
+    Ok(least)
 }
 
 /// The fault of a text that the grammar does not accept.
@@ -156,7 +172,9 @@ fn whole_library(alloc: Global, size: usize, items: &[Item]) -> Result<Library, 
         (λ e. Fails e (statement_faults (record { size = size; whole = true }) items.now)) }
 {
     let parts = faultless(alloc, size, items)?;
-    Ok(library_of(alloc, parts.known, &parts.templates, parts.cells.as_slice())?)
+    let read = library_of(alloc, parts.known, &parts.templates, parts.cells.as_slice());
+    drop(parts);
+    Ok(read?)
 }
 
 fn unit_or_one(unit: Option<Unit>) -> Unit
@@ -173,9 +191,11 @@ fn whole_units(alloc: Global, size: usize, items: &[Item]) -> Result<Units, Read
         (λ e. Fails e (statement_faults (record { size = size; whole = true }) items.now)) }
 {
     let parts = faultless(alloc, size, items)?;
+    let known = parts.known;
+    drop(parts);
     Ok(Units {
-        time: unit_or_one(parts.known.time),
-        cap: unit_or_one(parts.known.cap),
+        time: unit_or_one(known.time),
+        cap: unit_or_one(known.cap),
     })
 }
 
@@ -186,9 +206,15 @@ fn library_of_bytes(alloc: Global, bytes: &[u8]) -> Result<Library, ReadFault>
         (λ e. Fails e (faults_of bytes.now)) }
 {
     match read(alloc, bytes)? {
-        Reading::Whole(tree) => whole_library(alloc, bytes.len(), tree.items.as_slice()),
+        Reading::Whole(tree) => {
+            let read = whole_library(alloc, bytes.len(), tree.items.as_slice());
+            drop(tree);
+            read
+        }
         Reading::Broken { items, wrong } => {
-            Err(broken_fault(alloc, bytes.len(), items.as_slice(), wrong))
+            let fault = broken_fault(alloc, bytes.len(), items.as_slice(), wrong);
+            drop(items);
+            Err(fault)
         }
     }
 }
@@ -240,9 +266,15 @@ pub fn units(alloc: Global, bytes: &[u8]) -> Result<Units, ReadFault>
         (λ e. Fails e (faults_of bytes.now)) }
 {
     match read(alloc, bytes)? {
-        Reading::Whole(tree) => whole_units(alloc, bytes.len(), tree.items.as_slice()),
+        Reading::Whole(tree) => {
+            let read = whole_units(alloc, bytes.len(), tree.items.as_slice());
+            drop(tree);
+            read
+        }
         Reading::Broken { items, wrong } => {
-            Err(broken_fault(alloc, bytes.len(), items.as_slice(), wrong))
+            let fault = broken_fault(alloc, bytes.len(), items.as_slice(), wrong);
+            drop(items);
+            Err(fault)
         }
     }
 }

@@ -43,7 +43,13 @@ pub(crate) fn groups<'a>(
 {
     let mut found = Items::new(alloc);
     for item in items {
-        add_group(&mut found, item, name)?;
+        match add_group(&mut found, item, name) {
+            Ok(()) => {}
+            Err(wanting) => {
+                drop(found);
+                return Err(wanting);
+            }
+        }
     }
     Ok(found)
 }
@@ -75,7 +81,13 @@ pub(crate) fn lists<'a>(
 {
     let mut found = Items::new(alloc);
     for item in items {
-        add_list(&mut found, item, name)?;
+        match add_list(&mut found, item, name) {
+            Ok(()) => {}
+            Err(wanting) => {
+                drop(found);
+                return Err(wanting);
+            }
+        }
     }
     Ok(found)
 }
@@ -107,7 +119,13 @@ pub(crate) fn values<'a>(
 {
     let mut found = Items::new(alloc);
     for item in items {
-        add_value(&mut found, item, name)?;
+        match add_value(&mut found, item, name) {
+            Ok(()) => {}
+            Err(wanting) => {
+                drop(found);
+                return Err(wanting);
+            }
+        }
     }
     Ok(found)
 }
@@ -149,7 +167,9 @@ pub(crate) fn text_of<'a>(
         (λ text. option_map (λ t. t.now) text ≡ text_of name.now items.entry.now) }
 {
     let found = values(alloc, items, name)?;
-    match last(found.as_slice()) {
+    let value = last(found.as_slice());
+    drop(found);
+    match value {
         Some(value) => Ok(one_text(value)),
         None => Ok(None),
     }

@@ -10,7 +10,7 @@ ghost use Rattle.liberty_cells.specs.Tables.{flat, all_rows, row, or_else, index
 use crate::axes::{Axes, Form, Side, axes_of, unit_of};
 use crate::numbers::{Numbers, add_row, flat};
 use crate::statements::lists;
-use sta_units::{Memory, Unit};
+use sta_units::{Memory, Pair, Unit, both};
 use std::alloc::Global;
 use timing_defs::{Code, Item, Items, Lexeme, Table};
 
@@ -91,10 +91,12 @@ fn next_index(
         × (index.rises ≡ (before.rises && rises unit args.now))
         × (index.values ≡ flat unit args.now)) }
 {
+    let (fit, rise) = (before.fits, before.rises);
+    drop(before);
     let numbers = flat(alloc, unit, args)?;
     Ok(Index {
-        fits: before.fits && is_index(&numbers),
-        rises: before.rises && rises(unit, &numbers),
+        fits: fit && is_index(&numbers),
+        rises: rise && rises(unit, &numbers),
         values: numbers.values,
     })
 }
@@ -114,6 +116,7 @@ fn read_values(
     let mut good = !found.is_empty();
     let mut values = Items::new(alloc);
     for args in found {
+        drop(values);
         let numbers = flat(alloc, unit, *args)?;
         good = good && numbers.good && numbers.values.len() == count;
         values = numbers.values;
@@ -141,10 +144,17 @@ fn push_row(
         × (rows.new ≡ rows.old ++ row unit arg.now.text ∷ [])) }
 {
     let mut values = Items::new(alloc);
-    let good = add_row(unit, arg.text.as_slice(), &mut values)?;
-    let fits = good && values.len() == columns;
-    rows.push(values)?;
-    Ok(fits)
+    match add_row(unit, arg.text.as_slice(), &mut values) {
+        Ok(good) => {
+            let fits = good && values.len() == columns;
+            rows.push(values)?;
+            Ok(fits)
+        }
+        Err(wanting) => {
+            drop(values);
+            Err(wanting)
+        }
+    }
 }
 
 /// The rows of a list, and whether each is one of so many values.
@@ -162,8 +172,13 @@ fn rows_of(
     let mut good = true;
     let mut rows = Items::new(alloc);
     for arg in args {
-        let fits = push_row(alloc, unit, columns, arg, &mut rows)?;
-        good = good && fits;
+        match push_row(alloc, unit, columns, arg, &mut rows) {
+            Ok(fits) => good = good && fits,
+            Err(wanting) => {
+                drop(rows);
+                return Err(wanting);
+            }
+        }
     }
     Ok(Rows { good, rows })
 }
@@ -185,6 +200,7 @@ fn read_rows(
     let mut good = !found.is_empty();
     let mut rows = Items::new(alloc);
     for args in found {
+        drop(rows);
         let read = rows_of(alloc, unit, columns, *args)?;
         good = good && args.len() == count && read.good;
         rows = read.rows;
@@ -210,7 +226,13 @@ fn flatten(alloc: Global, rows: &[Items<i64>]) -> Result<Items<i64>, Memory>
 {
     let mut values = Items::new(alloc);
     for row in rows {
-        add_all(&mut values, row.as_slice())?;
+        match add_all(&mut values, row.as_slice()) {
+            Ok(()) => {}
+            Err(wanting) => {
+                drop(values);
+                return Err(wanting);
+            }
+        }
     }
     Ok(values)
 }
@@ -249,25 +271,36 @@ fn lone(alloc: Global) -> Result<Items<i64>, Memory>
     ensures { IfOk result (λ axis. axis ≡ lone) }
 {
     let mut axis = Items::new(alloc);
-    axis.push(0)?;
-    Ok(axis)
+    match axis.push(0) {
+        Ok(()) => Ok(axis),
+        Err(wanting) => {
+            drop(axis);
+            Err(wanting)
+        }
+    }
 }
 
 fn one_way(alloc: Global, side: Side, index: Items<i64>, vals: Items<i64>) -> Result<Table, Memory>
     ensures { IfOk result (λ table. table ≡ one_way side index vals) }
 {
-    let other = lone(alloc)?;
-    match side {
-        Side::Xs => Ok(Table {
-            xs: index,
-            ys: other,
-            vals,
-        }),
-        Side::Ys => Ok(Table {
-            xs: other,
-            ys: index,
-            vals,
-        }),
+    match lone(alloc) {
+        Ok(other) => match side {
+            Side::Xs => Ok(Table {
+                xs: index,
+                ys: other,
+                vals,
+            }),
+            Side::Ys => Ok(Table {
+                xs: other,
+                ys: index,
+                vals,
+            }),
+        },
+        Err(wanting) => {
+            drop(index);
+            drop(vals);
+            Err(wanting)
+        }
     }
 }
 
@@ -281,19 +314,30 @@ fn two_way(
     ensures { IfOk result (λ table. table ≡ two_way side first second rows.now) }
 {
     match side {
-        Side::Xs => Ok(Table {
-            xs: first,
-            ys: second,
-            vals: flatten(alloc, rows)?,
-        }),
-        Side::Ys => {
-            let vals = columns(alloc, second.len(), rows)?;
-            Ok(Table {
+        Side::Xs => match flatten(alloc, rows) {
+            Ok(vals) => Ok(Table {
+                xs: first,
+                ys: second,
+                vals,
+            }),
+            Err(wanting) => {
+                drop(first);
+                drop(second);
+                Err(wanting)
+            }
+        },
+        Side::Ys => match columns(alloc, second.len(), rows) {
+            Ok(vals) => Ok(Table {
                 xs: second,
                 ys: first,
                 vals,
-            })
-        }
+            }),
+            Err(wanting) => {
+                drop(first);
+                drop(second);
+                Err(wanting)
+            }
+        },
     }
 }
 
@@ -301,8 +345,10 @@ fn table_or(fits: bool, rises: bool, table: Table) -> Result<Table, Code>
     ensures { result ≡ table_or fits rises table }
 {
     if !fits {
+        drop(table);
         Err(Code::LibertyBadTable)
     } else if !rises {
+        drop(table);
         Err(Code::LibertyIndexNotRising)
     } else {
         Ok(table)
@@ -321,9 +367,18 @@ fn table_of_one(
         (λ table. table ≡ table_of_one form side (told first.now) (told found.now)) }
 {
     let index = read_index(alloc, unit_of(form, side), first)?;
-    let numbers = read_values(alloc, form.known.time, index.values.len(), found)?;
-    let table = one_way(alloc, side, index.values, numbers.values)?;
-    Ok(table_or(index.fits && numbers.good, index.rises, table))
+    match read_values(alloc, form.known.time, index.values.len(), found) {
+        Ok(numbers) => {
+            let fits = index.fits && numbers.good;
+            let rises = index.rises;
+            let table = one_way(alloc, side, index.values, numbers.values)?;
+            Ok(table_or(fits, rises, table))
+        }
+        Err(wanting) => {
+            drop(index);
+            Err(wanting)
+        }
+    }
 }
 
 /// A table of two indexes, or the code of its fault.
@@ -339,18 +394,25 @@ fn table_of_two(
         (λ table. table
         ≡ table_of_two form sides.0 sides.1 (told first.now) (told second.now) (told found.now)) }
 {
-    let one = read_index(alloc, unit_of(form, sides.0), first)?;
-    let two = read_index(alloc, unit_of(form, sides.1), second)?;
-    let read = read_rows(
-        alloc,
-        form.known.time,
-        one.values.len(),
-        two.values.len(),
-        found,
+    let Pair { one, other: two } = both(
+        read_index(alloc, unit_of(form, sides.0), first),
+        read_index(alloc, unit_of(form, sides.1), second),
     )?;
-    let table = two_way(alloc, sides.0, one.values, two.values, read.rows.as_slice())?;
-    let fits = one.fits && two.fits && read.good;
-    Ok(table_or(fits, one.rises && two.rises, table))
+    let (count, columns) = (one.values.len(), two.values.len());
+    match read_rows(alloc, form.known.time, count, columns, found) {
+        Ok(read) => {
+            let fits = one.fits && two.fits && read.good;
+            let rises = one.rises && two.rises;
+            let table = two_way(alloc, sides.0, one.values, two.values, read.rows.as_slice());
+            drop(read);
+            Ok(table_or(fits, rises, table?))
+        }
+        Err(wanting) => {
+            drop(one);
+            drop(two);
+            Err(wanting)
+        }
+    }
 }
 
 /// The lists of the table's own index, or of its template's.
@@ -365,6 +427,7 @@ fn index_lists<'a>(
 {
     let own = lists(alloc, table, name)?;
     if own.is_empty() {
+        drop(own);
         return lists(alloc, template, name);
     }
     Ok(own)
@@ -401,11 +464,19 @@ pub(crate) fn table_in(
     let Some(axes) = axes_of(alloc, form.purpose, template)? else {
         return Ok(Err(Code::LibertyBadTable));
     };
-    let first = index_lists(alloc, b"index_1", table, template)?;
-    let second = index_lists(alloc, b"index_2", table, template)?;
-    let found = lists(alloc, table, b"values")?;
-    let indexes = (first.as_slice(), second.as_slice());
-    table_at(alloc, form, axes, indexes, found.as_slice())
+    let indexes = both(
+        index_lists(alloc, b"index_1", table, template),
+        index_lists(alloc, b"index_2", table, template),
+    );
+    let Pair {
+        one: indexes,
+        other: found,
+    } = both(indexes, lists(alloc, table, b"values"))?;
+    let slices = (indexes.one.as_slice(), indexes.other.as_slice());
+    let read = table_at(alloc, form, axes, slices, found.as_slice());
+    drop(indexes);
+    drop(found);
+    read
 }
 
 /// A table of one value, or the code of its fault.
@@ -417,11 +488,14 @@ pub(crate) fn scalar_in(
     ensures { IfOk result (λ read. read ≡ scalar_in form table.now) }
 {
     let found = lists(alloc, table, b"values")?;
-    let numbers = read_values(alloc, form.known.time, 1, found.as_slice())?;
-    let table = Table {
-        xs: lone(alloc)?,
-        ys: lone(alloc)?,
-        vals: numbers.values,
-    };
-    Ok(table_or(numbers.good, true, table))
+    let numbers = read_values(alloc, form.known.time, 1, found.as_slice());
+    drop(found);
+    let axes = both(lone(alloc), lone(alloc));
+    let Pair {
+        one: axes,
+        other: numbers,
+    } = both(axes, numbers)?;
+    let Pair { one: xs, other: ys } = axes;
+    let Numbers { good, values: vals } = numbers;
+    Ok(table_or(good, true, Table { xs, ys, vals }))
 }

@@ -51,7 +51,13 @@ fn places_of<'a>(alloc: Global, trees: &[&'a Tree]) -> Result<Places<'a>, Memory
 {
     let mut places = Places::new(alloc);
     for (at, tree) in trees.iter().enumerate() {
-        add_place(&mut places, *tree, at)?;
+        match add_place(&mut places, *tree, at) {
+            Ok(()) => {}
+            Err(wanting) => {
+                drop(places);
+                return Err(wanting);
+            }
+        }
     }
     Ok(places)
 }
@@ -89,8 +95,13 @@ impl<'a> Templates<'a> {
     pub(crate) fn new(alloc: Global, trees: Items<&'a Tree>) -> Result<Templates<'a>, Memory>
         ensures { IfOk result (λ templates. told templates.trees ≡ told trees.entry) }
     {
-        let places = places_of(alloc, trees.as_slice())?;
-        Ok(Templates { trees, places })
+        match places_of(alloc, trees.as_slice()) {
+            Ok(places) => Ok(Templates { trees, places }),
+            Err(wanting) => {
+                drop(trees);
+                Err(wanting)
+            }
+        }
     }
 
     /// The groups of the templates.

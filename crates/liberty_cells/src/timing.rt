@@ -90,7 +90,9 @@ fn timing_in(alloc: Global, dir: Dir, items: &[Item]) -> Result<Option<Timing>, 
     ensures { IfOk result (λ timing. timing ≡ timing_in dir items.now) }
 {
     let found = values(alloc, items, b"timing_type")?;
-    Ok(timing_typed(dir, last(found.as_slice())))
+    let timing = timing_typed(dir, last(found.as_slice()));
+    drop(found);
+    Ok(timing)
 }
 
 /// What a group of timing of a pin is; none where it is passed over.
@@ -128,7 +130,13 @@ pub(crate) fn related<'a>(
 {
     let mut found = Items::new(alloc);
     if let Some(text) = text_of(alloc, group.items.as_slice(), b"related_pin")? {
-        add_standing(names, text, &mut found)?;
+        match add_standing(names, text, &mut found) {
+            Ok(()) => {}
+            Err(wanting) => {
+                drop(found);
+                return Err(wanting);
+            }
+        }
     }
     Ok(found)
 }
@@ -174,7 +182,13 @@ pub(crate) fn names_in(alloc: Global, texts: &[&[u8]]) -> Result<Items<Name>, Me
 {
     let mut found = Items::new(alloc);
     for text in texts {
-        add_name(alloc, &mut found, *text)?;
+        match add_name(alloc, &mut found, *text) {
+            Ok(()) => {}
+            Err(wanting) => {
+                drop(found);
+                return Err(wanting);
+            }
+        }
     }
     Ok(found)
 }
@@ -186,7 +200,13 @@ pub(crate) fn arg_names(alloc: Global, args: &[Lexeme]) -> Result<Items<Name>, M
 {
     let mut found = Items::new(alloc);
     for arg in args {
-        add_name(alloc, &mut found, arg.text.as_slice())?;
+        match add_name(alloc, &mut found, arg.text.as_slice()) {
+            Ok(()) => {}
+            Err(wanting) => {
+                drop(found);
+                return Err(wanting);
+            }
+        }
     }
     Ok(found)
 }

@@ -30,7 +30,7 @@ use crate::trees::check_tree;
 use crate::updates::is_marked;
 use cow_table::Held;
 use netlist_store::{Store, Touched};
-use sta_units::Memory;
+use sta_units::{Memory, Pair, both};
 use std::alloc::Global;
 use std::marker::Model;
 use timing_defs::{Fault, Items, Name, Tran};
@@ -87,8 +87,10 @@ fn node_graph(
 {
     store.laws();
     let n = 2 * store.pin_bound();
-    let levels = node_levels(alloc, n, arcs)?;
-    let ports = clock_ports(alloc, store)?;
+    let Pair {
+        one: levels,
+        other: ports,
+    } = both(node_levels(alloc, n, arcs), clock_ports(alloc, store))?;
     let placed = places(
         alloc,
         n,
@@ -96,16 +98,31 @@ fn node_graph(
         ports.as_slice(),
         arcs,
         levels.as_slice(),
-    )?;
-    let ins = Fan::of(alloc, n, End::To, arcs)?;
-    let outs = Fan::of(alloc, n, End::From, arcs)?;
-    Ok(NodeGraph {
-        ins,
-        outs,
-        levels,
-        places: placed.places,
-        order: placed.order,
-    })
+    );
+    drop(ports);
+    let fans = both(
+        Fan::of(alloc, n, End::To, arcs),
+        Fan::of(alloc, n, End::From, arcs),
+    );
+    match both(placed, fans) {
+        Ok(found) => {
+            let Pair {
+                one: placed,
+                other: fans,
+            } = found;
+            Ok(NodeGraph {
+                ins: fans.one,
+                outs: fans.other,
+                levels,
+                places: placed.places,
+                order: placed.order,
+            })
+        }
+        Err(wanting) => {
+            drop(levels);
+            Err(wanting)
+        }
+    }
 }
 
 /// The tables of a store without a loop, whose clock network is a tree.

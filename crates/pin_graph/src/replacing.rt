@@ -21,7 +21,7 @@ use crate::updates::{
 };
 use cow_table::CowTable;
 use netlist_store::{Store, Touched};
-use sta_units::Memory;
+use sta_units::{Memory, Pair, both};
 use std::alloc::Global;
 use timing_defs::Items;
 
@@ -55,6 +55,21 @@ pub(crate) struct BothFans {
     pub(crate) outs: Fans,
 }
 
+/// A copy of the arcs of nodes, with nodes without arcs more, up to that number.
+fn longer(alloc: Global, fans: &Fans, n: u32) -> Result<Fans, Memory>
+    requires { length fans.now.later ≤ n }
+    ensures { IfOk result (λ copy. copy ≡ longer fans.now n) }
+{
+    let mut copy = fans.copy()?;
+    match copy.lengthen(alloc, n) {
+        Ok(()) => Ok(copy),
+        Err(wanting) => {
+            drop(copy);
+            Err(wanting)
+        }
+    }
+}
+
 /// The arcs into and out of nodes after an ECO: those into the nodes of dirty pins are found anew.
 fn fans_after(
     alloc: Global,
@@ -74,12 +89,21 @@ fn fans_after(
 {
     store.laws();
     let n = 2 * store.pin_bound();
-    let mut ins = tables.ins.copy()?;
-    let mut outs = tables.outs.copy()?;
-    ins.lengthen(alloc, n)?;
-    outs.lengthen(alloc, n)?;
-    relink(alloc, store, network, &mut ins, &mut outs, dirty)?;
-    Ok(BothFans { ins, outs })
+    let Pair {
+        one: mut ins,
+        other: mut outs,
+    } = both(
+        longer(alloc, &tables.ins, n),
+        longer(alloc, &tables.outs, n),
+    )?;
+    match relink(alloc, store, network, &mut ins, &mut outs, dirty) {
+        Ok(()) => Ok(BothFans { ins, outs }),
+        Err(wanting) => {
+            drop(ins);
+            drop(outs);
+            Err(wanting)
+        }
+    }
 }
 
 /// The levels of nodes after an ECO; none where they are not found in turns enough.

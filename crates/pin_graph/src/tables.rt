@@ -8,7 +8,7 @@ use crate::fans::Fan;
 use crate::held_fans::Fans;
 use crate::pins::PinGraph;
 use cow_table::{CowTable, Held};
-use sta_units::Memory;
+use sta_units::{Memory, Pair, both};
 use std::alloc::Global;
 use timing_defs::Items;
 
@@ -107,11 +107,37 @@ fn place_table(alloc: Global, places: &[Option<u32>]) -> Result<CowTable<Option<
 pub(crate) fn node_tables(alloc: Global, n: u32, nodes: NodeGraph) -> Result<NodeTables, Memory>
     ensures { IfOk result (AreNodeTables n nodes) }
 {
-    let levels = number_table(alloc, nodes.levels.as_slice())?;
-    let places = place_table(alloc, nodes.places.as_slice())?;
-    let order = Held::of(alloc, nodes.order)?;
-    let ins = Fans::of(alloc, n, nodes.ins)?;
-    let outs = Fans::of(alloc, n, nodes.outs)?;
+    let NodeGraph {
+        ins,
+        outs,
+        levels,
+        places,
+        order,
+    } = nodes;
+    let values = both(
+        number_table(alloc, levels.as_slice()),
+        place_table(alloc, places.as_slice()),
+    );
+    drop(levels);
+    drop(places);
+    let values = both(values, Held::of(alloc, order));
+    let fans = both(Fans::of(alloc, n, ins), Fans::of(alloc, n, outs));
+    let Pair {
+        one: fans,
+        other: values,
+    } = both(fans, values)?;
+    let Pair {
+        one: ins,
+        other: outs,
+    } = fans;
+    let Pair {
+        one: values,
+        other: order,
+    } = values;
+    let Pair {
+        one: levels,
+        other: places,
+    } = values;
     Ok(NodeTables {
         ins,
         outs,
@@ -125,10 +151,26 @@ pub(crate) fn node_tables(alloc: Global, n: u32, nodes: NodeGraph) -> Result<Nod
 pub(crate) fn pin_tables(alloc: Global, pins: &PinGraph) -> Result<PinTables, Memory>
     ensures { IfOk result (ArePinTables pins.now) }
 {
-    let fed = flag_table(alloc, pins.reach.from_clocks.as_slice())?;
-    let feeds = flag_table(alloc, pins.reach.to_registers.as_slice())?;
-    let levels = number_table(alloc, pins.levels.as_slice())?;
-    let network = pins.network.copy()?;
+    let flags = both(
+        flag_table(alloc, pins.reach.from_clocks.as_slice()),
+        flag_table(alloc, pins.reach.to_registers.as_slice()),
+    );
+    let others = both(
+        number_table(alloc, pins.levels.as_slice()),
+        pins.network.copy(),
+    );
+    let Pair {
+        one: flags,
+        other: others,
+    } = both(flags, others)?;
+    let Pair {
+        one: fed,
+        other: feeds,
+    } = flags;
+    let Pair {
+        one: levels,
+        other: network,
+    } = others;
     Ok(PinTables {
         network,
         fed,

@@ -134,8 +134,15 @@ pub(crate) fn strays(
     let mut header = Names::new(alloc);
     let mut least = best;
     for event in events {
-        least = stray(&mut header, event, least)?;
+        match stray(&mut header, event, least) {
+            Ok(next) => least = next,
+            Err(wanting) => {
+                drop(header);
+                return Err(wanting);
+            }
+        }
     }
+    drop(header);
     Ok(least)
 }
 
@@ -173,8 +180,15 @@ pub(crate) fn header_doubles(
     let mut names = Names::new(alloc);
     let mut least = best;
     for event in events {
-        least = header_double(&mut names, event, least)?;
+        match header_double(&mut names, event, least) {
+            Ok(next) => least = next,
+            Err(wanting) => {
+                drop(names);
+                return Err(wanting);
+            }
+        }
     }
+    drop(names);
     Ok(least)
 }
 
@@ -206,8 +220,15 @@ pub(crate) fn instance_doubles(
     let mut names = Names::new(alloc);
     let mut least = best;
     for event in events {
-        least = instance_double(&mut names, event, least)?;
+        match instance_double(&mut names, event, least) {
+            Ok(next) => least = next,
+            Err(wanting) => {
+                drop(names);
+                return Err(wanting);
+            }
+        }
     }
+    drop(names);
     Ok(least)
 }
 
@@ -304,8 +325,15 @@ pub(crate) fn pin_doubles(
     let mut names = FewNames::new(alloc);
     let mut least = best;
     for event in events {
-        least = pin_double(alloc, &mut names, event, least)?;
+        match pin_double(alloc, &mut names, event, least) {
+            Ok(next) => least = next,
+            Err(wanting) => {
+                drop(names);
+                return Err(wanting);
+            }
+        }
     }
+    drop(names);
     Ok(least)
 }
 
@@ -345,7 +373,13 @@ pub(crate) fn all_vectors<'a>(alloc: Global, events: &'a [Event]) -> Result<FewN
 {
     let mut vectors = FewNames::new(alloc);
     for event in events {
-        vector(&mut vectors, event)?;
+        match vector(&mut vectors, event) {
+            Ok(()) => {}
+            Err(wanting) => {
+                drop(vectors);
+                return Err(wanting);
+            }
+        }
     }
     Ok(vectors)
 }
@@ -401,8 +435,15 @@ pub(crate) fn whole_vectors<'a>(
     let mut vectors = known;
     let mut least = best;
     for event in events {
-        least = whole_vector(&mut vectors, event, least)?;
+        match whole_vector(&mut vectors, event, least) {
+            Ok(next) => least = next,
+            Err(wanting) => {
+                drop(vectors);
+                return Err(wanting);
+            }
+        }
     }
+    drop(vectors);
     Ok(least)
 }
 
@@ -430,7 +471,13 @@ fn all_directed<'a>(alloc: Global, events: &'a [Event]) -> Result<Names<'a>, Mem
 {
     let mut names = Names::new(alloc);
     for event in events {
-        directed(&mut names, event)?;
+        match directed(&mut names, event) {
+            Ok(()) => {}
+            Err(wanting) => {
+                drop(names);
+                return Err(wanting);
+            }
+        }
     }
     Ok(names)
 }
@@ -466,5 +513,6 @@ pub(crate) fn undirected(
     for event in events {
         least = undirected_port(&directed, event, least);
     }
+    drop(directed);
     Ok(least)
 }

@@ -48,12 +48,18 @@ fn alike(known: &Known, role: Role) -> &NetSet
 fn declare(alloc: Global, known: &mut Known, role: Role, names: Items<Name>) -> Result<(), Memory>
     ensures { IfOk result (λ _. known.new ≡ declaring role known.old names) }
 {
-    if role.is_port() {
-        known.ports.add_all(alloc, names.as_slice())?;
+    let added = if role.is_port() {
+        known.ports.add_all(alloc, names.as_slice())
     } else {
-        known.wires.add_all(alloc, names.as_slice())?;
+        known.wires.add_all(alloc, names.as_slice())
+    };
+    match added {
+        Ok(()) => known.nets.take_all(names),
+        Err(wanting) => {
+            drop(names);
+            Err(wanting)
+        }
     }
-    known.nets.take_all(names)
 }
 
 /// Adds a declared name whose range does not pass the limit; its fault where it has one.
@@ -74,6 +80,7 @@ fn declare_narrow(
 {
     let nets = nets_of(alloc, kind.span, name)?;
     if alike(known, kind.role).has_any(nets.as_slice()) {
+        drop(nets);
         return Ok(Some(Wrong {
             code: Code::VerilogDoubleName,
             at,
@@ -327,8 +334,16 @@ pub(crate) fn all_nets(
 {
     let mut nets = NetSet::new(alloc);
     for event in events {
-        if let Some(wrong) = add_nets(alloc, &mut nets, declared, vectors, event)? {
-            return Ok(Err(wrong));
+        match add_nets(alloc, &mut nets, declared, vectors, event) {
+            Ok(None) => {}
+            Ok(Some(wrong)) => {
+                drop(nets);
+                return Ok(Err(wrong));
+            }
+            Err(wanting) => {
+                drop(nets);
+                return Err(wanting);
+            }
         }
     }
     Ok(Ok(nets))

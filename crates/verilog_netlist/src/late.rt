@@ -14,7 +14,7 @@ use crate::covers::{Cover, Stretch};
 use crate::events::{Event, Span};
 use crate::names::{bit_number, is_place_text};
 use sta_text::{Names, Places};
-use sta_units::Memory;
+use sta_units::{Memory, Pair, both};
 use std::alloc::Global;
 use timing_defs::{Items, Name};
 
@@ -71,7 +71,13 @@ fn vector_places<'a>(alloc: Global, events: &'a [Event]) -> Result<Places<'a>, M
 {
     let mut places = Places::new(alloc);
     for (place, event) in events.iter().enumerate() {
-        set_place(&mut places, place, event)?;
+        match set_place(&mut places, place, event) {
+            Ok(()) => {}
+            Err(wanting) => {
+                drop(places);
+                return Err(wanting);
+            }
+        }
     }
     Ok(places)
 }
@@ -123,9 +129,24 @@ fn stretches(alloc: Global, places: &Places<'_>, events: &[Event]) -> Result<Ite
 {
     let mut found = Items::new(alloc);
     for event in events {
-        add_stretch(&mut found, places, event)?;
+        match add_stretch(&mut found, places, event) {
+            Ok(()) => {}
+            Err(wanting) => {
+                drop(found);
+                return Err(wanting);
+            }
+        }
     }
     Ok(found)
+}
+
+/// What all declared ranges cover.
+fn cover_of(alloc: Global, places: &Places<'_>, events: &[Event]) -> Result<Cover, Memory>
+    ensures { IfOk result
+        (λ cover. (k : ℕ) → list_any (holds k) cover
+        ≡ list_any (holds k) (stretches (said places.now) events.now)) }
+{
+    Cover::of(alloc, stretches(alloc, places, events)?.into_vec())
 }
 
 /// Adds a name that is declared alone.
@@ -153,7 +174,13 @@ fn alone<'a>(alloc: Global, events: &'a [Event]) -> Result<Names<'a>, Memory>
 {
     let mut names = Names::new(alloc);
     for event in events {
-        add_alone(&mut names, event)?;
+        match add_alone(&mut names, event) {
+            Ok(()) => {}
+            Err(wanting) => {
+                drop(names);
+                return Err(wanting);
+            }
+        }
     }
     Ok(names)
 }
@@ -171,15 +198,22 @@ impl<'a> Late<'a> {
     pub(crate) fn of(alloc: Global, events: &'a [Event]) -> Result<Late<'a>, Memory>
         ensures { IfOk result (λ late. IsLate late events.entry.now) }
     {
-        let alone = alone(alloc, events)?;
-        let places = vector_places(alloc, events)?;
-        let found = stretches(alloc, &places, events)?;
-        let cover = Cover::of(alloc, found.into_vec())?;
-        Ok(Late {
-            alone,
-            places,
-            cover,
-        })
+        let Pair {
+            one: alone,
+            other: places,
+        } = both(alone(alloc, events), vector_places(alloc, events))?;
+        match cover_of(alloc, &places, events) {
+            Ok(cover) => Ok(Late {
+                alone,
+                places,
+                cover,
+            }),
+            Err(wanting) => {
+                drop(alone);
+                drop(places);
+                Err(wanting)
+            }
+        }
     }
 
     /// Whether a bit of this number of the vector of this place is declared.

@@ -10,7 +10,7 @@ ghost use Rattle.verilog_netlist.specs.Modules.{dir_of, port_of, ports_of, net_n
 use crate::events::{Event, Kind, Net, Role};
 use crate::names::nets_of;
 use crate::nets::NetSet;
-use sta_units::Memory;
+use sta_units::{Memory, Pair, both};
 use std::alloc::Global;
 use std::mem;
 use timing_defs::{Conn, Dir, Inst, Items, Module, Name, Port};
@@ -51,7 +51,9 @@ fn add_declared(alloc: Global, ports: &mut Items<Port>, event: &Event) -> Result
                 return Ok(());
             }
             let names = nets_of(alloc, kind.span, name)?;
-            add_ports(alloc, ports, dir_of(kind.role), names.as_slice())
+            let added = add_ports(alloc, ports, dir_of(kind.role), names.as_slice());
+            drop(names);
+            added
         }
         _ => Ok(()),
     }
@@ -64,7 +66,13 @@ fn ports_of(alloc: Global, events: &[Event]) -> Result<Items<Port>, Memory>
 {
     let mut ports = Items::new(alloc);
     for event in events {
-        add_declared(alloc, &mut ports, event)?;
+        match add_declared(alloc, &mut ports, event) {
+            Ok(()) => {}
+            Err(wanting) => {
+                drop(ports);
+                return Err(wanting);
+            }
+        }
     }
     Ok(ports)
 }
@@ -111,7 +119,11 @@ fn join(begun: &mut Option<Inst>, pin: Name, net: Net) -> Result<(), Memory>
         ≡ begun_insts begun.old (event.Connection pin net ∷ rest)) }
 {
     match begun {
-        None => Ok(()),
+        None => {
+            drop(pin);
+            drop(net);
+            Ok(())
+        }
         Some(inst) => inst.conns.push(Conn {
             pin,
             net: net_name(net),
@@ -134,7 +146,10 @@ fn take_event(
     match event {
         Event::Instance(cell, name, _) => begin(alloc, insts, begun, cell, name),
         Event::Connection(pin, net) => join(begun, pin, net),
-        _ => Ok(()),
+        other => {
+            drop(other);
+            Ok(())
+        }
     }
 }
 
@@ -157,10 +172,22 @@ fn insts_of(alloc: Global, events: Vec<Event>) -> Result<Items<Inst>, Memory>
     let mut insts = Items::new(alloc);
     let mut begun = None;
     for event in events {
-        take_event(alloc, &mut insts, &mut begun, event)?;
+        match take_event(alloc, &mut insts, &mut begun, event) {
+            Ok(()) => {}
+            Err(wanting) => {
+                drop(insts);
+                drop(begun);
+                return Err(wanting);
+            }
+        }
     }
-    end(&mut insts, begun)?;
-    Ok(insts)
+    match end(&mut insts, begun) {
+        Ok(()) => Ok(insts),
+        Err(wanting) => {
+            drop(insts);
+            Err(wanting)
+        }
+    }
 }
 
 #[tactic(auto, unfolding(crate::specs::Modules::module_name))]
@@ -195,10 +222,27 @@ pub(crate) fn module_of(alloc: Global, events: Vec<Event>, nets: NetSet) -> Resu
     requires nets { nets ≡ module_nets events.items }
     ensures { IfOk result (λ module_. module_of events.items ≡ Some module_) }
 {
+    let head = both(
+        module_name(alloc, events.as_slice()),
+        ports_of(alloc, events.as_slice()),
+    );
+    let body = both(nets.into_items(alloc), insts_of(alloc, events));
+    let Pair {
+        one: head,
+        other: body,
+    } = both(head, body)?;
+    let Pair {
+        one: name,
+        other: ports,
+    } = head;
+    let Pair {
+        one: nets,
+        other: insts,
+    } = body;
     Ok(Module {
-        name: module_name(alloc, events.as_slice())?,
-        ports: ports_of(alloc, events.as_slice())?,
-        nets: nets.into_items(alloc)?,
-        insts: insts_of(alloc, events)?,
+        name,
+        ports,
+        nets,
+        insts,
     })
 }

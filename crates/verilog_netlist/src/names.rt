@@ -1,6 +1,6 @@
 //! The names of nets.
 
-ghost use Rattle.std.specs.Prelude.{◌≡◌, ◌<◌, ◌^◌, ◌++◌, ◌∷◌, [], true, string_bytes, ℕ, Some, IfOk};
+ghost use Rattle.std.specs.Prelude.{◌≡◌, ◌<◌, ◌^◌, ◌++◌, ◌∷◌, [], true, string_bytes, ℕ, Some, IfOk, OnOk};
 ghost use Rattle.std.specs.Fmt.{decimal};
 ghost use Rattle.std.specs.Str.{bytes_eq};
 ghost use Rattle.timing_defs.specs.Names.{is_name};
@@ -11,7 +11,7 @@ ghost use Rattle.sta_text.specs.Names.{stands};
 
 use crate::events::Span;
 use crate::lexicon::{all_digits, digits_value, spelled};
-use sta_units::Memory;
+use sta_units::{Memory, Pair, append, both};
 use std::alloc::{AllocError, Global};
 use timing_defs::{Items, Name};
 
@@ -22,15 +22,30 @@ fn place_text(alloc: Global, k: u32) -> Result<String, AllocError>
     format!(in alloc; "[{k}]")
 }
 
+/// Two texts behind each other.
+fn joined(alloc: Global, one: &[u8], other: &[u8]) -> Result<Vec<u8>, Memory>
+    ensures { IfOk result (λ bytes. bytes.items ≡ one.now ++ other.now) }
+{
+    let mut bytes = Vec::from_slice(alloc, one)?;
+    match append(&mut bytes, other) {
+        Ok(()) => Ok(bytes),
+        Err(wanting) => {
+            drop(bytes);
+            Err(wanting)
+        }
+    }
+}
+
 /// The name of a bit of a vector, as `a[3]`.
 #[tactic(auto, using(crate::proofs::NamesLemmas::bit_is_name))]
 pub(crate) fn bit_name(alloc: Global, name: &[u8], k: u32) -> Result<Name, Memory>
     requires { is_name name.now ≡ true }
     ensures { IfOk result (λ bit. bit ≡ bit_name name.now k) }
 {
-    let mut bytes = Vec::from_slice(alloc, name)?;
-    bytes.extend_from_slice(place_text(alloc, k)?.as_bytes())?;
-    match Name::from_vec(bytes) {
+    let text = place_text(alloc, k)?;
+    let bytes = joined(alloc, name, text.as_bytes());
+    drop(text);
+    match Name::from_vec(bytes?) {
         Some(bit) => Ok(bit),
         None => unreachable!(),
     }
@@ -106,7 +121,10 @@ pub(crate) fn bit_number(name: &[u8], net: &[u8]) -> Option<u64>
 pub(crate) fn is_place_text(alloc: Global, text: &[u8], k: u32) -> Result<bool, Memory>
     ensures { IfOk result (λ is. is ≡ bytes_eq text.now (91 ∷ (decimal k ++ (93 ∷ [])))) }
 {
-    Ok(text == place_text(alloc, k)?.as_bytes())
+    let place = place_text(alloc, k)?;
+    let is = text == place.as_bytes();
+    drop(place);
+    Ok(is)
 }
 
 /// The number that a net's name gives where it is that of a bit; any or none for another name.
@@ -133,7 +151,9 @@ fn is_picked(
         return Ok(false);
     }
     let bit = bit_name(alloc, name.as_bytes(), k as u32)?;
-    Ok(net.as_bytes() == bit.as_bytes())
+    let is = net.as_bytes() == bit.as_bytes();
+    drop(bit);
+    Ok(is)
 }
 
 /// Whether the net is a bit of the vector.
@@ -143,6 +163,13 @@ pub(crate) fn is_bit(alloc: Global, span: Span, name: &Name, net: &Name) -> Resu
     is_picked(alloc, span, name, net, number_in(name, net))
 }
 
+/// Adds the name of a bit of a vector.
+fn add_bit(alloc: Global, names: &mut Items<Name>, name: &Name, k: u32) -> Result<(), Memory>
+    ensures { OnOk result (names.new ≡ names.old ++ bit_name name.now k ∷ []) }
+{
+    names.push(bit_name(alloc, name.as_bytes(), k)?)
+}
+
 /// The names of the bits of a vector.
 #[tactic(auto, unfolding(crate::specs::Nets::bits), using(crate::proofs::BitLemmas::bits_next))]
 fn bits(alloc: Global, span: Span, name: &Name) -> Result<Items<Name>, Memory>
@@ -150,7 +177,13 @@ fn bits(alloc: Global, span: Span, name: &Name) -> Result<Items<Name>, Memory>
 {
     let mut names = Items::new(alloc);
     for i in 0..span.width() {
-        names.push(bit_name(alloc, name.as_bytes(), span.number_at(i))?)?;
+        match add_bit(alloc, &mut names, name, span.number_at(i)) {
+            Ok(()) => {}
+            Err(wanting) => {
+                drop(names);
+                return Err(wanting);
+            }
+        }
     }
     Ok(names)
 }
@@ -162,9 +195,17 @@ pub(crate) fn nets_of(alloc: Global, span: Option<Span>, name: &Name) -> Result<
 {
     match span {
         None => {
-            let mut names = Items::with_room(alloc, 1)?;
-            names.push(name.copied(alloc)?)?;
-            Ok(names)
+            let Pair {
+                one: mut names,
+                other: copy,
+            } = both(Items::with_room(alloc, 1), name.copied(alloc))?;
+            match names.push(copy) {
+                Ok(()) => Ok(names),
+                Err(wanting) => {
+                    drop(names);
+                    Err(wanting)
+                }
+            }
         }
         Some(span) => bits(alloc, span, name),
     }

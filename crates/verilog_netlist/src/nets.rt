@@ -96,7 +96,10 @@ impl NetSet {
     {
         match set_add(&mut self.names, name) {
             Ok(_) => Ok(()),
-            Err(_) => Err(Memory),
+            Err(refused) => {
+                drop(refused);
+                Err(Memory)
+            }
         }
     }
 

@@ -86,7 +86,9 @@ fn check_nets(
 {
     let bits = undeclared_bits(alloc, declared, events, best)?;
     let vectors = all_vectors(alloc, events)?;
-    match all_nets(alloc, declared, &vectors, events)? {
+    let nets = all_nets(alloc, declared, &vectors, events);
+    drop(vectors);
+    match nets? {
         Ok(nets) => Ok(Checked { fault: bits, nets }),
         Err(wrong) => Ok(Checked {
             fault: lesser(bits, wrong),
@@ -157,8 +159,12 @@ fn check(alloc: Global, events: &[Event]) -> Result<Checked, Memory>
 {
     let stop = stops(alloc, events)?;
     let Declarations { fault, nets } = declared_nets(alloc, events)?;
-    let best = early(alloc, events, fault, stop)?;
-    check_rest(alloc, events, &nets, stop, best)
+    let checked = match early(alloc, events, fault, stop) {
+        Ok(best) => check_rest(alloc, events, &nets, stop, best),
+        Err(wanting) => Err(wanting),
+    };
+    drop(nets);
+    checked
 }
 
 /// The module of a text, or its least fault.
@@ -169,10 +175,19 @@ fn whole_module(alloc: Global, bytes: &[u8]) -> Result<Module, ReadFault>
         (λ e. Fails e (faults_of (events_of bytes.now))) }
 {
     let events = events_of(alloc, bytes)?;
-    let Checked { fault, nets } = check(alloc, events.as_slice())?;
-    match fault {
-        Some(wrong) => Err(wrong.told()),
-        None => Ok(module_of(alloc, events, nets)?),
+    match check(alloc, events.as_slice()) {
+        Ok(Checked { fault, nets }) => match fault {
+            Some(wrong) => {
+                drop(events);
+                drop(nets);
+                Err(wrong.told())
+            }
+            None => Ok(module_of(alloc, events, nets)?),
+        },
+        Err(wanting) => {
+            drop(events);
+            Err(ReadFault::from(wanting))
+        }
     }
 }
 

@@ -6,5 +6,5 @@ use Rattle.liberty_cells.proofs.timing.timing_in.Goals as goal
 pub returns : goal.returns
 unfolding timing_in
 returns c =
-    c.timing_typed.ensures
+    c.timing_typed-timing.ensures
     ∙ ap (timing_typed c.args.dir) (c.last.ensures ∙ ap (λ x. last (told x)) c.as_slice.ensures ∙ ap last c.in_ok-found.ensures)
