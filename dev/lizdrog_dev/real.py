@@ -14,18 +14,21 @@ The works, each of both programs on the same list, with one worker where nothing
   silent        resizes without a question but one at the end
   path, paths   the worst path, and the 20 worst paths, of each of the 100 worst endpoints in turn
   sessions      the resizes by four sessions beside each other (OpenSTA: one after the other)
-  instructions  what load, resize, buffer and clock take by instructions, which other programs do not disturb: by
-                `perf stat` where the machine counts them, else by valgrind's cachegrind, some 30 times slower
+  instructions  what load, resize, buffer and clock take by instructions (those of them that are asked for, all where
+                none is), which other programs do not disturb, so that runs go beside each other: by `perf stat` where
+                the machine counts them, else by valgrind's cachegrind, some 30 times slower
 
 Each of N pairs (7; with --quick 3, on a fourth of each list) runs a work with the one or the other program first. Times
 are seconds of processors since the program had loaded and analysed (the load's own: of the whole run): of Lizdrog those
 since its sessions began, less those of a run with one question, of OpenSTA what the kernel counts around its list. The
 settings of the C library that `./lizdrog` asks for are Lizdrog's alone. It prints a table of medians, with the ratio of
-each pair (below 1: Lizdrog is faster) in median and range, also by the clock, and the greatest memory. Where other
-programs run, seconds by the clock say nothing and those of processors little: it prints how busy the machine was. The
-worst slacks that it prints for both are not the same, since OpenSTA's wires and slews go by the library's thresholds.
+each pair (below 1: Lizdrog is faster) in median and range, also by the clock, and the greatest memory, which the kernel
+never counts below this measuring process's own (some 26 MB). Where other programs run, seconds by the clock say nothing
+and those of processors little: it prints how busy the machine was. The worst slacks that it prints for both are not the
+same, since OpenSTA's wires and slews go by the library's thresholds.
 """
 import argparse
+import concurrent.futures
 import dataclasses
 import os
 import pathlib
@@ -150,10 +153,11 @@ def ours(at: Place, work: str, lines: list[str], workers: int, first: int = 0) -
 
 def peer_env(at: Place, work: str, lines: list[str]) -> dict[str, str]:
     """Writes the list of a work for OpenSTA; gives what it finds in its surroundings."""
-    (at.scratch / "list").write_text("".join(f"{it}\n" for it in lines))
+    listed = at.scratch / f"{work}.list"
+    listed.write_text("".join(f"{it}\n" for it in lines))
     library = re.search(r"\blibrary\s*\(\s*\"?(\w+)", (at.folder / "early.lib").read_text())
     return {**os.environ, "FOLDER": str(at.folder), "NAME": at.name, "LIBRARY": library[1] if library else "",
-            "WORK": peer_work(work), "LIST": str(at.scratch / "list")}
+            "WORK": peer_work(work), "LIST": str(listed)}
 
 
 def theirs(at: Place, work: str, lines: list[str]) -> tuple[Took, Took]:
@@ -297,19 +301,28 @@ def counted(words: list[str], at: Place, env: dict[str, str]) -> int:
     return count
 
 
+def counted_beside(at: Place, how: list[str], lists: dict[str, list[str]]) -> dict[str, tuple[int, int]]:
+    """The instructions of each work, of Lizdrog and of OpenSTA; as many runs beside each other as there are
+    processors."""
+    def both(item: tuple[str, list[str]]) -> tuple[int, int]:
+        work, lines = item
+        mine = counted([*how, *words_of_ours(at, work, lines, 1)], at, run_lizdrog.surroundings())
+        peer = counted([*how, *PEER], at, peer_env(at, work, lines))
+        print(f"real.py: {at.name}: instructions of {work} are counted", file=sys.stderr, flush=True)
+        return mine, peer
+    with concurrent.futures.ThreadPoolExecutor(os.cpu_count()) as pool:
+        return dict(zip(lists, pool.map(both, lists.items()), strict=True))
+
+
 def instructions_table(at: Place, works: list[str], share: float) -> None:
     """Counts the instructions of works, and prints their table."""
     how = counter()
     if not how:
         print("\nInstructions were not counted: there is neither a perf that counts them nor valgrind.")
         return
-    lists = lists_of(at, ["load", *(it for it in COUNTED if it in works)], share, COUNTED)
-    found = {}
-    for work, lines in lists.items():
-        mine = counted([*how[0], *words_of_ours(at, work, lines, 1)], at, run_lizdrog.surroundings())
-        peer = counted([*how[0], *PEER], at, peer_env(at, work, lines))
-        found[work] = mine, peer
-        print(f"real.py: {at.name}: instructions of {work} are counted", file=sys.stderr, flush=True)
+    chosen = [it for it in COUNTED if it in works] or [*COUNTED]
+    lists = lists_of(at, ["load", *chosen], share, COUNTED)
+    found = counted_beside(at, how[0], lists)
     print(f"\nMillions of instructions, by {how[1]}:\n\n| Work | Lizdrog | OpenSTA | Ratio |\n|---|---|---|---|")
     for work, lines in lists.items():
         base = (0, 0) if work == "load" else found["load"]
