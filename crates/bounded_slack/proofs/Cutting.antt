@@ -21,11 +21,11 @@ great-by : (x y : ℤ) (less : Bool) → int_lt x y ≡ less → (x ≤ℤ (if l
 great-by x y true e = (grind (arith, ints), grind (arith, ints))
 great-by x y false e = (grind (arith, ints), grind (arith, ints))
 
-greater_new : (o : Option ℤ) (y : ℤ) → y ≤ℤ greater o y
+pub greater_new : (o : Option ℤ) (y : ℤ) → y ≤ℤ greater o y
 greater_new None y = omega (arith, ints)
 greater_new (Some x) y = (great-by x y (int_lt x y) refl).1
 
-greater_old : (o : Option ℤ) (x y : ℤ) → o ≡ Some x → x ≤ℤ greater o y
+pub greater_old : (o : Option ℤ) (x y : ℤ) → o ≡ Some x → x ≤ℤ greater o y
 greater_old None x y e = absurd (none-some x e)
 greater_old (Some v) x y e = subst (λ z. z ≤ℤ greater (Some v) y) (same_Some v x e) (great-by v y (int_lt v y) refl).0
 
@@ -43,7 +43,7 @@ through_more net n x y s h le =
     record { before = h.before; room = h.room; is = h.is; least = omega (arith, ints) }
 
 -- two nodes by level and number
-same_or : (l n level node : ℕ) → ((l ≡ level) × (n ≡ node)) ⊎ ((l ≡ level) × (n ≡ node) → ⊥)
+pub same_or : (l n level node : ℕ) → ((l ≡ level) × (n ≡ node)) ⊎ ((l ≡ level) × (n ≡ node) → ⊥)
 same_or l n level node = elim (cases_eq l level) [
   | inl a ↦ elim (cases_eq n node) [ inl b ↦ inl (a, b) | inr b ↦ inr (λ h. b h.1) ]
   | inr a ↦ inr (λ h. a h.0)
@@ -51,7 +51,7 @@ same_or l n level node = elim (cases_eq l level) [
 
 module _ (net : Net) where
   -- a node that is raised
-  raised_held : (f g : Sums) (level node : ℕ) (sum : ℤ) → ((l n : ℕ) (x : ℤ) → f l n ≡ Some x → IsReached net l n x) → IsReached net level node sum
+  pub raised_held : (f g : Sums) (level node : ℕ) (sum : ℤ) → ((l n : ℕ) (x : ℤ) → f l n ≡ Some x → IsReached net l n x) → IsReached net level node sum
       → HasRaised f g level node sum → (l n : ℕ) (x : ℤ) → g l n ≡ Some x → IsReached net l n x
   raised_held f g level node sum held here r l n x e = elim (same_or l n level node) [
     | inl same ↦

@@ -4,3 +4,4 @@ pub mod Keys
 pub mod LowSlacks
 pub mod Prefixes
 pub mod TwoEnds
+pub mod Nearing

@@ -6,6 +6,7 @@
 mod either_ends;
 mod fans;
 mod firsts;
+mod nears;
 mod reached;
 mod rooms;
 mod searching;
@@ -13,5 +14,6 @@ mod steps;
 
 pub use either_ends::least_of_two;
 pub use fans::Fan;
+pub use nears::near_nodes;
 pub use rooms::least_room;
 pub use searching::least_slack;

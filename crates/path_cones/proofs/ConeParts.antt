@@ -7,7 +7,7 @@ use Rattle.std.specs.List.{list_any, filter_map, range_with_len}
 use Rattle.std.specs.List.Sorted.{IsNonDecreasingBy}
 use Rattle.std.proofs.lemmas.Bool.{cases_Bool, cases_lt, eqb-true, eq-eqb, false≢true, and_parts, and_from, lt-ltb}
 use Rattle.std.proofs.lemmas.Option.{none-some}
-use Rattle.std.proofs.lemmas.List.Elements.{All-contains}
+use Rattle.std.proofs.lemmas.List.Elements.{All-contains, All-weaker}
 use Rattle.std.proofs.lemmas.List.Folds.{list_any_at}
 use Rattle.std.proofs.lemmas.List.FromFn.{length-range_with_len}
 use Rattle.std.proofs.lemmas.Int.{ints}
@@ -36,12 +36,12 @@ use Rattle.pin_graph.proofs.LevelBound.{level_low}
 use Rattle.pin_graph.proofs.NodeLaws.{HasNode, node_told, has_node, same_node_at}
 use Rattle.pin_graph.proofs.GraphRows.{placed}
 use Rattle.path_cones.specs.declared.fans.FanIn.{FanIn}
-use Rattle.path_cones.specs.Reaching.{is_among, followed, AreReached, AreOnce, AreOrdered, depth_at}
+use Rattle.path_cones.specs.Reaching.{is_among, followed, AreClosed, AreConeNodes, AreOnce, AreOrdered, AreTheSame, depth_at}
 use Rattle.arc_delays.specs.declared.tables.ArcDelay.{ArcDelay}
 use Rattle.arc_delays.specs.Delays.{AreDelays, delay_numbered}
 use Rattle.path_cones.specs.Delays.{arc_numbered, signed, followed_delay, walk_arc, arcs_placed}
-use Rattle.path_cones.specs.FanIns.{AreParts, IsFromAbove, IsFanIn}
-use Rattle.path_cones.proofs.Growing.{from_low}
+use Rattle.path_cones.specs.FanIns.{AreParts, IsFromAbove, IsFanIn, IsFanPart, IsWhole}
+use Rattle.path_cones.proofs.Growing.{closed_again, from_low}
 use Rattle.path_cones.proofs.ConeLaws.{among_at, above_part, apart_part, delay_part}
 use Rattle.worst_walks.specs.declared.cones.WalkArc.{WalkArc}
 use Rattle.worst_walks.specs.Walks.{delay_in, AreApart}
@@ -181,7 +181,7 @@ module _ (g : Graphed) (num : IsNumbered g.stored) (linked : IsLinked g.stored.d
       ]
 
   module _ (table : List (List ArcDelay)) (found : AreDelays g.stored table) (kind : Kind) (fits : node_bound g.stored < 2 ^ 32) (ends nodes : List ℕ)
-      (reach : AreReached g ends nodes) (once : AreOnce nodes) (falls : IsNonDecreasingBy (depth_at g) nodes) where
+      (reach : AreConeNodes g ends nodes) (once : AreOnce nodes) (falls : IsNonDecreasingBy (depth_at g) nodes) where
     its_low : (b : ℕ) → b < length nodes → slice_index nodes b < node_bound g.stored
     its_low b low = reach.below (slice_index nodes b) (among_at nodes b low)
 
@@ -233,27 +233,8 @@ module _ (g : Graphed) (num : IsNumbered g.stored) (linked : IsLinked g.stored.d
             ∙ turn (list_any (λ (arc : GraphArc). nat_eq arc.from (slice_index nodes a)) (fan_at g.ins n)) (delay_numbered g.stored (data_split kind) (slice_index nodes a) n)
             ∙ ap (option_map (signed kind)) (sym (arc_is (data_split kind) (slice_index nodes a) n under))
 
-    -- each node from which an arc is followed is there
-    source_there : (x n : ℕ) (v : ℤ) → n < node_bound g.stored → is_among nodes n ≡ true → followed_delay g kind x n ≡ Some v → is_among nodes x ≡ true
-    source_there x n v low there e = by (network_at g n) refl e
-      where
-        by : (b : Bool) → network_at g n ≡ b → (if b then None else option_map (signed kind) (arc_numbered g.stored (data_split kind) x n)) ≡ Some v → is_among nodes x ≡ true
-        by true p f = absurd (none-some v f)
-        by false p f = elim (cases_Bool (list_any (λ (arc : GraphArc). nat_eq arc.from x) (fan_at g.ins n))) [
-          | inl some ↦
-              let r = any_back (λ (arc : GraphArc). nat_eq arc.from x) (fan_at g.ins n) some in
-              let same : fan_at g.ins n ≡ followed g n = sym (ap (λ b. if b then [] else fan_at g.ins n) p) in
-              subst (λ y. is_among nodes y ≡ true) (eqb-true r.item.from x r.passes)
-              (All-contains (λ (arc : GraphArc). is_among nodes arc.from ≡ true) (followed g n) r.item (reach.sources n there)
-              (subst (λ (xs : List GraphArc). Contains xs r.item) same r.within))
-          | inr none ↦
-              let gone : arc_numbered g.stored (data_split kind) x n ≡ None =
-              arc_is (data_split kind) x n low ∙ ap (λ b. if b then delay_numbered g.stored (data_split kind) x n else None) none in
-              absurd (none-some v (sym (ap (option_map (signed kind)) gone) ∙ f))
-        ]
-
     all_parts : (starts : List ℕ) (arcs : List WalkArc) → AreParts (length nodes) (arcs_placed g kind nodes) starts arcs
-        → IsFanIn g kind ends (record { nodes = nodes; starts = starts; arcs = arcs })
+        → IsFanPart g kind ends (record { nodes = nodes; starts = starts; arcs = arcs })
     all_parts starts arcs parts = record {
       few = reach.few;
       once = once;
@@ -267,23 +248,46 @@ module _ (g : Graphed) (num : IsNumbered g.stored) (linked : IsLinked g.stored.d
           (above_part g.stored kind nodes once n (followed g (slice_index nodes n)) (high_place n low) (its_bound (slice_index nodes n) (its_low n low)));
       apart = λ n low. subst AreApart (sym (parts.each n low)) (one_from (slice_index nodes n) (its_low n low));
       delays = λ a b la lb. ap (λ (ws : List WalkArc). delay_in ws a) (parts.each b lb) ∙ delay_is a (slice_index nodes b) la (its_low b lb);
-      closed = λ x b v lb e. source_there x (slice_index nodes b) v (its_low b lb) (among_at nodes b lb) e;
     }
+
+  -- where the nodes before arcs are all there, each node from which an arc with a delay leads is
+  source_there : (kind : Kind) (nodes : List ℕ) → AreClosed g nodes → (x n : ℕ) (v : ℤ) → n < node_bound g.stored → is_among nodes n ≡ true → followed_delay g kind x n ≡ Some v → is_among nodes x ≡ true
+  source_there kind nodes closed x n v low there e = by (network_at g n) refl e
+    where
+      by : (b : Bool) → network_at g n ≡ b → (if b then None else option_map (signed kind) (arc_numbered g.stored (data_split kind) x n)) ≡ Some v → is_among nodes x ≡ true
+      by true p f = absurd (none-some v f)
+      by false p f = elim (cases_Bool (list_any (λ (arc : GraphArc). nat_eq arc.from x) (fan_at g.ins n))) [
+        | inl some ↦
+            let r = any_back (λ (arc : GraphArc). nat_eq arc.from x) (fan_at g.ins n) some in
+            let same : fan_at g.ins n ≡ followed g n = sym (ap (λ b. if b then [] else fan_at g.ins n) p) in
+            subst (λ y. is_among nodes y ≡ true) (eqb-true r.item.from x r.passes)
+            (All-contains (λ (arc : GraphArc). is_among nodes arc.from ≡ true) (followed g n) r.item (closed n there)
+            (subst (λ (xs : List GraphArc). Contains xs r.item) same r.within))
+        | inr none ↦
+            let gone : arc_numbered g.stored (data_split kind) x n ≡ None =
+            arc_is (data_split kind) x n low ∙ ap (λ b. if b then delay_numbered g.stored (data_split kind) x n else None) none in
+            absurd (none-some v (sym (ap (option_map (signed kind)) gone) ∙ f))
+      ]
+
+  pub whole_told : (kind : Kind) (ends : List ℕ) (f : FanIn) → IsFanPart g kind ends f → AreClosed g f.nodes → IsWhole g kind f
+  whole_told kind ends f part closed x b v low e =
+      let among = among_at f.nodes b low in
+      source_there kind f.nodes closed x (slice_index f.nodes b) v (part.below (slice_index f.nodes b) among) among e
 
 -- as the code has it: the graph is that of a store
 pub cone_there : (g : Graphed) (s : Stored) (kind : Kind) (ends nodes starts : List ℕ) (arcs : List WalkArc) (f : FanIn) → g.stored ≡ s → IsNumbered s → IsLinked s.design
     → IsGraph g → (table : List (List ArcDelay)) → AreDelays s table → node_bound g.stored < 2 ^ 32 → AreOrdered g ends nodes
-    → AreParts (length nodes) (arcs_placed g kind nodes) starts arcs → f ≡ record { nodes = nodes; starts = starts; arcs = arcs } → IsFanIn g kind ends f
+    → AreParts (length nodes) (arcs_placed g kind nodes) starts arcs → f ≡ record { nodes = nodes; starts = starts; arcs = arcs } → IsFanPart g kind ends f
 cone_there g s kind ends nodes starts arcs f same num linked is table found fits order parts e =
-    subst (λ (x : FanIn). IsFanIn g kind ends x) (sym e)
+    subst (λ (x : FanIn). IsFanPart g kind ends x) (sym e)
     (all_parts g (subst (λ (x : Stored). IsNumbered x) (sym same) num) (subst (λ (x : Stored). IsLinked x.design) (sym same) linked) is
     table (subst (λ (x : Stored). AreDelays x table) (sym same) found)
-    kind fits ends nodes order.reached order.once order.falling starts arcs parts)
+    kind fits ends nodes order.some order.once order.falling starts arcs parts)
 
 -- the same of what may want memory
 pub cone_told : (g : Graphed) (s : Stored) (kind : Kind) (ends nodes starts : List ℕ) (arcs : List WalkArc) (r : Result FanIn Memory) → g.stored ≡ s → IsNumbered s → IsLinked s.design
     → IsGraph g → (table : List (List ArcDelay)) → AreDelays s table → node_bound g.stored < 2 ^ 32 → AreOrdered g ends nodes
-    → AreParts (length nodes) (arcs_placed g kind nodes) starts arcs → IfOk r (λ f. f ≡ record { nodes = nodes; starts = starts; arcs = arcs }) → IfOk r (IsFanIn g kind ends)
+    → AreParts (length nodes) (arcs_placed g kind nodes) starts arcs → IfOk r (λ f. f ≡ record { nodes = nodes; starts = starts; arcs = arcs }) → IfOk r (IsFanPart g kind ends)
 cone_told g s kind ends nodes starts arcs (Ok f) same num linked is table found fits order parts e =
     cone_there g s kind ends nodes starts arcs f same num linked is table found fits order parts e
 cone_told g s kind ends nodes starts arcs (Err wanting) same num linked is table found fits order parts e = tt
@@ -291,4 +295,27 @@ cone_told g s kind ends nodes starts arcs (Err wanting) same num linked is table
 -- each node of a cone is below the bound
 pub ordered_low : (g : Graphed) (ends nodes : List ℕ) → AreOrdered g ends nodes → All (λ n. n < node_bound g.stored) nodes
 ordered_low g ends nodes order = λ i d low.
-    order.reached.below (get_or nodes i d) (list_any_at (nat_eq (get_or nodes i d)) nodes i d low (eq-eqb (get_or nodes i d) (get_or nodes i d) refl))
+    order.some.below (get_or nodes i d) (list_any_at (nat_eq (get_or nodes i d)) nodes i d low (eq-eqb (get_or nodes i d) (get_or nodes i d) refl))
+
+-- the same nodes as those that were put in order
+pub same_told : (old nodes starts : List ℕ) (arcs : List WalkArc) (r : Result FanIn Memory) → AreTheSame old nodes → IfOk r (λ f. f ≡ record { nodes = nodes; starts = starts; arcs = arcs })
+    → IfOk r (λ f. AreTheSame old f.nodes)
+same_told old nodes starts arcs (Ok f) same e = λ n. ap (λ (x : FanIn). is_among x.nodes n) e ∙ same n
+same_told old nodes starts arcs (Err wanting) same e = tt
+
+-- a cone of all nodes that are reached is a fan-in
+pub fan_told : (g : Graphed) (s : Stored) (kind : Kind) (ends nodes : List ℕ) (r : Result FanIn Memory) → g.stored ≡ s → IsNumbered s → IsLinked s.design → IsGraph g → AreClosed g nodes
+    → IfOk r (IsFanPart g kind ends) → IfOk r (λ f. AreTheSame nodes f.nodes) → IfOk r (IsFanIn g kind ends)
+fan_told g s kind ends nodes (Ok f) same num linked is closed part nodes_same = record {
+  part = part;
+  closed =
+      whole_told g (subst (λ (x : Stored). IsNumbered x) (sym same) num) (subst (λ (x : Stored). IsLinked x.design) (sym same) linked) is kind ends f part
+      (closed_again g nodes f.nodes closed nodes_same);
+}
+fan_told g s kind ends nodes (Err wanting) same num linked is closed part nodes_same = tt
+
+-- nodes that are among some are among the same in another order
+pub among_again : (nodes further : List ℕ) (r : Result FanIn Memory) → All (λ n. is_among nodes n ≡ true) further → IfOk r (λ f. AreTheSame nodes f.nodes)
+    → IfOk r (λ f. All (λ n. is_among f.nodes n ≡ true) further)
+among_again nodes further (Ok f) among same = All-weaker (λ n. is_among nodes n ≡ true) (λ n. is_among f.nodes n ≡ true) (λ n there. same n ∙ there) further among
+among_again nodes further (Err wanting) among same = tt

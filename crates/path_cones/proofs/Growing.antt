@@ -15,7 +15,7 @@ use Rattle.pin_graph.specs.declared.arcs.GraphArc.{GraphArc}
 use Rattle.pin_graph.specs.Nodes.{node_at, node_bound, pin_under, tran_under}
 use Rattle.pin_graph.specs.Graphs.{Graphed, IsGraph, IsArc, from_of, fan_at, network_at}
 use Rattle.store_pins.proofs.PinLaws.{below_bound}
-use Rattle.path_cones.specs.Reaching.{is_among, AreAmong, followed, AreReached, AreOnce}
+use Rattle.path_cones.specs.Reaching.{is_among, AreAmong, followed, AreClosed, AreConeNodes, AreReached, AreOnce, AreTheSame}
 
 -- a list after some insertions begins as it was, and has no others than those inserted
 pub record IsGrown (P : ℕ → Type 0) (old new xs : List ℕ) : Type 0 where
@@ -169,26 +169,53 @@ get_past [] k e = omega arith
 get_past (x ∷ xs) zero e = absurd (none-some x (sym e))
 get_past (x ∷ xs) (suc k) e = let rest = get_past xs k e in omega arith
 
+-- each of some nodes is below the bound
+all_below : (g : Graphed) (nodes : List ℕ) → All (λ n. n < node_bound g.stored) nodes → (n : ℕ) → is_among nodes n ≡ true → n < node_bound g.stored
+all_below g nodes low n among = let p = place_of nodes n among in subst (λ m. m < node_bound g.stored) p.2 (low p.0 0 p.1)
+
 -- all nodes
 pub reaching_all : (g : Graphed) (ends nodes : List ℕ) (k : ℕ) → IsReaching g ends nodes k → slice_get nodes k ≡ None → k < 2 ^ 22 → AreReached g ends nodes
 reaching_all g ends nodes k h at few =
     let past : length nodes ≤ k = get_past nodes k at in
     record {
-      targets = h.targets;
+      some = record { targets = h.targets; below = all_below g nodes h.below; few = omega arith };
       sources = λ n among. (let p = place_of nodes n among in let low = p.1 in subst (λ m. AreAmong nodes (followed g m)) p.2 (h.sources p.0 (omega arith) low));
-      below = λ n among. (let p = place_of nodes n among in subst (λ m. m < node_bound g.stored) p.2 (h.below p.0 0 p.1));
-      few = omega arith;
     }
 
 -- the same nodes in another order
-pub reached_again : (g : Graphed) (ends old new : List ℕ) → AreReached g ends old → ((n : ℕ) → is_among new n ≡ is_among old n) → length new ≡ length old
-    → AreReached g ends new
-reached_again g ends old new h same long =
+pub some_again : (g : Graphed) (ends old new : List ℕ) → AreConeNodes g ends old → AreTheSame old new → length new ≡ length old → AreConeNodes g ends new
+some_again g ends old new h same long =
     let few = h.few in
     record {
       targets = All-weaker (λ x. is_among old x ≡ true) (λ x. is_among new x ≡ true) (λ n among. same n ∙ among) ends h.targets;
-      sources = λ n among. All-weaker (λ (a : GraphArc). is_among old a.from ≡ true) (λ a. is_among new a.from ≡ true) (λ a among_a. same a.from ∙ among_a)
-          (followed g n) (h.sources n (sym (same n) ∙ among));
       below = λ n among. h.below n (sym (same n) ∙ among);
       few = omega arith;
     }
+
+pub closed_again : (g : Graphed) (old new : List ℕ) → AreClosed g old → AreTheSame old new → AreClosed g new
+closed_again g old new closed same n among =
+    All-weaker (λ (a : GraphArc). is_among old a.from ≡ true) (λ a. is_among new a.from ≡ true) (λ a among_a. same a.from ∙ among_a) (followed g n)
+    (closed n (sym (same n) ∙ among))
+
+-- end nodes and further nodes
+module _ (g : Graphed) (ends nodes found all : List ℕ) (low : All (λ n. n < node_bound g.stored) ends) (under : All (λ n. n < node_bound g.stored) nodes) (e : found ≡ insert_all nat_eq [] ends)
+    (f : all ≡ insert_all nat_eq found nodes) where
+  grown_ends : IsGrown (λ n. n < node_bound g.stored) [] (insert_all nat_eq [] ends) ends
+  grown_ends = grown (λ n. n < node_bound g.stored) ends [] low
+
+  grown_all : IsGrown (λ n. n < node_bound g.stored) found (insert_all nat_eq found nodes) nodes
+  grown_all = grown (λ n. n < node_bound g.stored) nodes found under
+
+  pub further_among : All (λ n. is_among all n ≡ true) nodes
+  further_among = subst (λ ns. All (λ n. is_among ns n ≡ true) nodes) (sym f) grown_all.there
+
+  pub further_some : length all < 2 ^ 22 → AreConeNodes g ends all
+  further_some few = record {
+    targets =
+        All-weaker (λ x. is_among found x ≡ true) (λ x. is_among all x ≡ true) (among_weaker found all grown_all.more (f ∙ grown_all.is)) ends
+        (subst (λ ns. All (λ n. is_among ns n ≡ true) ends) (sym e) grown_ends.there);
+    below = all_below g all
+        (subst (All (λ n. n < node_bound g.stored)) (sym (f ∙ grown_all.is))
+        (All-append (λ n. n < node_bound g.stored) found grown_all.more (subst (All (λ n. n < node_bound g.stored)) (sym (e ∙ grown_ends.is)) grown_ends.kept) grown_all.kept));
+    few = few;
+  }

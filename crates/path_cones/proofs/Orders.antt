@@ -13,8 +13,8 @@ use Rattle.std.proofs.lemmas.Map.Keys.{IsDistinct-IsPermutation}
 use Rattle.indexmap.specs.IndexSet.{insert_key, insert_all}
 use Rattle.pin_graph.specs.Graphs.{Graphed}
 use Rattle.path_cones.specs.declared.leveling.Leveled.{Leveled}
-use Rattle.path_cones.specs.Reaching.{is_among, leveled_at, depth_at, depth_of, node_of, AreReached, AreOrdered}
-use Rattle.path_cones.proofs.Growing.{reached_again, apart_by}
+use Rattle.path_cones.specs.Reaching.{is_among, leveled_at, depth_at, depth_of, node_of, AreConeNodes, AreOrdered, AreTheSame}
+use Rattle.path_cones.proofs.Growing.{some_again, apart_by}
 
 -- a number that is among some differs from one that differs from each
 differs : (x y : ℕ) (xs : List ℕ) → AllByRecursion (λ z. nat_eq x z ≡ false) xs → is_among xs y ≡ true → nat_eq y x ≡ false
@@ -59,25 +59,32 @@ falling g sorted fit rise = λ i j d le low.
     rw (a, b) (omega (arith, x, y, r))
 
 -- the nodes of a set, sorted by their depths
-pub ordered_again : (g : Graphed) (ends nodes : List ℕ) (made sorted : List Leveled) (new : List ℕ) → AreReached g ends nodes → IsDistinct nat_eq nodes
-    → made ≡ map (leveled_at g) nodes → IsPermutation made sorted → IsNonDecreasingBy depth_of sorted → new ≡ insert_all nat_eq [] (map node_of sorted) → AreOrdered g ends new
-ordered_again g ends nodes made sorted new reach apart is same rise put =
-    let moved : IsPermutation nodes (map node_of sorted) =
-    subst (λ (xs : List ℕ). IsPermutation xs (map node_of sorted)) (ap (map node_of) is ∙ nodes_same g nodes) (IsPermutation-map node_of made sorted same) in
-    let distinct : IsDistinct nat_eq (map node_of sorted) = IsDistinct-IsPermutation nat_eq flips nodes (map node_of sorted) moved apart in
-    let kept : new ≡ map node_of sorted = put ∙ inserted (map node_of sorted) [] distinct (λ y e. refl) in
-    let fit = All-permutation (λ (l : Leveled). l.depth ≡ depth_at g l.node) made sorted same
-    (subst (λ (ls : List Leveled). All (λ (l : Leveled). l.depth ≡ depth_at g l.node) ls) (sym is) (depths_fit g nodes)) in
-    record {
-      reached = reached_again g ends nodes new reach
-          (λ n. ap (λ (xs : List ℕ). is_among xs n) kept ∙ sym (list_any-IsPermutation (nat_eq n) nodes (map node_of sorted) moved))
-          (ap length kept ∙ length_permutation nodes (map node_of sorted) moved);
-      once = apart_by new (subst (λ (xs : List ℕ). IsDistinct nat_eq xs) (sym kept) distinct);
-      falling = subst (λ (xs : List ℕ). IsNonDecreasingBy (depth_at g) xs) (sym kept) (falling g sorted fit rise);
-    }
-  where
-    flips : (x y : ℕ) → nat_eq x y ≡ nat_eq y x
-    flips x y = elim (cases_Bool (nat_eq x y)) [
-      | inl t ↦ t ∙ sym (eq-eqb y x (sym (eqb-true x y t)))
-      | inr f ↦ f ∙ sym (false_from_ne_true (nat_eq y x) (λ t. both_ways (nat_eq x y) f (eq-eqb x y (sym (eqb-true y x t)))))
-    ]
+module _ (g : Graphed) (ends nodes : List ℕ) (made sorted : List Leveled) (new : List ℕ) (reach : AreConeNodes g ends nodes) (apart : IsDistinct nat_eq nodes) (is : made ≡ map (leveled_at g) nodes)
+    (same : IsPermutation made sorted) (rise : IsNonDecreasingBy depth_of sorted) (put : new ≡ insert_all nat_eq [] (map node_of sorted)) where
+  flips : (x y : ℕ) → nat_eq x y ≡ nat_eq y x
+  flips x y = elim (cases_Bool (nat_eq x y)) [
+    | inl t ↦ t ∙ sym (eq-eqb y x (sym (eqb-true x y t)))
+    | inr f ↦ f ∙ sym (false_from_ne_true (nat_eq y x) (λ t. both_ways (nat_eq x y) f (eq-eqb x y (sym (eqb-true y x t)))))
+  ]
+
+  moved : IsPermutation nodes (map node_of sorted)
+  moved = subst (λ (xs : List ℕ). IsPermutation xs (map node_of sorted)) (ap (map node_of) is ∙ nodes_same g nodes) (IsPermutation-map node_of made sorted same)
+
+  distinct : IsDistinct nat_eq (map node_of sorted)
+  distinct = IsDistinct-IsPermutation nat_eq flips nodes (map node_of sorted) moved apart
+
+  kept : new ≡ map node_of sorted
+  kept = put ∙ inserted (map node_of sorted) [] distinct (λ y e. refl)
+
+  pub same_again : AreTheSame nodes new
+  same_again n = ap (λ (xs : List ℕ). is_among xs n) kept ∙ sym (list_any-IsPermutation (nat_eq n) nodes (map node_of sorted) moved)
+
+  pub ordered_again : AreOrdered g ends new
+  ordered_again =
+      let fit = All-permutation (λ (l : Leveled). l.depth ≡ depth_at g l.node) made sorted same
+      (subst (λ (ls : List Leveled). All (λ (l : Leveled). l.depth ≡ depth_at g l.node) ls) (sym is) (depths_fit g nodes)) in
+      record {
+        some = some_again g ends nodes new reach same_again (ap length kept ∙ length_permutation nodes (map node_of sorted) moved);
+        once = apart_by new (subst (λ (xs : List ℕ). IsDistinct nat_eq xs) (sym kept) distinct);
+        falling = subst (λ (xs : List ℕ). IsNonDecreasingBy (depth_at g) xs) (sym kept) (falling g sorted fit rise);
+      }

@@ -27,9 +27,9 @@ pub record AreParts {X : Type 0} (count : ℕ) (part : ℕ → List X) (starts :
 abbrev pub IsFromAbove : ℕ → ℕ → WalkArc → Type 0
 IsFromAbove count n arc = (n < arc.from) × (arc.from < count) × Within arc.delay
 
--- less than 2^22 nodes, each once, the end nodes among them; arcs from higher places to lower ones, at
--- most one between two nodes: those with the delays of the definition, whose sources are all there
-pub record IsFanIn (g : Graphed) (kind : Kind) (ends : List ℕ) (f : FanIn) : Type 0 where
+-- a part of a fan-in: less than 2^22 nodes, each once, the end nodes among them; arcs from higher places
+-- to lower ones, at most one between two nodes: those with the delays of the definition
+pub record IsFanPart (g : Graphed) (kind : Kind) (ends : List ℕ) (f : FanIn) : Type 0 where
   pub few : length f.nodes < 2 ^ 22
   pub once : AreOnce f.nodes
   pub below : (n : ℕ) → is_among f.nodes n ≡ true → n < node_bound g.stored
@@ -41,4 +41,12 @@ pub record IsFanIn (g : Graphed) (kind : Kind) (ends : List ℕ) (f : FanIn) : T
   pub apart : (n : ℕ) → n < length f.nodes → AreApart (part_at f.starts f.arcs n)
   pub delays : (a b : ℕ) → a < length f.nodes → b < length f.nodes
       → delay_in (part_at f.starts f.arcs b) a ≡ followed_delay g kind (slice_index f.nodes a) (slice_index f.nodes b)
-  pub closed : (x b : ℕ) (v : ℤ) → b < length f.nodes → followed_delay g kind x (slice_index f.nodes b) ≡ Some v → is_among f.nodes x ≡ true
+
+-- the nodes from which arcs with delays lead to nodes of a cone are all there
+abbrev pub IsWhole : Graphed → Kind → FanIn → Type 0
+IsWhole g kind f =
+    (x b : ℕ) (v : ℤ) → b < length f.nodes → followed_delay g kind x (slice_index f.nodes b) ≡ Some v → is_among f.nodes x ≡ true
+
+pub record IsFanIn (g : Graphed) (kind : Kind) (ends : List ℕ) (f : FanIn) : Type 0 where
+  pub part : IsFanPart g kind ends f
+  pub closed : IsWhole g kind f

@@ -19,12 +19,23 @@ AreAmong nodes arcs = All (λ arc. is_among nodes arc.from ≡ true) arcs
 abbrev pub followed : Graphed → ℕ → List GraphArc
 followed g n = (if network_at g n then [] else fan_at g.ins n)
 
--- less than 2^22 nodes: the end nodes, and with each node those from which arcs are followed into it
-pub record AreReached (g : Graphed) (ends nodes : List ℕ) : Type 0 where
+-- less than 2^22 nodes with the end nodes among them
+pub record AreConeNodes (g : Graphed) (ends nodes : List ℕ) : Type 0 where
   pub targets : All (λ e. is_among nodes e ≡ true) ends
-  pub sources : (n : ℕ) → is_among nodes n ≡ true → AreAmong nodes (followed g n)
   pub below : (n : ℕ) → is_among nodes n ≡ true → n < node_bound g.stored
   pub few : length nodes < 2 ^ 22
+
+-- with each node those from which arcs are followed into it
+abbrev pub AreClosed : Graphed → List ℕ → Type 0
+AreClosed g nodes = (n : ℕ) → is_among nodes n ≡ true → AreAmong nodes (followed g n)
+
+-- the same nodes, in this or another order
+abbrev pub AreTheSame : List ℕ → List ℕ → Type 0
+AreTheSame old new = (n : ℕ) → is_among new n ≡ is_among old n
+
+pub record AreReached (g : Graphed) (ends nodes : List ℕ) : Type 0 where
+  pub some : AreConeNodes g ends nodes
+  pub sources : AreClosed g nodes
 
 -- each node stands at one place
 abbrev pub AreOnce : List ℕ → Type 0
@@ -46,6 +57,6 @@ node_of l = l.node
 
 -- the nodes of a cone, each once, none after one of a lower level
 pub record AreOrdered (g : Graphed) (ends nodes : List ℕ) : Type 0 where
-  pub reached : AreReached g ends nodes
+  pub some : AreConeNodes g ends nodes
   pub once : AreOnce nodes
   pub falling : IsNonDecreasingBy (depth_at g) nodes

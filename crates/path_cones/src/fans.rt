@@ -1,14 +1,14 @@
 //! The fan-in cone of an endpoint.
 
-ghost use Rattle.std.specs.Prelude.{◌≡◌, ◌<◌, ◌^◌, All, IfOk};
+ghost use Rattle.std.specs.Prelude.{◌≡◌, ◌<◌, ◌^◌, true, All, IfOk};
 ghost use Rattle.arc_delays.specs.Delays.{AreDelays};
 ghost use Rattle.pin_graph.specs.Nodes.{node_bound};
-ghost use Rattle.path_cones.specs.FanIns.{IsFanIn};
-ghost use Rattle.path_cones.specs.Reaching.{AreOrdered};
+ghost use Rattle.path_cones.specs.FanIns.{IsFanIn, IsFanPart};
+ghost use Rattle.path_cones.specs.Reaching.{is_among, AreConeNodes, AreTheSame};
 
 use crate::leveling::by_level;
 use crate::listing::{Listed, Sources, list_arcs};
-use crate::reaching::reached;
+use crate::reaching::{ends_and, reached};
 use arc_delays::ArcDelays;
 use indexmap::IndexSet;
 use netlist_store::Store;
@@ -36,16 +36,7 @@ fn bounded(graph: &Graph)
     let _ = graph.count();
 }
 
-/// The nodes of a cone, those of higher levels first.
-fn ordered(alloc: Global, graph: &Graph, ends: &[u32]) -> Result<IndexSet<u32>, Memory>
-    requires { All (λ end. end < node_bound graph.now.stored) ends.now }
-    ensures { IfOk result (λ nodes. AreOrdered graph.now ends.now nodes.keys) }
-{
-    let nodes = reached(alloc, graph, ends)?;
-    by_level(alloc, graph, ends, &nodes)
-}
-
-/// Some nodes and the arcs into each.
+/// The nodes of a list and the arcs into each.
 fn joined(alloc: Global, nodes: &IndexSet<u32>, listed: Listed) -> Result<FanIn, Memory>
     ensures { IfOk result
         (λ f. f ≡ record { nodes = nodes.now.keys; starts = listed.starts; arcs = listed.arcs }) }
@@ -56,6 +47,29 @@ fn joined(alloc: Global, nodes: &IndexSet<u32>, listed: Listed) -> Result<FanIn,
         starts: listed.starts,
         arcs: listed.arcs,
     })
+}
+
+/// The cone of some nodes, the end nodes among them, and the arcs between them that walks follow.
+fn cone_of(
+    alloc: Global,
+    store: &Store,
+    sources: &Sources<'_>,
+    ends: &[u32],
+    nodes: &IndexSet<u32>,
+    kind: Kind,
+) -> Result<FanIn, Memory>
+    requires graph { sources.now.graph.now.stored ≡ store.now }
+    requires delays { AreDelays store.now sources.now.delays.now }
+    requires nodes { AreConeNodes sources.now.graph.now ends.now nodes.now.keys }
+    ensures part { IfOk result (IsFanPart sources.now.graph.now kind ends.now) }
+    ensures same { IfOk result (λ f. AreTheSame nodes.now.keys f.nodes) }
+{
+    store.laws();
+    sources.graph.laws();
+    bounded(sources.graph);
+    let ordered = by_level(alloc, sources.graph, ends, nodes)?;
+    let listed = list_arcs(alloc, sources, &ordered, kind)?;
+    joined(alloc, &ordered, listed)
 }
 
 /// The cone of some end nodes: each node from which a walk of arcs leads to one of them and whose nodes
@@ -77,9 +91,30 @@ pub fn fan_in(
 {
     store.laws();
     graph.laws();
-    bounded(graph);
     let sources = Sources { graph, delays };
-    let nodes = ordered(alloc, graph, ends)?;
-    let listed = list_arcs(alloc, &sources, &nodes, kind)?;
-    joined(alloc, &nodes, listed)
+    let nodes = reached(alloc, graph, ends)?;
+    cone_of(alloc, store, &sources, ends, &nodes, kind)
+}
+
+/// The part of a fan-in that has some end nodes and further nodes, and the arcs between these that walks
+/// follow. Takes the time of the arcs into these nodes and of sorting the nodes. Fails as `fan_in` does.
+pub fn fan_among(
+    alloc: Global,
+    store: &Store,
+    graph: &Graph,
+    delays: &ArcDelays,
+    ends: &[u32],
+    nodes: &[u32],
+    kind: Kind,
+) -> Result<FanIn, Memory>
+    requires graph { graph.now.stored ≡ store.now }
+    requires delays { AreDelays store.now delays.now }
+    requires ends { All (λ end. end < node_bound graph.now.stored) ends.now }
+    requires nodes { All (λ node. node < node_bound graph.now.stored) nodes.now }
+    ensures part { IfOk result (IsFanPart graph.now kind ends.now) }
+    ensures among { IfOk result (λ f. All (λ node. is_among f.nodes node ≡ true) nodes.now) }
+{
+    let sources = Sources { graph, delays };
+    let found = ends_and(alloc, graph, ends, nodes)?;
+    cone_of(alloc, store, &sources, ends, &found, kind)
 }

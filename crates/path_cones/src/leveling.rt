@@ -4,7 +4,7 @@ ghost use Rattle.std.specs.Prelude.{◌≡◌, ◌-◌, ◌^◌, [], map, nat_eq
 ghost use Rattle.std.specs.List.Sorted.{IsNonDecreasingBy, IsPermutation};
 ghost use Rattle.indexmap.specs.IndexSet.{insert_all};
 ghost use Rattle.pin_graph.specs.Graphs.{level_at};
-ghost use Rattle.path_cones.specs.Reaching.{depth_at, depth_of, leveled_at, node_of, AreReached, AreOrdered};
+ghost use Rattle.path_cones.specs.Reaching.{depth_at, depth_of, leveled_at, node_of, AreConeNodes, AreOrdered, AreTheSame};
 
 use crate::reaching::add_node;
 use indexmap::IndexSet;
@@ -76,8 +76,9 @@ pub(crate) fn by_level(
     ends: &[u32],
     nodes: &IndexSet<u32>,
 ) -> Result<IndexSet<u32>, Memory>
-    requires { AreReached graph.now ends.now nodes.now.keys }
-    ensures { IfOk result (λ ordered. AreOrdered graph.now ends.now ordered.keys) }
+    requires { AreConeNodes graph.now ends.now nodes.now.keys }
+    ensures ordered { IfOk result (λ ordered. AreOrdered graph.now ends.now ordered.keys) }
+    ensures same { IfOk result (λ ordered. AreTheSame nodes.now.keys ordered.keys) }
 {
     // The end nodes are asked for by the contract alone.
     let _ = ends;

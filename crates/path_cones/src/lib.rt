@@ -4,7 +4,7 @@
 //! The nodes are found backwards from the end nodes (`reaching`), and ordered so that arcs lead from
 //! higher places to lower ones (`leveling`). The arcs into each node are listed by these places
 //! (`listing`), each with its delay (`delays`). The arcs into one node can be asked for alone
-//! (`following`).
+//! (`following`). A part of a cone has some nodes alone (`fan_among`).
 #![tactic(auto)]
 
 mod delays;
@@ -14,5 +14,5 @@ mod leveling;
 mod listing;
 mod reaching;
 
-pub use fans::{FanIn, fan_in};
+pub use fans::{FanIn, fan_among, fan_in};
 pub use following::arcs_into;

@@ -1,10 +1,10 @@
 //! The nodes from which walks lead to some end nodes.
 
-ghost use Rattle.std.specs.Prelude.{◌≡◌, ◌<◌, nat_eq, All, map, [], IfOk, OnOk};
+ghost use Rattle.std.specs.Prelude.{◌≡◌, ◌<◌, true, nat_eq, All, map, [], IfOk, OnOk};
 ghost use Rattle.indexmap.specs.IndexSet.{insert_key, insert_all};
 ghost use Rattle.pin_graph.specs.Nodes.{node_bound};
 ghost use Rattle.pin_graph.specs.Graphs.{from_of, IsArc};
-ghost use Rattle.path_cones.specs.Reaching.{followed, AreReached};
+ghost use Rattle.path_cones.specs.Reaching.{followed, is_among, AreConeNodes, AreReached};
 
 use indexmap::IndexSet;
 use pin_graph::{Graph, GraphArc};
@@ -42,6 +42,39 @@ fn ends_found(alloc: Global, ends: &[u32]) -> Result<IndexSet<u32>, Memory>
     let mut found = IndexSet::with_capacity(alloc, ROOM)?;
     for end in ends {
         add_node(&mut found, *end)?;
+    }
+    Ok(found)
+}
+
+/// Adds these nodes, each where it is not there.
+fn add_nodes(found: &mut IndexSet<u32>, nodes: &[u32]) -> Result<(), Memory>
+    ensures { OnOk result (found.new.keys ≡ insert_all nat_eq found.old.keys nodes.now) }
+{
+    for node in nodes {
+        add_node(found, *node)?;
+    }
+    Ok(())
+}
+
+/// Some end nodes and further nodes, each once. Fails for want of memory, and where there are `2^22` nodes
+/// or more.
+pub(crate) fn ends_and(
+    alloc: Global,
+    graph: &Graph,
+    ends: &[u32],
+    nodes: &[u32],
+) -> Result<IndexSet<u32>, Memory>
+    requires ends { All (λ end. end < node_bound graph.now.stored) ends.now }
+    requires nodes { All (λ node. node < node_bound graph.now.stored) nodes.now }
+    ensures some { IfOk result (λ found. AreConeNodes graph.now ends.now found.keys) }
+    ensures among { IfOk result (λ found. All (λ n. is_among found.keys n ≡ true) nodes.now) }
+{
+    // The graph is asked for by the contract alone.
+    let _ = graph;
+    let mut found = ends_found(alloc, ends)?;
+    add_nodes(&mut found, nodes)?;
+    if found.len() >= 1 << 22 {
+        return Err(Memory);
     }
     Ok(found)
 }

@@ -111,8 +111,8 @@ fn ranked_in<A: Rows + Delayed>(
 
 /// The worst paths to an endpoint for a kind of tests, at most `k`, worst first: ordered by slack (the least over a path's tests)
 /// and then by their nodes, each with its slack, credit, edges and times in fs; fewer than `k` exactly where fewer paths
-/// are tested. Takes the time of the endpoint's fan-in once, as `worst_path` does, and for each path given its length and
-/// the arcs beside it. The one error is want of memory.
+/// are tested. Takes the time of the endpoint's fan-in once, and for each path given its length and the arcs beside it. The
+/// one error is want of memory.
 pub fn k_worst<A: Rows + Delayed>(
     alloc: Global,
     store: &Store,

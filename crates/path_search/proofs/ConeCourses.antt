@@ -22,20 +22,13 @@ use Rattle.worst_walks.specs.declared.cones.Cone.{Cone}
 use Rattle.worst_walks.specs.declared.cones.Walk.{Walk}
 use Rattle.worst_walks.specs.Walks.{count_of, delay_between, walk_sum, whole_list, ranks_along, IsWalk, IsWorst}
 use Rattle.worst_walks.proofs.Offers.{walked, joined, end_within}
-use Rattle.path_search.specs.Launches.{IsLaunched, IsCourse, IsLaunchSlack, begin_names, edge_of_launch, launch_slacks, signed}
+use Rattle.path_search.specs.Launches.{IsLaunched, IsCourse, begin_names, edge_of_launch, launch_slacks, signed}
 use Rattle.path_search.specs.Offers.{IsOffer}
 use Rattle.path_search.proofs.PathParts.{map_append}
 use Rattle.timing_defs.proofs.Members.{first_in, none_in, in_map, in_map_back}
 use Rattle.path_search.proofs.RankLaws.{Each, each_more, each_append, lists_agree}
 use Rattle.path_search.proofs.Shifts.{less, slacks_shift}
-use Rattle.path_search.proofs.ConeTails.{AreNodes, IsPlace, tail_of, walk_of}
-
--- the least slack of all walks; None: there is no walk
-abbrev pub IsLeastSlack : Cone → Option ℤ → Type 0
-IsLeastSlack cone None = (walk : Walk) → IsWalk cone walk → ⊥
-IsLeastSlack cone (Some s) =
-    ((walk : Walk) × (IsWalk cone walk × (walk.slack ≡ s)))
-    × ((walk : Walk) → IsWalk cone walk → s ≤ℤ walk.slack)
+use Rattle.path_search.proofs.ConeTails.{AreBack, AreSteps, IsPlace, IsPlacedTail, tail_of, walk_of}
 
 -- a launch of paths to an end node, at a place of the cone
 pub record IsLaunchPlace (d : Design) (kind : Kind) (cone : Cone) (Near : ℕ → Type 0) (name : ℕ → Named) (end : Named) (launch : Launch) : Type 0 where
@@ -65,9 +58,9 @@ pub record IsEndAt (cone : Cone) (name : ℕ → Named) (n : Named) : Type 0 whe
   pub there : slice_get cone.ends at ≡ Some end
   pub its : name end.node ≡ n
 
--- a cone of the paths to a pin
+-- a cone of paths to a pin
 pub record IsPinCone (d : Design) (kind : Kind) (pin : List ℕ) (cone : Cone) (Near : ℕ → Type 0) (name : ℕ → Named) : Type 0 where
-  pub nodes : AreNodes d kind cone Near name
+  pub nodes : AreSteps d kind cone Near name
   pub ends : (k : ℕ) (end : WalkEnd) → slice_get cone.ends k ≡ Some end → IsPinEnd d kind pin cone Near name end
   pub each : (n : Named) → bytes_eq n.0 pin ≡ true → IsEndAt cone name n
 
@@ -201,11 +194,10 @@ module _ (d : Design) (kind : Kind) (pin : List ℕ) (cone : Cone) (Near : ℕ �
 
   module _ (edge : ℕ × Tran) (launch : Named) (time : ℤ) (post : List Named) (rest : ℤ) (c : IsCourse d kind pin edge launch time post rest)
       (test : Test) (t : ℤ) (within : Contains (launch_slacks d kind launch edge (time +ℤ rest) (last_of launch post)) (test, t)) where
-    pub walk_of_course : IsCourseWalk cone Near name launch post t
-    walk_of_course =
-        let to = is.each (last_of launch post) c.ends in
+    -- a course whose tail is in the cone is a walk of it
+    pub walk_of_tail : (to : IsEndAt cone name (last_of launch post)) → IsPlacedTail kind cone Near name to.end.node launch post rest → IsCourseWalk cone Near name launch post t
+    walk_of_tail to p =
         let its = is.ends to.at to.end to.there in
-        let p = walk_of d kind cone Near name is.nodes to.end.node its.low its.near launch post rest (sym to.its) c.tail in
         let u = unshifted d kind launch edge time rest (last_of launch post) test t within in
         let launched : IsLaunched d (data_split kind) edge (name p.place) time = subst (λ (n : Named). IsLaunched d (data_split kind) edge n time) (sym p.its) c.launched in
         let inside : Contains (launch_slacks d kind (name p.place) edge time (name to.end.node)) (test, u.first) =
@@ -239,31 +231,12 @@ module _ (d : Design) (kind : Kind) (pin : List ℕ) (cone : Cone) (Near : ℕ �
           known = p.known;
         }
 
-  -- the least slack of the walks is that of the courses
-  pub slack_told : (o : Option ℤ) → IsLeastSlack cone o → IsLaunchSlack d kind pin o
-  slack_told None none = λ edge launch time post rest c.
-      no_items (launch_slacks d kind launch edge (time +ℤ rest) (last_of launch post)) (λ slack within.
-      let v = walk_of_course edge launch time post rest c slack.0 slack.1 within in none v.walk v.is)
-  slack_told (Some s) (some, least) =
-      let v = course_of some.0 some.1.0 in
-      let same = some.1.1 in (
-        record {
-          edge = v.place.offer.edge;
-          launch = name v.launch.node;
-          time = v.place.offer.time;
-          post = map name v.more;
-          rest = v.rest;
-          course = v.course;
-          test = v.place.offer.test;
-          slack_in =
-              subst
-              (λ (x : ℤ). Contains (launch_slacks d kind (name v.launch.node) v.place.offer.edge (v.place.offer.time +ℤ v.rest) (last_of (name v.launch.node) (map name v.more))) (v.place.offer.test, x))
-              same v.slack_in;
-        },
-        λ edge launch time post rest c test t within.
-            (let u = walk_of_course edge launch time post rest c test t within in
-            lowest s u.walk.slack t (least u.walk u.is) u.low),
-      )
+    -- all courses are walks of a whole cone
+    pub walk_of_course : AreBack d kind cone Near name → IsCourseWalk cone Near name launch post t
+    walk_of_course whole =
+        let to = is.each (last_of launch post) c.ends in
+        let its = is.ends to.at to.end to.there in
+        walk_of_tail to (walk_of d kind cone Near name whole to.end.node its.low its.near launch post rest (sym to.its) c.tail)
 
 -- how the ranks of a cone's numbers are those of the names
 pub record IsNaming (d : Design) (split : Split) (cone : Cone) (Near Known : ℕ → Type 0) (name : ℕ → Named) (rank : ℕ → ℕ) (before : ℕ → List ℕ) : Type 0 where
@@ -295,15 +268,13 @@ module _ (d : Design) (split : Split) (cone : Cone) (Near Known : ℕ → Type 0
       lists_agree nat_cmp named_cmp rank name Known is.compared (whole_list before (n ∷ ns)) (whole_list before (m ∷ ms)) (whole_known n ns p a) (whole_known m ms q b)
       ∙ (λ k. nodes_cmp (first k) (second k))
 
--- no course of the slack of the worst walk comes before it
+-- the walk of a course of the slack of the worst walk doesn't come before it
 module _ (d : Design) (kind : Kind) (pin : List ℕ) (cone : Cone) (Near Known : ℕ → Type 0) (name : ℕ → Named) (rank : ℕ → ℕ) (before : ℕ → List ℕ)
-    (is : IsNaming d (data_split kind) cone Near Known name rank before) (pins : IsPinCone d kind pin cone Near name) where
+    (is : IsNaming d (data_split kind) cone Near Known name rank before) where
   pub first_told : (worst : Walk) (w : IsWorst rank before cone (Some worst)) (v : IsWalkCourse d kind pin cone Near name worst)
-      → (edge : ℕ × Tran) (launch : Named) (time : ℤ) (post : List Named) (rest : ℤ) → IsCourse d kind pin edge launch time post rest
-      → (test : Test) → Contains (launch_slacks d kind launch edge (time +ℤ rest) (last_of launch post)) (test, worst.slack)
+      → (edge : ℕ × Tran) (launch : Named) (time : ℤ) → IsLaunched d (data_split kind) edge launch time → (post : List Named) → IsCourseWalk cone Near name launch post worst.slack
       → is_gt (nodes_cmp (begin_names d (name v.launch.node) ++ map name v.more) (begin_names d launch ++ post)) ≡ false
-  first_told worst w v edge launch time post rest c test within =
-      let u = walk_of_course d kind pin cone Near name pins edge launch time post rest c test worst.slack within in
+  first_told worst w v edge launch time launched post u =
       let most = w.1 u.walk u.is in
       let tie : u.walk.slack ≡ worst.slack = between u.walk.slack worst.slack u.low most.0 in
       let after = most.1 tie in
@@ -314,6 +285,6 @@ module _ (d : Design) (kind : Kind) (pin : List ℕ) (cone : Cone) (Near Known :
       λ k. slice_cmp nat_cmp (map rank (whole_list before (here k))) (map rank (whole_list before (there k))) in
       let its = u.its in
       let names = u.names in
-      sym (ap is_gt (lists ∙ walks_agree d (data_split kind) cone Near Known name rank before is v.launch.node u.place v.more u.more (v.place.low, v.place.near) u.near v.known u.known v.place.offer.edge v.place.offer.time v.place.offer.launched edge time (subst (λ (n : Named). IsLaunched d (data_split kind) edge n time) (sym its) c.launched)
+      sym (ap is_gt (lists ∙ walks_agree d (data_split kind) cone Near Known name rank before is v.launch.node u.place v.more u.more (v.place.low, v.place.near) u.near v.known u.known v.place.offer.edge v.place.offer.time v.place.offer.launched edge time (subst (λ (n : Named). IsLaunched d (data_split kind) edge n time) (sym its) launched)
       ∙ (λ k. nodes_cmp (begin_names d (name v.launch.node) ++ map name v.more) (begin_names d (its k) ++ names k))))
       ∙ after

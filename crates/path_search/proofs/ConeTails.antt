@@ -34,9 +34,12 @@ pub record IsBack (kind : Kind) (cone : Cone) (Near : ℕ → Type 0) (name : �
   pub its : name place ≡ n
   pub arc : delay_between cone place b ≡ Some (signed kind delay)
 
--- the places of a cone have names, those near are of nodes of the design, and its arcs are those outside the clock network
-pub record AreNodes (d : Design) (kind : Kind) (cone : Cone) (Near : ℕ → Type 0) (name : ℕ → Named) : Type 0 where
+-- the places of a cone have names, those near are of nodes of the design, and its arcs are some of those outside the clock network
+pub record AreSteps (d : Design) (kind : Kind) (cone : Cone) (Near : ℕ → Type 0) (name : ℕ → Named) : Type 0 where
   pub forth : (a b : ℕ) (value : ℤ) → b < count_of cone → delay_between cone a b ≡ Some value → (a < count_of cone) × Near a × Near b × IsStep d kind (name a) (name b) value
+
+-- all of them
+pub record AreBack (d : Design) (kind : Kind) (cone : Cone) (Near : ℕ → Type 0) (name : ℕ → Named) : Type 0 where
   pub back : (b : ℕ) → b < count_of cone → Near b → is_network_named d (name b) ≡ false → (n : Named) (delay : ℤ) → named_delay d (data_split kind) n (name b) ≡ Some delay
       → IsBack kind cone Near name n b delay
 
@@ -85,7 +88,7 @@ stays n e sum f = elim (cases_Bool (n == e)) [
   | inr t ↦ let g : None ≡ Some sum = sym (ap (λ (b : Bool). if b then Some (pos 0) else None) t) ∙ f in absurd (cc)
 ]
 
-module _ (d : Design) (kind : Kind) (cone : Cone) (Near : ℕ → Type 0) (name : ℕ → Named) (nodes : AreNodes d kind cone Near name) (e : ℕ) (inside : e < count_of cone) where
+module _ (d : Design) (kind : Kind) (cone : Cone) (Near : ℕ → Type 0) (name : ℕ → Named) (steps : AreSteps d kind cone Near name) (e : ℕ) (inside : e < count_of cone) where
   pub tail_of : (n : ℕ) (ms : List ℕ) (sum : ℤ) → walk_sum ◌==◌ (delay_between cone) e n ms ≡ Some sum → IsNamedTail d kind cone Near name e n ms sum
   tail_of n [] sum f =
       let here = stays n e sum f in
@@ -101,7 +104,7 @@ module _ (d : Design) (kind : Kind) (cone : Cone) (Near : ℕ → Type 0) (name 
   tail_of n (m ∷ ms) sum f =
       let z = sum_back (delay_between cone n m) (walk_sum ◌==◌ (delay_between cone) e m ms) sum f in
       let r = tail_of m ms z.right z.right_is in
-      let step = nodes.forth n m z.left r.low z.left_is in
+      let step = steps.forth n m z.left r.low z.left_is in
       let takes = step.3.takes in
       let walks = r.tail.walks in
       record {
@@ -116,6 +119,22 @@ module _ (d : Design) (kind : Kind) (cone : Cone) (Near : ℕ → Type 0) (name 
         low = step.0;
       }
 
+  -- the times along a walk are those along its tail
+  pub times_told : (n : ℕ) (ms : List ℕ) (sum : ℤ) → walk_sum ◌==◌ (delay_between cone) e n ms ≡ Some sum → (time : ℤ)
+      → time ∷ times_after kind cone time n ms ≡ times_along d (data_split kind) time (name n) (map name ms)
+  times_told n [] sum f time = refl
+  times_told n (m ∷ ms) sum f time =
+      let z = sum_back (delay_between cone n m) (walk_sum ◌==◌ (delay_between cone) e m ms) sum f in
+      let r = tail_of m ms z.right z.right_is in
+      let step = steps.forth n m z.left r.low z.left_is in
+      let next : time_next kind cone time n m ≡ time +ℤ unwrap_or (named_delay d (data_split kind) (name n) (name m)) (pos 0) =
+      ap (λ (o : Option ℤ). time +ℤ signed kind (unwrap_or o (pos 0))) z.left_is
+      ∙ ap (λ (v : ℤ). time +ℤ v) (ap (signed kind) (sym step.3.sign) ∙ signed_twice kind step.3.delay)
+      ∙ ap (λ (o : Option ℤ). time +ℤ unwrap_or o (pos 0)) (sym step.3.takes) in
+      ap (λ (xs : List ℤ). time ∷ xs) (times_told m ms z.right z.right_is (time_next kind cone time n m))
+      ∙ ap (λ (v : ℤ). time ∷ times_along d (data_split kind) v (name m) (map name ms)) next
+
+module _ (d : Design) (kind : Kind) (cone : Cone) (Near : ℕ → Type 0) (name : ℕ → Named) (whole : AreBack d kind cone Near name) (e : ℕ) (inside : e < count_of cone) where
   pub walk_of : Near e → (n : Named) (post : List Named) (rest : ℤ) → last_of n post ≡ name e → IsTail d (data_split kind) n post rest → IsPlacedTail kind cone Near name e n post rest
   walk_of near n [] rest last tail =
       let zero_is : pos 0 ≡ rest = some_is tail.walks in
@@ -133,7 +152,7 @@ module _ (d : Design) (kind : Kind) (cone : Cone) (Near : ℕ → Type 0) (name 
       let out = or_parts (is_network_named d m) (list_any (is_network_named d) ms) tail.outside in
       let z = sum_back (named_delay d (data_split kind) n m) (walk_delay d (data_split kind) m ms) rest tail.walks in
       let r = walk_of near m ms z.right last (record { outside = out.1; walks = z.right_is }) in
-      let b = nodes.back r.place r.low r.near (ap (is_network_named d) r.its ∙ out.0) n z.left (ap (named_delay d (data_split kind) n) r.its ∙ z.left_is) in
+      let b = whole.back r.place r.low r.near (ap (is_network_named d) r.its ∙ out.0) n z.left (ap (named_delay d (data_split kind) n) r.its ∙ z.left_is) in
       let its = r.its in
       let names = r.names in
       let arc = b.arc in
@@ -148,18 +167,3 @@ module _ (d : Design) (kind : Kind) (cone : Cone) (Near : ℕ → Type 0) (name 
         known = ((r.low, r.near), r.known);
         adds = (λ k. plus_some (arc k) (adds k)) ∙ ap Some (sym (signed_plus kind z.left z.right) ∙ ap (signed kind) z.both);
       }
-
-  -- the times along a walk are those along its tail
-  pub times_told : (n : ℕ) (ms : List ℕ) (sum : ℤ) → walk_sum ◌==◌ (delay_between cone) e n ms ≡ Some sum → (time : ℤ)
-      → time ∷ times_after kind cone time n ms ≡ times_along d (data_split kind) time (name n) (map name ms)
-  times_told n [] sum f time = refl
-  times_told n (m ∷ ms) sum f time =
-      let z = sum_back (delay_between cone n m) (walk_sum ◌==◌ (delay_between cone) e m ms) sum f in
-      let r = tail_of m ms z.right z.right_is in
-      let step = nodes.forth n m z.left r.low z.left_is in
-      let next : time_next kind cone time n m ≡ time +ℤ unwrap_or (named_delay d (data_split kind) (name n) (name m)) (pos 0) =
-      ap (λ (o : Option ℤ). time +ℤ signed kind (unwrap_or o (pos 0))) z.left_is
-      ∙ ap (λ (v : ℤ). time +ℤ v) (ap (signed kind) (sym step.3.sign) ∙ signed_twice kind step.3.delay)
-      ∙ ap (λ (o : Option ℤ). time +ℤ unwrap_or o (pos 0)) (sym step.3.takes) in
-      ap (λ (xs : List ℤ). time ∷ xs) (times_told m ms z.right z.right_is (time_next kind cone time n m))
-      ∙ ap (λ (v : ℤ). time ∷ times_along d (data_split kind) v (name m) (map name ms)) next

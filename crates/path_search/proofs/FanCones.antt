@@ -1,11 +1,10 @@
--- The fan-in cone of a pin's nodes with their launches is a cone of the paths to the pin.
+-- A part of the fan-in of a pin's nodes with their launches is a cone of paths to the pin.
 
 use Rattle.std.proofs.Common.{◌≡◌, ℕ, zero, suc, ◌+◌, ◌<◌, ℤ, Bool, true, false, List, [], ◌∷◌, ◌++◌, map, length, get_or, Option, Some, None, refl, sym, ap, subst, ◌∙◌, inl, inr, arith}
 use Rattle.std.specs.Prelude.{All, Contains, ◌==◌, ◌||◌, if◌then◌else◌, slice_get, slice_index, option_map, option_and_then}
 use Rattle.std.specs.List.{list_any}
 use Rattle.std.specs.Option.{option_map_or}
 use Rattle.std.specs.Str.{bytes_eq}
-use Rattle.std.specs.Ordering.{is_gt}
 use Rattle.std.proofs.lemmas.Bool.{cases_Bool, or_cases, eqb-true, false≢true}
 use Rattle.std.proofs.lemmas.Int.{ints}
 use Rattle.std.proofs.lemmas.List.Elements.{All-head, All-tail, All-cons, All-nil, Contains-get_or}
@@ -19,9 +18,8 @@ use Rattle.timing_defs.specs.declared.design.Design.{Design}
 use Rattle.timing_defs.specs.Netlist.{Node, pins, same_node}
 use Rattle.timing_rules.specs.Clocking.{is_network}
 use Rattle.timing_rules.specs.Rows.{arcs_in, delay}
-use Rattle.timing_rules.specs.Tests.{Test}
 use Rattle.timing_defs.specs.Kinds.{data_split}
-use Rattle.timing_rules.specs.Paths.{Named, named, is_network_named, arc_delay, node_named, delay_between as named_delay, ends_at, nodes_cmp, path_slacks, IsSlack}
+use Rattle.timing_rules.specs.Paths.{Named, named, is_network_named, arc_delay, node_named, delay_between as named_delay}
 use Rattle.netlist_store.specs.Linked.{IsLinked}
 use Rattle.netlist_store.specs.Numbering.{Stored, IsNumbered}
 use Rattle.pin_graph.specs.Nodes.{node_at, node_bound, node_number, pin_under}
@@ -37,10 +35,10 @@ use Rattle.worst_walks.specs.declared.cones.Launch.{Launch}
 use Rattle.worst_walks.specs.declared.cones.WalkEnd.{WalkEnd}
 use Rattle.worst_walks.specs.declared.cones.Cone.{Cone}
 use Rattle.worst_walks.specs.declared.cones.Walk.{Walk}
-use Rattle.worst_walks.specs.Walks.{arcs_into, delay_in, delay_between, is_first, is_launched, listed_into, IsCone, IsEnd, IsLaunch, IsOrdered, IsWalk, IsWorst}
+use Rattle.worst_walks.specs.Walks.{arcs_into, delay_in, delay_between, is_first, is_launched, listed_into, IsCone, IsEnd, IsLaunch, IsOrdered, IsWalk}
 use Rattle.path_cones.specs.declared.fans.FanIn.{FanIn}
 use Rattle.path_cones.specs.Delays.{arc_numbered, followed_delay, signed as turned}
-use Rattle.path_cones.specs.FanIns.{IsFanIn, IsFromAbove, part_at}
+use Rattle.path_cones.specs.FanIns.{IsFanPart, IsFromAbove, IsWhole, part_at}
 use Rattle.path_cones.proofs.Growing.{place_of}
 use Rattle.path_search.specs.Launches.{IsLaunched, begin_names, launch_slacks, signed}
 use Rattle.path_search.specs.Offers.{IsOffer, AreOffers}
@@ -51,9 +49,8 @@ use Rattle.path_search.proofs.NodeNames.{named_back, name_told as node_of_name, 
 use Rattle.path_search.proofs.NumberNames.{name_here, node_of_place, node_of_more, IsNodeNumber, named_agree, rank_once}
 use Rattle.path_search.proofs.ClimbNames.{launch_alone, launch_names, climb_known}
 use Rattle.path_search.proofs.RankLaws.{Each}
-use Rattle.path_search.proofs.ConeTails.{IsStep, IsBack}
-use Rattle.path_search.proofs.ConeCourses.{IsPinEnd, IsEndAt, IsPinCone, IsWalkCourse, IsNaming, IsLeastSlack, course_of, slack_told as course_slack, first_told}
-use Rattle.path_search.proofs.Endings.{slack_over, shown_over}
+use Rattle.path_search.proofs.ConeTails.{AreBack, IsStep, IsBack}
+use Rattle.path_search.proofs.ConeCourses.{IsPinEnd, IsEndAt, IsPinCone, IsWalkCourse, IsNaming, course_of}
 use Rattle.path_cones.proofs.ConeLaws.{among_at}
 
 pub turned_same : (kind : Kind) (x : ℤ) → turned kind x ≡ signed kind x
@@ -131,7 +128,7 @@ module _ (g : Graphed) (num : IsNumbered g.stored) (linked : IsLinked g.stored.d
         ∙ ap (option_map (turned kind)) (nothing_enters g.stored.design (data_split kind) node none (node_at g.stored x))
   ]
 
-  module _ (kind : Kind) (ends : List ℕ) (f : FanIn) (h : IsFanIn g kind ends f) (pin : List ℕ) (rise fall : WalkEnd) (m : IsMade g.stored kind pin f rise fall) where
+  module _ (kind : Kind) (ends : List ℕ) (f : FanIn) (h : IsFanPart g kind ends f) (pin : List ℕ) (rise fall : WalkEnd) (m : IsMade g.stored kind pin f rise fall) where
     -- the names of places and of the numbers after them
     abbrev pub name_in : ℕ → Named
     name_in n = name_told g.stored (node_of f.nodes n)
@@ -142,7 +139,7 @@ module _ (g : Graphed) (num : IsNumbered g.stored) (linked : IsLinked g.stored.d
     near_at : (n : ℕ) → n < length f.nodes → (node : Node) → node_at g.stored (slice_index f.nodes n) ≡ Some node → Near_in n
     near_at n low node e = record { node = node; its = ap (node_at g.stored) (node_of_place f.nodes n low) ∙ e }
 
-    its_node : (n : ℕ) → n < length f.nodes → (near : Near_in n) → node_at g.stored (slice_index f.nodes n) ≡ Some near.node
+    pub its_node : (n : ℕ) → n < length f.nodes → (near : Near_in n) → node_at g.stored (slice_index f.nodes n) ≡ Some near.node
     its_node n low near = ap (node_at g.stored) (sym (node_of_place f.nodes n low)) ∙ near.its
 
     name_at_place : (n : ℕ) → n < length f.nodes → (node : Node) → node_at g.stored (slice_index f.nodes n) ≡ Some node → name_in n ≡ named node
@@ -166,7 +163,7 @@ module _ (g : Graphed) (num : IsNumbered g.stored) (linked : IsLinked g.stored.d
             launch_entered kind (data_split kind) o.offer.edge o.offer.time (slice_index f.nodes l.0.node) o.node o.its o.offer.launched x in
             subst (λ n. followed_delay g kind x (slice_index f.nodes n) ≡ None) l.2 none
 
-    delay_told : (a b : ℕ) → a < length f.nodes → b < length f.nodes
+    pub delay_told : (a b : ℕ) → a < length f.nodes → b < length f.nodes
         → delay_between (cone_of f rise fall) a b ≡ followed_delay g kind (slice_index f.nodes a) (slice_index f.nodes b)
     unfolding arcs_into
     delay_told a b low high = elim (cases_Bool (is_first (cone_of f rise fall) b)) [
@@ -214,9 +211,9 @@ module _ (g : Graphed) (num : IsNumbered g.stored) (linked : IsLinked g.stored.d
           },
         )
 
-    steps_back : (b : ℕ) → b < length f.nodes → Near_in b → is_network_named g.stored.design (name_in b) ≡ false → (n : Named) (time : ℤ)
+    steps_back : IsWhole g kind f → (b : ℕ) → b < length f.nodes → Near_in b → is_network_named g.stored.design (name_in b) ≡ false → (n : Named) (time : ℤ)
         → named_delay g.stored.design (data_split kind) n (name_in b) ≡ Some time → IsBack kind (cone_of f rise fall) Near_in name_in n b time
-    steps_back b high near out n time e =
+    steps_back closed b high near out n time e =
         let y = its_node b high near in
         let two = name_at_place b high near.node y in
         let j = joined_back g.stored.design t (data_split kind) n (name_in b) time e in
@@ -237,7 +234,7 @@ module _ (g : Graphed) (num : IsNumbered g.stored) (linked : IsLinked g.stored.d
         ∙ ap (λ o. option_map (turned kind) (option_and_then (arc_delay g.stored.design (data_split kind) j.from) o)) y
         ∙ ap (option_map (turned kind)) arc
         ∙ ap Some (turned_same kind time) in
-        let q = place_of f.nodes k (h.closed k b (signed kind time) high follows) in
+        let q = place_of f.nodes k (closed k b (signed kind time) high follows) in
         let there : node_at g.stored (slice_index f.nodes q.0) ≡ Some j.from = ap (node_at g.stored) q.2 ∙ x in
         record {
           place = q.0;
@@ -246,6 +243,10 @@ module _ (g : Graphed) (num : IsNumbered g.stored) (linked : IsLinked g.stored.d
           its = name_at_place q.0 q.1 j.from there ∙ name;
           arc = delay_told q.0 b q.1 high ∙ ap (λ i. followed_delay g kind i (slice_index f.nodes b)) q.2 ∙ follows;
         }
+
+    -- the arcs of a whole fan-in are all those outside the clock network
+    pub all_back : IsWhole g kind f → AreBack g.stored.design kind (cone_of f rise fall) Near_in name_in
+    all_back closed = record { back = steps_back closed }
 
     pin_end : (tran : Tran) (node : Node) (end : WalkEnd) (e : IsEndOf g.stored kind f.nodes node end) → named node ≡ (pin, tran) → IsPinEnd g.stored.design kind pin (cone_of f rise fall) Near_in name_in end
     pin_end tran node end e is_named =
@@ -292,7 +293,7 @@ module _ (g : Graphed) (num : IsNumbered g.stored) (linked : IsLinked g.stored.d
 
     pub pin_cone : IsPinCone g.stored.design kind pin (cone_of f rise fall) Near_in name_in
     pin_cone = record {
-      nodes = record { forth = steps_forth; back = steps_back };
+      nodes = record { forth = steps_forth };
       ends = by;
       each = end_at;
     }
@@ -340,11 +341,6 @@ module _ (g : Graphed) (num : IsNumbered g.stored) (linked : IsLinked g.stored.d
           (climb_known g is num linked t (suc (level_at g (node_of f.nodes n))) (node_of f.nodes n) p.1.node (omega arith) p.1.its);
     }
 
-    -- the least slack of the cone's walks is the pin's
-    pub slack_told : (o : Option ℤ) → IsLeastSlack (cone_of f rise fall) o → IsSlack g.stored.design kind pin o
-    slack_told o least =
-        slack_over g.stored.design t kind pin o (course_slack g.stored.design kind pin (cone_of f rise fall) Near_in name_in pin_cone o least)
-
     node_low : (n : ℕ) → n < length f.nodes → node_of f.nodes n < node_bound g.stored
     node_low n low = subst (λ k. k < node_bound g.stored) (sym (node_of_place f.nodes n low)) (h.below (slice_index f.nodes n) (among_at f.nodes n low))
 
@@ -358,12 +354,3 @@ module _ (g : Graphed) (num : IsNumbered g.stored) (linked : IsLinked g.stored.d
     -- the course of a walk
     pub walk_course : (walk : Walk) → IsWalk (cone_of f rise fall) walk → IsWalkCourse g.stored.design kind pin (cone_of f rise fall) Near_in name_in walk
     walk_course walk w = course_of g.stored.design kind pin (cone_of f rise fall) Near_in name_in pin_cone walk w
-
-    -- the path of the worst walk comes after no other of its slack
-    pub first_path : (worst : Walk) → IsWorst (place_rank g.stored f.nodes) (places_before g f.nodes) (cone_of f rise fall) (Some worst)
-        → (v : IsWalkCourse g.stored.design kind pin (cone_of f rise fall) Near_in name_in worst)
-        → (path : List Named) (test : Test) → ends_at pin path ≡ true → Contains (path_slacks g.stored.design kind path) (test, worst.slack)
-        → is_gt (nodes_cmp (begin_names g.stored.design (name_in v.launch.node) ++ map name_in v.more) path) ≡ false
-    first_path worst w v =
-        shown_over g.stored.design t kind pin worst.slack (begin_names g.stored.design (name_in v.launch.node) ++ map name_in v.more)
-        (first_told g.stored.design kind pin (cone_of f rise fall) Near_in Near_in name_in (place_rank g.stored f.nodes) (places_before g f.nodes) naming pin_cone worst w v)

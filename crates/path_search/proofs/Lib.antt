@@ -53,3 +53,5 @@ pub mod NamedArrivals
 pub mod LowParts
 pub mod LowestTests
 pub mod EndLowLaws
+pub mod NearCones
+pub mod NearForms

@@ -38,6 +38,7 @@ use Rattle.path_search.specs.Slacks.{IsNodeOffer}
 use Rattle.path_search.proofs.PrefixSums.{sum_back}
 use Rattle.path_search.proofs.NodeNames.{name_told as node_of_name, network_of, joined_back}
 use Rattle.path_search.proofs.NumberNames.{name_here, IsNodeNumber}
+use Rattle.path_search.proofs.RankLaws.{Each}
 use Rattle.path_search.proofs.ConeTails.{IsStep, signed_plus, signed_none, stays}
 use Rattle.path_search.proofs.ConeCourses.{launched_once, lower, lowest, no_items, nothing_in, unshifted, shifted}
 use Rattle.path_search.proofs.FanCones.{turned_same, network_here, inside, delay_named}
@@ -67,12 +68,23 @@ pub record IsTailOf (d : Design) (kind : Kind) (name : ℕ → Named) (e n : ℕ
   pub last : last_of (name n) (map name ms) ≡ name e
 
 -- the walk by numbers of a tail
-pub record IsWalkOf (kind : Kind) (look : ℕ → ℕ → Option ℤ) (Near : ℕ → Type 0) (name : ℕ → Named) (e : ℕ) (n : Named) (rest : ℤ) : Type 0 where
+pub record IsWalkOf (kind : Kind) (look : ℕ → ℕ → Option ℤ) (Near : ℕ → Type 0) (name : ℕ → Named) (e : ℕ) (n : Named) (post : List Named) (rest : ℤ) : Type 0 where
   pub number : ℕ
   pub near : Near number
   pub its : name number ≡ n
   pub more : List ℕ
+  pub names : map name more ≡ post
+  pub known : Each Near more
   pub adds : walk_sum ◌==◌ look e number more ≡ Some (signed kind rest)
+
+-- the walk by numbers of a course, of a slack that is at most that of the course
+pub record IsBelow (kind : Kind) (look : ℕ → ℕ → Option ℤ) (Near : ℕ → Type 0) (name : ℕ → Named) (e : ℕ) (offer : ℕ → Option ℤ) (launch : Named) (post : List Named) (rest t : ℤ) : Type 0 where
+  pub tail : IsWalkOf kind look Near name e launch post rest
+  pub slack : ℤ
+  pub walk : IsNumberSlack look offer e slack
+  pub first_is : walk.first ≡ tail.number
+  pub more_is : walk.more ≡ tail.more
+  pub low : slack ≤ℤ t
 
 module _ (d : Design) (kind : Kind) (look : ℕ → ℕ → Option ℤ) (Near : ℕ → Type 0) (name : ℕ → Named) (numbers : AreNumbers d kind look Near name) (e : ℕ) where
   tail_of : (n : ℕ) (ms : List ℕ) (sum : ℤ) → walk_sum ◌==◌ look e n ms ≡ Some sum → IsTailOf d kind name e n ms sum
@@ -100,7 +112,7 @@ module _ (d : Design) (kind : Kind) (look : ℕ → ℕ → Option ℤ) (Near : 
         last = r.last;
       }
 
-  walk_of : Near e → (n : Named) (post : List Named) (rest : ℤ) → last_of n post ≡ name e → IsTail d (data_split kind) n post rest → IsWalkOf kind look Near name e n rest
+  walk_of : Near e → (n : Named) (post : List Named) (rest : ℤ) → last_of n post ≡ name e → IsTail d (data_split kind) n post rest → IsWalkOf kind look Near name e n post rest
   walk_of near n [] rest last tail =
       let zero_is : pos 0 ≡ rest = some_is tail.walks in
       record {
@@ -108,6 +120,8 @@ module _ (d : Design) (kind : Kind) (look : ℕ → ℕ → Option ℤ) (Near : 
         near = near;
         its = sym last;
         more = [];
+        names = refl;
+        known = tt;
         adds = ap (λ (b : Bool). if b then Some (pos 0) else None) (eq-eqb e e refl) ∙ ap Some (sym (signed_none kind) ∙ ap (signed kind) zero_is);
       }
   walk_of near n (m ∷ ms) rest last tail =
@@ -115,6 +129,8 @@ module _ (d : Design) (kind : Kind) (look : ℕ → ℕ → Option ℤ) (Near : 
       let z = sum_back (named_delay d (data_split kind) n m) (walk_delay d (data_split kind) m ms) rest tail.walks in
       let r = walk_of near m ms z.right last (record { outside = out.1; walks = z.right_is }) in
       let b = numbers.back r.number r.near (ap (is_network_named d) r.its ∙ out.0) n z.left (ap (named_delay d (data_split kind) n) r.its ∙ z.left_is) in
+      let its = r.its in
+      let names = r.names in
       let arc = b.arc in
       let adds = r.adds in
       record {
@@ -122,6 +138,8 @@ module _ (d : Design) (kind : Kind) (look : ℕ → ℕ → Option ℤ) (Near : 
         near = b.near;
         its = b.its;
         more = r.number ∷ r.more;
+        names = λ k. its k ∷ names k;
+        known = (r.near, r.known);
         adds = (λ k. plus_some (arc k) (adds k)) ∙ ap Some (sym (signed_plus kind z.left z.right) ∙ ap (signed kind) z.both);
       }
 
@@ -148,14 +166,9 @@ module _ (d : Design) (kind : Kind) (look : ℕ → ℕ → Option ℤ) (Near : 
               (ap (λ (x : ℤ). w.offered -ℤ x) t.sign ∙ w.is) at;
         }
 
-    -- the walk of a course, of a slack that is at most that of the course
-    record IsBelow (t : ℤ) : Type 0 where
-      pub slack : ℤ
-      pub walk : IsNumberSlack look offer e slack
-      pub low : slack ≤ℤ t
-
-    below : (edge : ℕ × Tran) (launch : Named) (time : ℤ) (post : List Named) (rest : ℤ) → IsCourseTo d kind (name e) edge launch time post rest
-        → (test : Test) (t : ℤ) → Contains (launch_slacks d kind launch edge (time +ℤ rest) (name e)) (test, t) → IsBelow t
+    pub below : (edge : ℕ × Tran) (launch : Named) (time : ℤ) (post : List Named) (rest : ℤ) → IsCourseTo d kind (name e) edge launch time post rest
+        → (test : Test) (t : ℤ) → Contains (launch_slacks d kind launch edge (time +ℤ rest) (name e)) (test, t)
+        → IsBelow kind look Near name e offer launch post rest t
     below edge launch time post rest c test t within =
         let p = walk_of near launch post rest c.ends c.tail in
         let u = unshifted d kind launch edge time rest (name e) test t within in
@@ -164,8 +177,8 @@ module _ (d : Design) (kind : Kind) (look : ℕ → ℕ → Option ℤ) (Near : 
         subst (λ (n : Named). Contains (launch_slacks d kind n edge time (name e)) (test, u.first)) (sym p.its) u.within in
         by p u.first u.is launched first (offer p.number) refl
       where
-        by : (p : IsWalkOf kind look Near name e launch rest) (first : ℤ) → first -ℤ signed kind rest ≡ t → IsLaunched d (data_split kind) edge (name p.number) time
-            → Contains (launch_slacks d kind (name p.number) edge time (name e)) (test, first) → (o : Option ℤ) → offer p.number ≡ o → IsBelow t
+        by : (p : IsWalkOf kind look Near name e launch post rest) (first : ℤ) → first -ℤ signed kind rest ≡ t → IsLaunched d (data_split kind) edge (name p.number) time
+            → Contains (launch_slacks d kind (name p.number) edge time (name e)) (test, first) → (o : Option ℤ) → offer p.number ≡ o → IsBelow kind look Near name e offer launch post rest t
         by p first is launched inside None f =
             absurd (nothing_in (launch_slacks d kind (name p.number) edge time (name e)) (test, first) inside (none p.number p.near f edge time launched))
         by p first is launched inside (Some o) f =
@@ -176,6 +189,7 @@ module _ (d : Design) (kind : Kind) (look : ℕ → ℕ → Option ℤ) (Near : 
             (subst (λ (x : ℕ × Tran). Contains (launch_slacks d kind (name p.number) x offered.time (name e)) (test, first)) once.0
             (subst (λ (x : ℤ). Contains (launch_slacks d kind (name p.number) edge x (name e)) (test, first)) once.1 inside)) in
             record {
+              tail = p;
               slack = o -ℤ signed kind rest;
               walk = record {
                 first = p.number;
@@ -186,6 +200,8 @@ module _ (d : Design) (kind : Kind) (look : ℕ → ℕ → Option ℤ) (Near : 
                 adds = p.adds;
                 is = refl;
               };
+              first_is = refl;
+              more_is = refl;
               low = lower o first (signed kind rest) t low is;
             }
 
@@ -318,26 +334,33 @@ module _ (g : Graphed) (num : IsNumbered g.stored) (linked : IsLinked g.stored.d
   pub numbers_told : AreNumbers g.stored.design kind look_in Near_in (name_told g.stored)
   numbers_told = record { forth = steps_forth; back = steps_back }
 
-  -- the walks to a number, with what each node offers for it, stand for the paths to its node
-  pub slacks_of_node : (offer : ℕ → Option ℤ) (e : ℕ) (end : Node) → node_at g.stored e ≡ Some end → ((n : ℕ) → IsNodeOffer g.stored kind n (named end) (offer n))
-      → StandFor (IsNumberSlack look_in offer e) g.stored.design kind (named end)
-  slacks_of_node offer e end its offers =
-      subst (λ (n : Named). StandFor (IsNumberSlack look_in offer e) g.stored.design kind n) (name_here g.stored e end its)
-      (slacks_told g.stored.design kind look_in Near_in (name_told g.stored) numbers_told e offer (record { node = end; its = its }) none some)
-    where
-      to : named end ≡ name_told g.stored e
-      to = sym (name_here g.stored e end its)
+  -- what each node offers for a number
+  module _ (offer : ℕ → Option ℤ) (e : ℕ) (end : Node) (its : node_at g.stored e ≡ Some end) (offers : (n : ℕ) → IsNodeOffer g.stored kind n (named end) (offer n)) where
+    to : named end ≡ name_told g.stored e
+    to = sym (name_here g.stored e end its)
 
-      none : (n : ℕ) → Near_in n → offer n ≡ None → (edge : ℕ × Tran) (time : ℤ) → IsLaunched g.stored.design (data_split kind) edge (name_told g.stored n) time
-          → launch_slacks g.stored.design kind (name_told g.stored n) edge time (name_told g.stored e) ≡ []
-      none n near f edge time l =
-          let here = name_here g.stored n near.node near.its in
-          let all = subst (λ (x : Option ℤ). IsNodeOffer g.stored kind n (named end) x) f (offers n) in
-          (λ i. launch_slacks g.stored.design kind (here i) edge time (sym to i))
-          ∙ all near.node near.its edge time (subst (λ (m : Named). IsLaunched g.stored.design (data_split kind) edge m time) here l)
+    none : (n : ℕ) → Near_in n → offer n ≡ None → (edge : ℕ × Tran) (time : ℤ) → IsLaunched g.stored.design (data_split kind) edge (name_told g.stored n) time
+        → launch_slacks g.stored.design kind (name_told g.stored n) edge time (name_told g.stored e) ≡ []
+    none n near f edge time l =
+        let here = name_here g.stored n near.node near.its in
+        let all = subst (λ (x : Option ℤ). IsNodeOffer g.stored kind n (named end) x) f (offers n) in
+        (λ i. launch_slacks g.stored.design kind (here i) edge time (sym to i))
+        ∙ all near.node near.its edge time (subst (λ (m : Named). IsLaunched g.stored.design (data_split kind) edge m time) here l)
 
-      some : (n : ℕ) (x : ℤ) → offer n ≡ Some x → IsOffer g.stored.design kind (name_told g.stored n) (name_told g.stored e) x
-      some n x f =
-          let one = subst (λ (y : Option ℤ). IsNodeOffer g.stored kind n (named end) y) f (offers n) in
-          subst (λ (m : Named). IsOffer g.stored.design kind m (name_told g.stored e) x) (sym (name_here g.stored n one.0 one.1))
-          (subst (λ (m : Named). IsOffer g.stored.design kind (named one.0) m x) to one.2)
+    some : (n : ℕ) (x : ℤ) → offer n ≡ Some x → IsOffer g.stored.design kind (name_told g.stored n) (name_told g.stored e) x
+    some n x f =
+        let one = subst (λ (y : Option ℤ). IsNodeOffer g.stored kind n (named end) y) f (offers n) in
+        subst (λ (m : Named). IsOffer g.stored.design kind m (name_told g.stored e) x) (sym (name_here g.stored n one.0 one.1))
+        (subst (λ (m : Named). IsOffer g.stored.design kind (named one.0) m x) to one.2)
+
+    -- the walks to a number, with what each node offers for it, stand for the paths to its node
+    pub slacks_of_node : StandFor (IsNumberSlack look_in offer e) g.stored.design kind (named end)
+    slacks_of_node =
+        subst (λ (n : Named). StandFor (IsNumberSlack look_in offer e) g.stored.design kind n) (name_here g.stored e end its)
+        (slacks_told g.stored.design kind look_in Near_in (name_told g.stored) numbers_told e offer (record { node = end; its = its }) none some)
+
+    -- the walk by numbers of a course to its node
+    pub below_node : (edge : ℕ × Tran) (launch : Named) (time : ℤ) (post : List Named) (rest : ℤ) → IsCourseTo g.stored.design kind (name_told g.stored e) edge launch time post rest
+        → (test : Test) (t : ℤ) → Contains (launch_slacks g.stored.design kind launch edge (time +ℤ rest) (name_told g.stored e)) (test, t)
+        → IsBelow kind look_in Near_in (name_told g.stored) e offer launch post rest t
+    below_node = below g.stored.design kind look_in Near_in (name_told g.stored) numbers_told e offer (record { node = end; its = its }) none some

@@ -1,7 +1,7 @@
 -- What is told of the graph in front of an end node, as functions have it.
 
 use Rattle.std.proofs.Common.{◌≡◌, ℕ, ◌^◌, ◌<◌, ◌≤◌, Bool, true, false, ℤ, List, [], ◌∷◌, length, arith, ◌⊎◌, inl, inr, Option, None, Some, Result, Ok, Err, IfOk, refl, sym, ap, subst, ◌∙◌}
-use Rattle.std.specs.Prelude.{All, if◌then◌else◌, nat_lt, option_and_then}
+use Rattle.std.specs.Prelude.{All, Contains, if◌then◌else◌, nat_lt, option_and_then}
 use Rattle.std.specs.List.{filter_map}
 use Rattle.sta_units.specs.Numbers.{Within}
 use Rattle.sta_units.specs.declared.units.Memory.{Memory}
@@ -15,9 +15,9 @@ use Rattle.timing_rules.specs.Paths.{Named, named, IsSlack as IsPinSlack}
 use Rattle.timing_defs.specs.RowTimes.{times_in}
 use Rattle.timing_defs.specs.Kinds.{data_split}
 use Rattle.netlist_store.specs.Linked.{IsLinked}
-use Rattle.netlist_store.specs.Numbering.{Stored, IsNumbered}
+use Rattle.netlist_store.specs.Numbering.{Stored, is_number, IsNumbered}
 use Rattle.pin_graph.specs.declared.arcs.GraphArc.{GraphArc}
-use Rattle.pin_graph.specs.Nodes.{node_at, node_bound}
+use Rattle.pin_graph.specs.Nodes.{node_at, node_bound, pin_under}
 use Rattle.pin_graph.specs.Graphs.{Graphed, IsGraph, fan_at, level_at, network_at}
 use Rattle.pin_graph.specs.RowTables.{AreRowsFine, row_numbered}
 use Rattle.timing_defs.proofs.Members.{some_is}
@@ -25,14 +25,16 @@ use Rattle.arc_delays.specs.declared.tables.ArcDelay.{ArcDelay}
 use Rattle.arc_delays.specs.Delays.{AreDelays}
 use Rattle.worst_walks.specs.declared.cones.WalkArc.{WalkArc}
 use Rattle.path_cones.specs.Following.{arcs_followed, numbered_arc}
-use Rattle.path_cones.specs.Reaching.{followed}
+use Rattle.path_cones.specs.Reaching.{followed, is_among}
 use Rattle.pessimism_credit.specs.declared.rows.TreeRow.{TreeRow}
 use Rattle.bounded_slack.specs.Nets.{Net, IsNet, IsSlack, IsLeastOfTwo}
+use Rattle.bounded_slack.specs.Nears.{AreNear}
 use Rattle.bounded_slack.specs.Rows.{IsByRows, IsLowOffer, least_room, signed_on}
 use Rattle.path_search.specs.declared.cones.EndNodes.{EndNodes}
 use Rattle.path_search.specs.declared.ends.EndTest.{EndTest}
 use Rattle.path_search.specs.declared.launches.LaunchNode.{LaunchNode}
 use Rattle.path_search.specs.Lows.{lows_told}
+use Rattle.path_search.specs.NearCones.{AreNearTo}
 use Rattle.path_search.specs.NodeNets.{arcs_there, launch_told, net_told, offer_told, signed_arrival, fan_net, FanValue, IsFanNet, IsFanOf}
 use Rattle.path_search.specs.NodeSlacks.{IsEitherSlack, StandFor}
 use Rattle.path_search.specs.PinCones.{AreEndNodes, IsNamedNode}
@@ -44,7 +46,7 @@ use Rattle.path_search.proofs.Endings.{slack_over}
 use Rattle.path_search.proofs.Forms.{passed_over}
 use Rattle.path_search.proofs.NodeCourses.{pin_slack_told}
 use Rattle.path_search.proofs.NodeLaunches.{launch_is}
-use Rattle.path_search.proofs.NodeSearches.{by_rows, node_found, lows_fit, times_fine, there}
+use Rattle.path_search.proofs.NodeSearches.{by_rows, near_found, node_found, lows_fit, times_fine, there}
 use Rattle.path_search.proofs.OfferForms.{node_there, tests_ready}
 use Rattle.path_search.proofs.Setting.{timed}
 
@@ -136,6 +138,14 @@ module _ (s : Stored) (g : Graphed) (rows : List NodeRow) (delays : List (List A
       subst (λ (z : Stored). StandFor (IsSlack (net_told g kind tree tests end)) z.design kind (named node)) same
       (node_found g g_num g_linked is g_time g_fine kind delays g_delays tree h.sources.clocks tests g_ready end node ((λ i. node_at (same i) end) ∙ its) h.its_tests)
 
+  end_there : (node : Node) × (node_at g.stored end ≡ Some node)
+  end_there = node_there g.stored g_num g_linked end ((λ i. is_number (same i).pins (pin_under end)) ∙ h.there)
+
+  pub near_told : (most : ℤ) (nodes : List ℕ) → AreNear (net_told g kind tree tests end) most nodes → (all : List ℕ) → ((n : ℕ) → Contains nodes n → is_among all n ≡ true)
+      → AreNearTo g kind end most all
+  near_told =
+      near_found g g_num g_linked is g_time g_fine kind delays g_delays tree h.sources.clocks tests g_ready end end_there.0 end_there.1 h.its_tests
+
 -- the same of a net that is told so
 module _ (s : Stored) (g : Graphed) (rows : List NodeRow) (delays : List (List ArcDelay)) (tree : List TreeRow) (kind : Kind) (end : ℕ) (fan : FanValue)
     (h : IsFanNet s g rows delays tree kind end fan) (num : IsNumbered s) (linked : IsLinked s.design) (is : IsGraph g) where
@@ -145,6 +155,10 @@ module _ (s : Stored) (g : Graphed) (rows : List NodeRow) (delays : List (List A
   net_found : (node : Node) → node_at s end ≡ Some node → StandFor (IsSlack (fan_net fan)) s.design kind (named node)
   net_found node its =
       subst (λ (v : FanValue). StandFor (IsSlack (fan_net v)) s.design kind (named node)) (sym h.is) (found_as s g rows delays tree kind end h.tests h.lows h.told num linked is node its)
+
+  pub near_as : (most : ℤ) (nodes : List ℕ) → AreNear (fan_net fan) most nodes → (all : List ℕ) → ((n : ℕ) → Contains nodes n → is_among all n ≡ true) → AreNearTo g kind end most all
+  near_as most nodes near =
+      near_told s g rows delays tree kind end h.tests h.lows h.told num linked is most nodes (subst (λ (v : FanValue). AreNear (fan_net v) most nodes) h.is near)
 
 -- the least slack of the walks to two nodes is that of the paths to them
 either_found : (d : Design) (kind : Kind) (one other : Net) (first second : Named) → StandFor (IsSlack one) d kind first → StandFor (IsSlack other) d kind second

@@ -6,7 +6,7 @@ use Rattle.std.specs.List.{filter_map, list_any}
 use Rattle.std.specs.Option.{option_map_or}
 use Rattle.std.proofs.lemmas.Bool.{cases_Bool, cases_lt, eq-eqb, leb-true, eqb-true, lt-ltb, ltb-true, false≢true}
 use Rattle.std.proofs.lemmas.Int.{ints}
-use Rattle.std.proofs.lemmas.List.Elements.{All-contains, All-contains_itself, All-cons, All-head, All-nil, All-tail}
+use Rattle.std.proofs.lemmas.List.Elements.{All-contains, All-contains_itself, All-cons, All-head, All-nil, All-tail, All-weaker}
 use Rattle.sta_units.specs.Numbers.{limit, Within}
 use Rattle.timing_defs.specs.declared.edge_times.EdgeTime.{EdgeTime}
 use Rattle.timing_defs.specs.declared.kinds.Kind.{Kind}
@@ -34,15 +34,18 @@ use Rattle.worst_walks.specs.declared.cones.WalkArc.{WalkArc}
 use Rattle.worst_walks.specs.Walks.{delay_in, walk_sum, AreApart}
 use Rattle.path_cones.specs.Delays.{arc_numbered, followed_delay, signed as turned}
 use Rattle.path_cones.specs.Following.{arcs_followed, IsFromBelow}
+use Rattle.path_cones.specs.Reaching.{is_among}
 use Rattle.path_cones.proofs.Followed.{are_followed}
 use Rattle.path_cones.proofs.Growing.{from_low}
 use Rattle.pessimism_credit.specs.declared.rows.TreeRow.{TreeRow}
 use Rattle.bounded_slack.specs.Nets.{Net, IsArcInto, IsLow, IsShape, IsSlack, IsLeastSlack, lesser, minus_some, walk_slack}
+use Rattle.bounded_slack.specs.Nears.{AreNear}
 use Rattle.bounded_slack.specs.Rows.{IsAtLeast, IsLater, IsOffered, IsByRows, IsLowOffer, edge_in, least_room, room_on, signed as sign, signed_on}
 use Rattle.path_search.specs.declared.ends.EndTest.{EndTest}
 use Rattle.path_search.specs.declared.launches.LaunchNode.{LaunchNode}
 use Rattle.path_search.specs.Launches.{edge_of_launch, signed}
 use Rattle.path_search.specs.Lows.{low_over, low_told, lows_told}
+use Rattle.path_search.specs.NearCones.{AreNearTo}
 use Rattle.path_search.specs.NodeNets.{arcs_there, launch_told, net_told, offer_told, signed_arrival}
 use Rattle.path_search.specs.NodeSlacks.{StandFor, IsNumberSlack}
 use Rattle.path_search.specs.Runs.{IsTimed}
@@ -344,11 +347,25 @@ module _ (g : Graphed) (num : IsNumbered g.stored) (linked : IsLinked g.stored.d
                   is = k.both;
                 }
 
-        slack_back : (s : ℤ) → IsNumberSlack (λ a b. followed_delay g kind a b) (offer_told g kind rows tests) end s → IsSlack (net_told g kind rows tests end) s
-        slack_back s w =
+        -- the slack of a walk by numbers is that which a search finds
+        slack_is : (s : ℤ) (w : IsNumberSlack (λ a b. followed_delay g kind a b) (offer_told g kind rows tests) end s) → walk_slack (net_told g kind rows tests end) (w.first ∷ w.more) ≡ Some s
+        slack_is s w =
             let offer = w.offer_is in
             let adds = walk_same (λ a b. delay_in (arcs_there g kind b) a) (λ a b. followed_delay g kind a b) end w.first w.more look_same ∙ w.adds in
-            (w.first ∷ w.more, (λ k. minus_some (offer k) (adds k)) ∙ ap Some w.is)
+            (λ k. minus_some (offer k) (adds k)) ∙ ap Some w.is
+
+        slack_back : (s : ℤ) → IsNumberSlack (λ a b. followed_delay g kind a b) (offer_told g kind rows tests) end s → IsSlack (net_told g kind rows tests end) s
+        slack_back s w = (w.first ∷ w.more, slack_is s w)
+
+        -- the nodes of near walks that a search finds are those of the walks by numbers
+        pub near_found : (most : ℤ) (nodes : List ℕ) → AreNear (net_told g kind rows tests end) most nodes → (all : List ℕ) → ((n : ℕ) → Contains nodes n → is_among all n ≡ true)
+            → AreNearTo g kind end most all
+        near_found most nodes near all within = record {
+          offer = offer_told g kind rows tests;
+          offers = λ other e. subst (λ (x : Node). (n : ℕ) → IsNodeOffer g.stored kind n (named x) (offer_told g kind rows tests n)) (some_is (sym its ∙ e)) offers_are;
+          covers = λ s w low.
+              All-weaker (Contains nodes) (λ n. is_among all n ≡ true) within (w.first ∷ w.more) (near.covers (w.first ∷ w.more) s (slack_is s w) low);
+        }
 
         -- the walks that a search finds stand for the paths to the node
         pub node_found : StandFor (IsSlack (net_told g kind rows tests end)) g.stored.design kind (named node)

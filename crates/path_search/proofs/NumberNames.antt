@@ -139,6 +139,12 @@ module _ (s : Stored) (num : IsNumbered s) (linked : IsLinked s.design) where
       let other : b ≡ node_number h.pin y.tran = i.number ∙ ap (λ p. node_number p y.tran) (sym pin) in
       (λ k. nat_cmp (one k) (other k)) ∙ trans_agree h.pin x.tran y.tran)
 
+  -- nodes of one name have one number
+  pub number_once : (a b : ℕ) (x y : Node) → node_at s a ≡ Some x → node_at s b ≡ Some y → named x ≡ named y → a ≡ b
+  number_once a b x y e f same =
+      number_tied s a b
+      (names_agree a b x y e f ∙ ap (named_cmp (named x)) (sym same) ∙ sym (names_agree a a x x e e) ∙ tied_itself (number_total s) a)
+
   pub named_agree : (a b : ℕ) → IsNodeNumber s a → IsNodeNumber s b → nat_cmp (rank_at s a) (rank_at s b) ≡ named_cmp (name_told s a) (name_told s b)
   named_agree a b n m =
       let first = sym (name_here s a n.node n.its) in

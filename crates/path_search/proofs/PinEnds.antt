@@ -1,6 +1,6 @@
 -- The nodes of an endpoint, and the cone that is made of their fan-in.
 
-use Rattle.std.proofs.Common.{◌≡◌, ℕ, ◌<◌, true, List, [], ◌∷◌, length, Some, None, refl, sym, ap, subst, ◌∙◌, inl, inr, arith}
+use Rattle.std.proofs.Common.{◌≡◌, ℕ, ◌<◌, ℤ, true, List, [], ◌∷◌, length, Some, None, refl, sym, ap, subst, ◌∙◌, inl, inr, arith}
 use Rattle.std.specs.Prelude.{All, Contains, IfOk, Result, Ok, Err, ◌||◌, slice_index, position, nat_eq, option_map, filter}
 use Rattle.std.specs.List.{list_any, position_or_len}
 use Rattle.std.proofs.lemmas.Bool.{cases_Bool, eqb-true, false≢true, lt-ltb}
@@ -23,12 +23,13 @@ use Rattle.store_pins.proofs.PinLaws.{pin_told}
 use Rattle.pin_graph.proofs.NodeLaws.{node_told, node_below}
 use Rattle.worst_walks.specs.declared.cones.WalkEnd.{WalkEnd}
 use Rattle.path_cones.specs.declared.fans.FanIn.{FanIn}
+use Rattle.path_cones.specs.Delays.{followed_delay}
 use Rattle.path_cones.specs.Reaching.{is_among}
-use Rattle.path_cones.specs.FanIns.{IsFanIn}
+use Rattle.path_cones.specs.FanIns.{IsFanPart, IsWhole}
 use Rattle.path_cones.proofs.ConeLaws.{among_at}
 use Rattle.path_search.specs.declared.cones.PinCone.{PinCone}
 use Rattle.path_search.proofs.NumberNames.{number_there}
-use Rattle.path_search.specs.PinCones.{cone_of, IsNamedNode, IsEndOf, IsPinCone}
+use Rattle.path_search.specs.PinCones.{cone_of, IsNamedNode, IsEndOf, IsPinCone, IsPinPart}
 
 -- the number of a node of an endpoint
 pub record IsEndNumber (s : Stored) (pin : List ℕ) (tran : Tran) : Type 0 where
@@ -96,12 +97,12 @@ place_none nodes node e f =
 pub place_is : (nodes : List ℕ) (node p : ℕ) → Some p ≡ position (λ n. nat_eq node n) nodes → slice_index nodes p ≡ node
 place_is nodes node p e = sym (eqb-true node (slice_index nodes p) (position-Some (λ n. nat_eq node n) nodes p 0 (sym e)).1)
 
--- the nodes of a fan-in
-pub fan_below : (g : Graphed) (kind : Kind) (ends : List ℕ) (f : FanIn) → IsFanIn g kind ends f → All (λ n. n < node_bound g.stored) f.nodes
+-- the nodes of a part of a fan-in
+pub fan_below : (g : Graphed) (kind : Kind) (ends : List ℕ) (f : FanIn) → IsFanPart g kind ends f → All (λ n. n < node_bound g.stored) f.nodes
 fan_below g kind ends f h = λ k d low.
     subst (λ n. n < node_bound g.stored) (sym (get_or_default_zero f.nodes k d low)) (h.below (slice_index f.nodes k) (among_at f.nodes k low))
 
-module _ (g : Graphed) (kind : Kind) (rise fall : ℕ) (f : FanIn) (h : IsFanIn g kind (rise ∷ fall ∷ []) f) where
+module _ (g : Graphed) (kind : Kind) (rise fall : ℕ) (f : FanIn) (h : IsFanPart g kind (rise ∷ fall ∷ []) f) where
   pub fan_low : All (λ n. n < node_bound g.stored) f.nodes
   fan_low = fan_below g kind (rise ∷ fall ∷ []) f h
 
@@ -114,7 +115,7 @@ module _ (g : Graphed) (kind : Kind) (rise fall : ℕ) (f : FanIn) (h : IsFanIn 
   pub pin_cone_told : (pin : List ℕ) → IsNamedNode g.stored (pin, Rise) rise → IsNamedNode g.stored (pin, Fall) fall → (first second : WalkEnd)
       → ((node : Node) → node_at g.stored rise ≡ Some node → IsEndOf g.stored kind f.nodes node first)
       → ((node : Node) → node_at g.stored fall ≡ Some node → IsEndOf g.stored kind f.nodes node second)
-      → (made : PinCone) → made.nodes ≡ f.nodes → made.cone ≡ cone_of f first second → IsPinCone g kind pin made
+      → (made : PinCone) → made.nodes ≡ f.nodes → made.cone ≡ cone_of f first second → IsPinPart g kind pin made
   pin_cone_told pin one other first second a b made nodes cone = record {
     f = f;
     ends = rise ∷ fall ∷ [];
@@ -134,7 +135,7 @@ module _ (g : Graphed) (kind : Kind) (rise fall : ℕ) (f : FanIn) (h : IsFanIn 
   }
 
 -- the same by a store, in the forms that the code has
-module _ (g : Graphed) (kind : Kind) (rise fall : ℕ) (f : FanIn) (h : IsFanIn g kind (rise ∷ fall ∷ []) f) (s : Stored) (same : g.stored ≡ s) where
+module _ (g : Graphed) (kind : Kind) (rise fall : ℕ) (f : FanIn) (h : IsFanPart g kind (rise ∷ fall ∷ []) f) (s : Stored) (same : g.stored ≡ s) where
   pub fan_low_as : (xs : List ℕ) → xs ≡ f.nodes → All (λ n. n < node_bound s) xs
   fan_low_as xs e =
       subst (λ (ys : List ℕ). All (λ n. n < node_bound s) ys) (sym e)
@@ -144,7 +145,7 @@ module _ (g : Graphed) (kind : Kind) (rise fall : ℕ) (f : FanIn) (h : IsFanIn 
       → (first second : WalkEnd)
       → ((node : Node) → node_at s rise ≡ Some node → IsEndOf s kind xs node first)
       → ((node : Node) → node_at s fall ≡ Some node → IsEndOf s kind ys node second)
-      → (r : Result PinCone Memory) → IfOk r (λ made. made.nodes ≡ f.nodes) → IfOk r (λ made. made.cone ≡ cone_of f first second) → IfOk r (IsPinCone g kind pin)
+      → (r : Result PinCone Memory) → IfOk r (λ made. made.nodes ≡ f.nodes) → IfOk r (λ made. made.cone ≡ cone_of f first second) → IfOk r (IsPinPart g kind pin)
   pin_cone_as pin one other xs ex ys ey first second a b (Ok made) nodes cone =
       pin_cone_told g kind rise fall f h pin
       (subst (λ (x : Stored). IsNamedNode x (pin, Rise) rise) (sym same) one)
@@ -155,3 +156,13 @@ module _ (g : Graphed) (kind : Kind) (rise fall : ℕ) (f : FanIn) (h : IsFanIn 
       (subst (λ (zs : List ℕ). (node : Node) → node_at s fall ≡ Some node → IsEndOf s kind zs node second) ey b))
       made nodes cone
   pin_cone_as pin one other xs ex ys ey first second a b (Err e) nodes cone = tt
+
+whole_same : (g : Graphed) (kind : Kind) (a b : FanIn) → a.nodes ≡ b.nodes → IsWhole g kind a → IsWhole g kind b
+whole_same g kind a b same closed =
+    subst (λ (ns : List ℕ). (x k : ℕ) (v : ℤ) → k < length ns → followed_delay g kind x (slice_index ns k) ≡ Some v → is_among ns x ≡ true) same closed
+
+-- the cone of a whole fan-in
+pub whole_as : (g : Graphed) (kind : Kind) (pin : List ℕ) (f : FanIn) → IsWhole g kind f → (r : Result PinCone Memory) → IfOk r (IsPinPart g kind pin) → IfOk r (λ made. made.nodes ≡ f.nodes)
+    → IfOk r (IsPinCone g kind pin)
+whole_as g kind pin f closed (Err e) part is = tt
+whole_as g kind pin f closed (Ok made) part is = record { part = part; closed = whole_same g kind f part.f (sym is ∙ part.nodes) closed }

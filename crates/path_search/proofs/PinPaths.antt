@@ -1,9 +1,8 @@
--- The path of the worst walk of a pin's cone is the path that is shown.
+-- The path that is read off a walk of a pin's cone is one to the pin.
 
-use Rattle.std.proofs.Common.{◌≡◌, ℕ, suc, ◌^◌, ◌<◌, ◌≤◌, ℤ, pos, unsigned_abs, true, List, [], ◌∷◌, ◌++◌, map, length, Some, None, refl, sym, ap, subst, ◌∙◌, arith}
-use Rattle.std.specs.Prelude.{All, Contains, slice_get, slice_index}
+use Rattle.std.proofs.Common.{◌≡◌, ℕ, suc, ◌^◌, ◌<◌, ◌≤◌, ℤ, pos, unsigned_abs, true, List, [], ◌∷◌, ◌++◌, map, length, Some, refl, sym, ap, subst, ◌∙◌, arith}
+use Rattle.std.specs.Prelude.{All, slice_get, slice_index}
 use Rattle.std.specs.Option.{option_map_or, unwrap_or}
-use Rattle.std.specs.Ordering.{is_gt}
 use Rattle.std.proofs.lemmas.List.{append_assoc}
 use Rattle.std.proofs.lemmas.List.Elements.{All-cons, All-nil}
 use Rattle.timing_defs.specs.declared.kinds.Kind.{Kind}
@@ -14,7 +13,7 @@ use Rattle.timing_defs.specs.Netlist.{Node}
 use Rattle.timing_rules.specs.Rows.{row, empty_row}
 use Rattle.timing_defs.specs.RowTimes.{time_on, times_in}
 use Rattle.timing_defs.specs.Kinds.{data_split}
-use Rattle.timing_rules.specs.Paths.{Named, named, ends_at, nodes_cmp, path_named, path_slacks, times_along, IsShown, IsSlack}
+use Rattle.timing_rules.specs.Paths.{Named, named, ends_at, path_named, times_along}
 use Rattle.netlist_store.specs.Linked.{IsLinked}
 use Rattle.netlist_store.specs.Numbering.{Stored, is_number, IsNumbered}
 use Rattle.pin_graph.specs.Nodes.{node_at, node_bound, pin_under}
@@ -23,15 +22,15 @@ use Rattle.timing_defs.proofs.Members.{some_is}
 use Rattle.worst_walks.specs.declared.cones.Launch.{Launch}
 use Rattle.worst_walks.specs.declared.cones.WalkEnd.{WalkEnd}
 use Rattle.worst_walks.specs.declared.cones.Walk.{Walk}
-use Rattle.worst_walks.specs.Walks.{IsWalk, IsWorst}
+use Rattle.worst_walks.specs.Walks.{IsWalk}
 use Rattle.path_cones.specs.declared.fans.FanIn.{FanIn}
-use Rattle.path_cones.specs.FanIns.{IsFanIn}
+use Rattle.path_cones.specs.FanIns.{IsFanPart}
 use Rattle.path_search.specs.declared.cones.PinCone.{PinCone}
 use Rattle.path_search.specs.declared.counted.Counted.{Counted}
 use Rattle.path_search.specs.declared.shown.Ends.{Ends}
 use Rattle.path_search.specs.Launches.{begin_names, begin_times, time_at}
 use Rattle.path_search.specs.Offers.{IsOffer}
-use Rattle.path_search.specs.Ranks.{climb, node_of, place_rank, places_before}
+use Rattle.path_search.specs.Ranks.{climb, node_of}
 use Rattle.path_search.specs.WalkTimes.{times_after}
 use Rattle.path_search.specs.PinCones.{capture_edge, capture_part, cone_of, launch_part, name_part, name_told, place_name, time_part, time_numbered, AreEndsFine, AreEndsOf, AreNodesOf, IsMade, IsNodePlace, IsWalkFine, IsWalkOn, IsWalkPath}
 use Rattle.path_search.specs.Counts.{counted_edge, IsCounted}
@@ -41,7 +40,7 @@ use Rattle.path_search.proofs.RankLaws.{Each}
 use Rattle.path_search.proofs.ClimbNames.{climb_known, launch_names, launch_times}
 use Rattle.path_search.proofs.ConeTails.{times_told}
 use Rattle.path_search.proofs.ConeCourses.{IsWalkCourse}
-use Rattle.path_search.proofs.FanCones.{cone_told, first_path, pin_cone, slack_told, walk_course}
+use Rattle.path_search.proofs.FanCones.{cone_told, pin_cone, walk_course}
 use Rattle.path_search.proofs.ShownPaths.{ends_in, holds_in}
 
 cons_same : {X : Type 0} (x y : X) (xs ys : List X) → x ∷ xs ≡ y ∷ ys → (x ≡ y) × (xs ≡ ys)
@@ -56,7 +55,7 @@ time_here : (s : Stored) (kind : Kind) (edge : ℕ × Tran) (x : ℕ) (m : Node)
 time_here s kind edge x m e = ap (λ o. unwrap_or (time_on (times_in (data_split kind) (option_map_or (row s.design) o empty_row)) edge) (pos 0)) e
 
 module _ (g : Graphed) (num : IsNumbered g.stored) (linked : IsLinked g.stored.design) (is : IsGraph g) (t : IsTimed g.stored.design) (kind : Kind) (ends : List ℕ) (f : FanIn)
-    (h : IsFanIn g kind ends f) (pin : List ℕ) (rise fall : WalkEnd) (m : IsMade g.stored kind pin f rise fall) where
+    (h : IsFanPart g kind ends f) (pin : List ℕ) (rise fall : WalkEnd) (m : IsMade g.stored kind pin f rise fall) where
   abbrev made : PinCone
   made = record { nodes = f.nodes; cone = cone_of f rise fall }
 
@@ -213,29 +212,3 @@ module _ (g : Graphed) (num : IsNumbered g.stored) (linked : IsLinked g.stored.d
     pub path_told : (p : Path) → p.nodes ≡ nodes → p.slack.0 ≡ walk.slack → p.credit.0 ≡ c.credit.0 → launch_part p ≡ counted_edge c
         → capture_part p ≡ capture_edge c → IsWalkPath g kind pin made walk p
     path_told = by_course (course walk w)
-
-  -- the path of the worst walk is shown
-  pub shown_told : (worst : Walk) → IsWorst (place_rank g.stored f.nodes) (places_before g f.nodes) (cone_of f rise fall) (Some worst) → (p : Path) → IsWalkPath g kind pin made worst p
-      → IsShown g.stored.design kind pin (Some p)
-  shown_told worst w p h2 = by (course worst w.0)
-    where
-      by : IsCourseOf worst → IsShown g.stored.design kind pin (Some p)
-      by v =
-          let heads = cons_same v.launch.node h2.first v.more h2.rest (sym v.nodes ∙ h2.nodes) in
-          let one = heads.0 in
-          let others = heads.1 in
-          let slack = h2.slack in
-          let names : path_named p ≡ begin_names g.stored.design (name_at_place v.launch.node) ++ map name_at_place v.more =
-          h2.names ∙ (λ i. begin_names g.stored.design (name_at_place (sym one i)) ++ map name_at_place (sym others i)) in (
-            h2.ends,
-            (h2.test, h2.holds),
-            subst (λ (x : ℤ). IsSlack g.stored.design kind pin (Some x)) (sym slack)
-                (slack_told g num linked is t kind ends f h pin rise fall m (Some worst.slack) ((worst, (w.0, refl)), λ x i. (w.1 x i).0)),
-            λ path test at within.
-                (ap (λ (xs : List Named). is_gt (nodes_cmp xs path)) names
-                ∙ first_path g num linked is t kind ends f h pin rise fall m worst w v path test at
-                (subst (λ (x : ℤ). Contains (path_slacks g.stored.design kind path) (test, x)) slack within)),
-          )
-
-  pub none_told : IsWorst (place_rank g.stored f.nodes) (places_before g f.nodes) (cone_of f rise fall) None → IsShown g.stored.design kind pin None
-  none_told w = slack_told g num linked is t kind ends f h pin rise fall m None w

@@ -1,35 +1,36 @@
 -- The laws of a pin's cone in the forms in which the search has them.
 
-use Rattle.std.proofs.Common.{◌≡◌, ℕ, ℤ, List, [], ◌∷◌, ◌++◌, map, Some, None, sym, ap, subst, ◌∙◌, append_assoc}
+use Rattle.std.proofs.Common.{◌≡◌, ℕ, ℤ, List, [], ◌∷◌, ◌++◌, map, Some, sym, ap, subst, ◌∙◌, append_assoc}
 use Rattle.timing_defs.specs.declared.kinds.Kind.{Kind}
 use Rattle.timing_defs.specs.declared.kinds.Split.{Split}
 use Rattle.timing_defs.specs.declared.rows.Path.{Path}
 use Rattle.timing_defs.specs.declared.rows.PathNode.{PathNode}
 use Rattle.timing_defs.specs.Netlist.{Node}
 use Rattle.timing_defs.specs.Kinds.{data_split}
-use Rattle.timing_rules.specs.Paths.{Named, named, IsShown}
+use Rattle.timing_rules.specs.Paths.{Named, named}
 use Rattle.netlist_store.specs.Linked.{IsLinked}
 use Rattle.netlist_store.specs.Numbering.{Stored, IsNumbered}
 use Rattle.pin_graph.specs.Nodes.{node_at}
 use Rattle.pin_graph.specs.Graphs.{Graphed, IsGraph}
 use Rattle.worst_walks.specs.declared.cones.Walk.{Walk}
-use Rattle.worst_walks.specs.Walks.{IsWalk, IsWorst}
+use Rattle.worst_walks.specs.Walks.{IsWalk}
+use Rattle.path_cones.specs.FanIns.{IsFanIn}
 use Rattle.path_search.specs.declared.cones.PinCone.{PinCone}
 use Rattle.path_search.specs.declared.counted.Counted.{Counted}
 use Rattle.path_search.specs.declared.shown.Ends.{Ends}
 use Rattle.path_search.specs.Counts.{counted_edge, IsCounted}
-use Rattle.path_search.specs.Ranks.{climb, place_rank, places_before}
+use Rattle.path_search.specs.Ranks.{climb}
 use Rattle.path_search.specs.WalkTimes.{times_after}
-use Rattle.path_search.specs.PinCones.{capture_edge, capture_part, launch_part, name_part, name_told, place_name, time_part, time_numbered, AreEndsFine, AreEndsOf, AreNodesOf, IsPinCone, IsSearchFine, IsWalkFine, IsWalkPath}
+use Rattle.path_search.specs.PinCones.{capture_edge, capture_part, launch_part, name_part, name_told, place_name, time_part, time_numbered, AreEndsFine, AreEndsOf, AreNodesOf, IsPinCone, IsPinPart, IsSearchFine, IsWalkFine, IsWalkPath}
 use Rattle.path_search.specs.WalkPaths.{AreWalkPaths}
 use Rattle.path_search.specs.WalkPlaces.{AreWalkPlaces}
 use Rattle.path_search.proofs.Setting.{timed}
 use Rattle.path_search.proofs.PinSearches.{cone_is, search_fine}
-use Rattle.path_search.proofs.PinPaths.{ends_fine, none_told, path_told, shown_told, walk_fine}
+use Rattle.path_search.proofs.PinPaths.{ends_fine, path_told, walk_fine}
 use Rattle.path_search.proofs.WalkPaths.{walk_paths}
 use Rattle.path_search.proofs.WalkPlaces.{walk_places}
 
-module _ (g : Graphed) (s : Stored) (same : g.stored ≡ s) (num : IsNumbered s) (linked : IsLinked s.design) (is : IsGraph g) (kind : Kind) (pin : List ℕ) (c : PinCone) (h : IsPinCone g kind pin c) where
+module _ (g : Graphed) (s : Stored) (same : g.stored ≡ s) (num : IsNumbered s) (linked : IsLinked s.design) (is : IsGraph g) (kind : Kind) (pin : List ℕ) (c : PinCone) (h : IsPinPart g kind pin c) where
   num_in : IsNumbered g.stored
   num_in = subst IsNumbered (sym same) num
 
@@ -38,11 +39,6 @@ module _ (g : Graphed) (s : Stored) (same : g.stored ≡ s) (num : IsNumbered s)
 
   pub search_as : IsSearchFine s g c
   search_as = subst (λ (x : Stored). IsSearchFine x g c) same (search_fine g num_in linked_in is kind pin c h)
-
-  pub walk_paths_as : AreWalkPaths g kind pin c
-  walk_paths_as =
-      subst (λ (x : PinCone). AreWalkPaths g kind pin x) (sym (cone_is g kind pin c h))
-      (walk_paths g num_in linked_in is (timed g num_in linked_in is) kind h.ends h.f h.fan pin h.rise h.fall h.made)
 
   pub walk_places_as : AreWalkPlaces g c
   walk_places_as =
@@ -80,25 +76,21 @@ module _ (g : Graphed) (s : Stored) (same : g.stored ≡ s) (num : IsNumbered s)
       (sym (cone_is g kind pin c h))
       (path_told g num_in linked_in is (timed g num_in linked_in is) kind h.ends h.f h.fan pin h.rise h.fall h.made))
 
-  pub shown_as : (worst : Walk) → IsWorst (place_rank s c.nodes) (places_before g c.nodes) c.cone (Some worst) → (p : Path) → IsWalkPath g kind pin c worst p
-      → IsShown s.design kind pin (Some p)
-  shown_as =
-      subst
-      (λ (x : Stored). (worst : Walk) → IsWorst (place_rank x c.nodes) (places_before g c.nodes) c.cone (Some worst) → (p : Path) → IsWalkPath g kind pin c worst p
-      → IsShown x.design kind pin (Some p))
-      same
-      (subst
-      (λ (x : PinCone). (worst : Walk) → IsWorst (place_rank g.stored x.nodes) (places_before g x.nodes) x.cone (Some worst) → (p : Path) → IsWalkPath g kind pin x worst p
-      → IsShown g.stored.design kind pin (Some p))
-      (sym (cone_is g kind pin c h))
-      (shown_told g num_in linked_in is (timed g num_in linked_in is) kind h.ends h.f h.fan pin h.rise h.fall h.made))
+-- the same of the cone of a whole fan-in
+module _ (g : Graphed) (s : Stored) (same : g.stored ≡ s) (num : IsNumbered s) (linked : IsLinked s.design) (is : IsGraph g) (kind : Kind) (pin : List ℕ) (c : PinCone) (h : IsPinCone g kind pin c) where
+  whole_num : IsNumbered g.stored
+  whole_num = subst IsNumbered (sym same) num
 
-  pub none_as : IsWorst (place_rank s c.nodes) (places_before g c.nodes) c.cone None → IsShown s.design kind pin None
-  none_as =
-      subst (λ (x : Stored). IsWorst (place_rank x c.nodes) (places_before g c.nodes) c.cone None → IsShown x.design kind pin None) same
-      (subst (λ (x : PinCone). IsWorst (place_rank g.stored x.nodes) (places_before g x.nodes) x.cone None → IsShown g.stored.design kind pin None)
-      (sym (cone_is g kind pin c h))
-      (none_told g num_in linked_in is (timed g num_in linked_in is) kind h.ends h.f h.fan pin h.rise h.fall h.made))
+  whole_linked : IsLinked g.stored.design
+  whole_linked = subst (λ (x : Stored). IsLinked x.design) (sym same) linked
+
+  fan : IsFanIn g kind h.part.ends h.part.f
+  fan = record { part = h.part.fan; closed = h.closed }
+
+  pub walk_paths_as : AreWalkPaths g kind pin c
+  walk_paths_as =
+      subst (λ (x : PinCone). AreWalkPaths g kind pin x) (sym (cone_is g kind pin c h.part))
+      (walk_paths g whole_num whole_linked is (timed g whole_num whole_linked is) kind h.part.ends h.part.f fan pin h.part.rise h.part.fall h.part.made)
 
 -- the nodes of a path that are added one after another
 pub nodes_as : (g : Graphed) (s : Stored) → g.stored ≡ s → (kind : Kind) (c : PinCone) (launch : ℕ) (k : Counted) (first : ℕ) (rest before : List ℕ) → before ≡ climb g launch

@@ -40,10 +40,10 @@ use Rattle.path_search.proofs.RankLaws.{Each, equal_told}
 use Rattle.path_search.proofs.NumberNames.{name_here, node_of_place, named_agree, rank_once, number_low, IsNodeNumber}
 use Rattle.path_search.proofs.Launching.{append_same, found_of, path_of, slacks_of_launch}
 use Rattle.path_search.proofs.Endings.{course_of as course_found}
-use Rattle.path_search.proofs.ConeTails.{IsPlace}
+use Rattle.path_search.proofs.ConeTails.{AreBack, IsPlace}
 use Rattle.path_search.proofs.ConeCourses.{IsPinCone, IsWalkCourse, course_of, unshifted, walk_of_course, walks_agree}
 use Rattle.path_search.proofs.ShownPaths.{ends_in, low_slack, slacks_are}
-use Rattle.path_search.proofs.FanCones.{naming, pin_cone, walk_course}
+use Rattle.path_search.proofs.FanCones.{all_back, naming, pin_cone, walk_course}
 
 -- a path of a walk is ranked as the walk
 pub path_ranked : (g : Graphed) (kind : Kind) (pin : List ℕ) (c : PinCone) (walk : Walk) (p : Path) → IsWalkPath g kind pin c walk p → ranked p ≡ ranked_walk g c walk
@@ -104,7 +104,7 @@ module _ (d : Design) (t : IsTimed d) (kind : Kind) (pin : List ℕ) (cone : Con
   ends_on : (walk : Walk) (v : IsWalkCourse d kind pin cone Near name walk) → ends_at pin (names_on walk v) ≡ true
   ends_on walk v = ends_in d t kind pin cone Near name walk v v.place.offer.edge v.place.offer.time v.place.offer.launched
 
-  module _ (is : IsPinCone d kind pin cone Near name) where
+  module _ (is : IsPinCone d kind pin cone Near name) (whole : AreBack d kind cone Near name) where
     -- the walk of a path
     record IsPathWalk (path : List Named) (s : ℤ) : Type 0 where
       walk : Walk
@@ -116,7 +116,7 @@ module _ (d : Design) (t : IsTimed d) (kind : Kind) (pin : List ℕ) (cone : Con
     walk_from : (path : List Named) (test : Test) (s : ℤ) → ends_at pin path ≡ true → Contains (path_slacks d kind path) (test, s) → IsPathWalk path s
     walk_from path test s e c =
         let f = found_of d t kind path (test, s) c in
-        let u = walk_of_course d kind pin cone Near name is f.edge f.launch f.time f.post f.rest (course_found d t kind pin path (test, s) e f) test s f.slack_in in
+        let u = walk_of_course d kind pin cone Near name is f.edge f.launch f.time f.post f.rest (course_found d t kind pin path (test, s) e f) test s f.slack_in whole in
         let v = course_of d kind pin cone Near name is u.walk u.is in
         let heads = cons_same v.launch.node u.place v.more u.more (sym v.nodes ∙ u.nodes) in
         let first = heads.0 in
@@ -152,7 +152,7 @@ module _ (g : Graphed) (num : IsNumbered g.stored) (linked : IsLinked g.stored.d
   IsPlaceOf n = IsPlace (cone_of f rise fall) Near_place n
 
   course : (walk : Walk) → IsWalk (cone_of f rise fall) walk → IsCourseOf walk
-  course walk w = walk_course g num linked is t kind ends f h pin rise fall m walk w
+  course walk w = walk_course g num linked is t kind ends f h.part pin rise fall m walk w
 
   named_walk : (walk : Walk) (v : IsCourseOf walk) → walk_names_of g made walk.nodes ≡ begin_names g.stored.design (name_at_place v.launch.node) ++ map name_at_place v.more
   named_walk walk v = ap (walk_names_of g made) v.nodes
@@ -167,7 +167,7 @@ module _ (g : Graphed) (num : IsNumbered g.stored) (linked : IsLinked g.stored.d
       let number : node_of f.nodes a ≡ node_of f.nodes b =
       rank_once g.stored (node_of f.nodes a) (node_of f.nodes b) (number_low g.stored num linked (node_of f.nodes a) p.1) (number_low g.stored num linked (node_of f.nodes b) q.1)
       (equal_told (place_rank g.stored f.nodes a) (place_rank g.stored f.nodes b) tied) in
-      h.once a b p.0 q.0 (sym (node_of_place f.nodes a p.0) ∙ number ∙ node_of_place f.nodes b q.0)
+      h.part.once a b p.0 q.0 (sym (node_of_place f.nodes a p.0) ∙ number ∙ node_of_place f.nodes b q.0)
 
   end_name : (tran : Tran) (node : Node) (end : WalkEnd) (e : IsEndOf g.stored kind f.nodes node end) → named node ≡ (pin, tran) → name_at_place end.node ≡ (pin, tran)
   end_name tran node end e is_named = ap (name_told g.stored) (node_of_place f.nodes end.node e.low) ∙ name_here g.stored (slice_index f.nodes end.node) node e.its ∙ is_named
@@ -218,15 +218,18 @@ module _ (g : Graphed) (num : IsNumbered g.stored) (linked : IsLinked g.stored.d
       )
 
   abbrev IsWalkOf : List Named → ℤ → Type 0
-  IsWalkOf path s = IsPathWalk g.stored.design t kind pin (cone_of f rise fall) Near_place name_at_place (pin_cone g num linked is t kind ends f h pin rise fall m) path s
+  IsWalkOf path s = IsPathWalk g.stored.design t kind pin (cone_of f rise fall) Near_place name_at_place (pin_cone g num linked is t kind ends f h.part pin rise fall m)
+      (all_back g num linked is t kind ends f h.part pin rise fall m h.closed) path s
 
   walk_in : (path : List Named) (test : Test) (s : ℤ) → ends_at pin path ≡ true → Contains (path_slacks g.stored.design kind path) (test, s) → IsWalkOf path s
   walk_in path test s e c =
-      walk_from g.stored.design t kind pin (cone_of f rise fall) Near_place name_at_place (pin_cone g num linked is t kind ends f h pin rise fall m) path test s e c
+      walk_from g.stored.design t kind pin (cone_of f rise fall) Near_place name_at_place (pin_cone g num linked is t kind ends f h.part pin rise fall m)
+      (all_back g num linked is t kind ends f h.part pin rise fall m h.closed) path test s e c
 
   slack_in : (path : List Named) (s : ℤ) (p : IsWalkOf path s) → IsPathSlack g.stored.design kind path p.walk.slack
   slack_in path s p =
-      slack_from g.stored.design t kind pin (cone_of f rise fall) Near_place name_at_place (pin_cone g num linked is t kind ends f h pin rise fall m) path s p
+      slack_from g.stored.design t kind pin (cone_of f rise fall) Near_place name_at_place (pin_cone g num linked is t kind ends f h.part pin rise fall m)
+      (all_back g num linked is t kind ends f h.part pin rise fall m h.closed) path s p
 
   whole_in : (r : Ranked) → IsRanked g.stored.design kind pin r → (walk : Walk) × IsWalk (cone_of f rise fall) walk × (ranked_walk g made walk ≡ r)
   whole_in r (e, (some, least)) = by (walk_in r.1 some.0 r.0 e some.1)
@@ -256,7 +259,7 @@ module _ (g : Graphed) (num : IsNumbered g.stored) (linked : IsLinked g.stored.d
           ≡ slice_cmp nat_cmp (ranks_along (place_rank g.stored f.nodes) (places_before g f.nodes) a) (ranks_along (place_rank g.stored f.nodes) (places_before g f.nodes) b) =
           (λ i. nodes_cmp (one i) (other i))
           ∙ sym (walks_agree g.stored.design (data_split kind) (cone_of f rise fall) Near_place Near_place name_at_place (place_rank g.stored f.nodes) (places_before g f.nodes)
-          (naming g num linked is t kind ends f h pin rise fall m) v.launch.node w.launch.node v.more w.more (v.place.low, v.place.near) (w.place.low, w.place.near) v.known w.known
+          (naming g num linked is t kind ends f h.part pin rise fall m) v.launch.node w.launch.node v.more w.more (v.place.low, v.place.near) (w.place.low, w.place.near) v.known w.known
           v.place.offer.edge v.place.offer.time v.place.offer.launched w.place.offer.edge w.place.offer.time w.place.offer.launched)
           ∙ (λ i. slice_cmp nat_cmp (map (place_rank g.stored f.nodes) (whole_list (places_before g f.nodes) (here i))) (map (place_rank g.stored f.nodes) (whole_list (places_before g f.nodes) (there i)))) in
           ap (λ (o : Ordering). is_lt (ordering_then (int_cmp a.slack b.slack) o)) agree

@@ -21,7 +21,7 @@ use Rattle.worst_walks.specs.declared.cones.WalkEnd.{WalkEnd}
 use Rattle.worst_walks.specs.declared.cones.Walk.{Walk}
 use Rattle.worst_walks.specs.Walks.{is_first, is_launched, ranks_along, whole_list, IsWalk}
 use Rattle.path_cones.specs.declared.fans.FanIn.{FanIn}
-use Rattle.path_cones.specs.FanIns.{IsFanIn}
+use Rattle.path_cones.specs.FanIns.{IsFanPart}
 use Rattle.path_search.specs.declared.cones.PinCone.{PinCone}
 use Rattle.path_search.specs.Runs.{IsTimed}
 use Rattle.path_search.specs.PinCones.{cone_of, place_name, IsMade}
@@ -44,7 +44,7 @@ launched_in : (launches : List Launch) (launch : Launch) → Contains launches l
 launched_in launches launch c = any_in (λ (l : Launch). l.node == launch.node) launches launch c (eq-eqb launch.node launch.node refl)
 
 module _ (g : Graphed) (num : IsNumbered g.stored) (linked : IsLinked g.stored.design) (is : IsGraph g) (t : IsTimed g.stored.design) (kind : Kind) (ends : List ℕ) (f : FanIn)
-    (h : IsFanIn g kind ends f) (pin : List ℕ) (rise fall : WalkEnd) (m : IsMade g.stored kind pin f rise fall) where
+    (h : IsFanPart g kind ends f) (pin : List ℕ) (rise fall : WalkEnd) (m : IsMade g.stored kind pin f rise fall) where
   abbrev made : PinCone
   made = record { nodes = f.nodes; cone = cone_of f rise fall }
 

@@ -1,6 +1,7 @@
 pub mod Counts
 pub mod Launches
 pub mod Lows
+pub mod NearCones
 pub mod NodeNets
 pub mod NodeSlacks
 pub mod Offers

@@ -23,7 +23,7 @@ use Rattle.worst_walks.specs.declared.cones.Walk.{Walk}
 use Rattle.worst_walks.specs.declared.cones.Cone.{Cone}
 use Rattle.worst_walks.specs.Walks.{count_of, delay_between, walk_sum, IsCone, IsOrdered}
 use Rattle.path_cones.specs.declared.fans.FanIn.{FanIn}
-use Rattle.path_cones.specs.FanIns.{IsFanIn}
+use Rattle.path_cones.specs.FanIns.{IsFanPart, IsWhole}
 use Rattle.path_search.specs.declared.cones.EndNodes.{EndNodes}
 use Rattle.path_search.specs.declared.cones.PinCone.{PinCone}
 use Rattle.path_search.specs.declared.counted.Counted.{Counted}
@@ -68,15 +68,21 @@ pub record IsMade (s : Stored) (kind : Kind) (pin : List ℕ) (f : FanIn) (rise 
   pub falls : IsEndOf s kind f.nodes fall_node fall
   pub fall_is : named fall_node ≡ (pin, Fall)
 
-pub record IsPinCone (g : Graphed) (kind : Kind) (pin : List ℕ) (c : PinCone) : Type 0 where
+-- the cone of a part of the fan-in: its walks are some of the tested paths to the pin
+pub record IsPinPart (g : Graphed) (kind : Kind) (pin : List ℕ) (c : PinCone) : Type 0 where
   pub f : FanIn
   pub ends : List ℕ
-  pub fan : IsFanIn g kind ends f
+  pub fan : IsFanPart g kind ends f
   pub rise : WalkEnd
   pub fall : WalkEnd
   pub made : IsMade g.stored kind pin f rise fall
   pub nodes : c.nodes ≡ f.nodes
   pub cone : c.cone ≡ cone_of f rise fall
+
+-- the cone of the whole fan-in: its walks are all of them
+pub record IsPinCone (g : Graphed) (kind : Kind) (pin : List ℕ) (c : PinCone) : Type 0 where
+  pub part : IsPinPart g kind pin c
+  pub closed : IsWhole g kind part.f
 
 -- the name of a node's number; a number of no node has none
 abbrev pub name_told : Stored → ℕ → Named
@@ -130,7 +136,7 @@ pub record AreEndsOf (c : PinCone) (walk : Walk) (ends : Ends) : Type 0 where
   pub end_is : ends.end ≡ slice_index c.nodes end.node
   pub offer_is : ends.offer ≡ launch.offer
 
--- what a search of a pin's cone asks for
+-- what a search of such a cone asks for
 pub record IsSearchFine (s : Stored) (g : Graphed) (c : PinCone) : Type 0 where
   pub cone : IsCone c.cone
   pub few : length c.nodes < 2 ^ 22
@@ -138,7 +144,7 @@ pub record IsSearchFine (s : Stored) (g : Graphed) (c : PinCone) : Type 0 where
   pub same : node_bound g.stored ≡ node_bound s
   pub ordered : IsOrdered c.cone (length c.nodes + node_bound g.stored) (place_rank s c.nodes)
 
--- what is told of a walk of a pin's cone
+-- what is told of a walk of such a cone
 pub record IsWalkFine (s : Stored) (c : PinCone) (walk : Walk) : Type 0 where
   pub cone : IsCone c.cone
   pub count : count_of c.cone ≡ length c.nodes

@@ -8,9 +8,9 @@ ghost use Rattle.pin_graph.specs.Nodes.{node_at, node_bound, pin_under};
 ghost use Rattle.path_cones.specs.Reaching.{is_among};
 ghost use Rattle.path_search.specs.Sources.{AreSources};
 ghost use Rattle.timing_rules.specs.Paths.{named};
-ghost use Rattle.path_cones.specs.FanIns.{IsFanIn};
+ghost use Rattle.path_cones.specs.FanIns.{IsFanPart};
 ghost use Rattle.path_search.specs.Offers.{AreOffers};
-ghost use Rattle.path_search.specs.PinCones.{cone_of, AreEndNodes, IsNamedNode, IsEndOf, IsPinCone};
+ghost use Rattle.path_search.specs.PinCones.{cone_of, AreEndNodes, IsNamedNode, IsEndOf, IsPinCone, IsPinPart};
 
 use crate::offers::{PinOffers, offers};
 use crate::sources::Sources;
@@ -23,9 +23,9 @@ use std::alloc::Global;
 use timing_defs::{Items, Kind, Name, Rows, Tran};
 use worst_walks::{Cone, Launch, WalkEnd};
 
-/// The cone of a pin's two nodes (the rise node's end first) with the launches of the paths to each, and
+/// A cone of a pin's two nodes (the rise node's end first) with the launches of the paths to each, and
 /// the graph's numbers of its nodes by their places. Delays and offers are in fs, delays for hold tests
-/// negated. Its walks are the tested paths to the pin: see `walk_path_laws`.
+/// negated. Its walks are tested paths to the pin, and those of `pin_cone` all of them: see `walk_path_laws`.
 #[derive(Drop)]
 pub struct PinCone {
     pub nodes: Items<u32>,
@@ -130,7 +130,8 @@ fn cone_with(alloc: Global, fan: FanIn, rise: WalkEnd, fall: WalkEnd) -> Result<
     })
 }
 
-/// The cone in which the paths to an endpoint are searched, over the fan-in of its nodes.
+/// The cone in which paths to an endpoint are searched, over a part of the fan-in of its nodes; all of them
+/// where it is the whole.
 pub(crate) fn cone_over<A: Rows + Delayed>(
     alloc: Global,
     sources: &Sources<'_, A>,
@@ -141,8 +142,10 @@ pub(crate) fn cone_over<A: Rows + Delayed>(
     requires sources { AreSources sources.now.store.now sources.now.graph.now
         (A.rows sources.now.arrivals.now) (A.delays sources.now.arrivals.now) sources.now.tree.now }
     requires ends { AreEndNodes sources.now.store.now endpoint.now ends }
-    requires fan { IsFanIn sources.now.graph.now sources.now.kind (ends.rise ∷ ends.fall ∷ []) fan }
-    ensures { IfOk result (IsPinCone sources.now.graph.now sources.now.kind endpoint.now) }
+    requires fan { IsFanPart sources.now.graph.now sources.now.kind (ends.rise ∷ ends.fall ∷ [])
+        fan }
+    ensures part { IfOk result (IsPinPart sources.now.graph.now sources.now.kind endpoint.now) }
+    ensures nodes { IfOk result (λ made. made.nodes ≡ fan.nodes) }
 {
     // The endpoint is asked for by the contract alone.
     let _ = endpoint;

@@ -3,8 +3,9 @@
 //! The fan-in of the endpoint's two nodes is a cone (`cones`), with what each of its nodes offers as the
 //! launch of paths to an end node (`offers`): the least slack by a test of the end node (`ends`,
 //! `test_slacks`), less the delays after the launch node (`launches`). Credits are found in the clock tree
-//! (`trees`). The worst walk of the cone is found in the order of the names of pins (`orders`), and a
-//! path is read off it (`shown`), by the test that counts (`counted`).
+//! (`trees`). For the worst path the cone is made of the nodes of walks with the least slack alone, which a
+//! search with a bound finds (`node_fans`, `near_cones`); its worst walk is found in the order of the names of
+//! pins (`orders`), and a path is read off it (`shown`), by the test that counts (`counted`).
 //!
 //! Other searches over an endpoint's paths take its cone (`pin_cone`), find walks of it in the order of
 //! names (`ByName`), and read a path off each (`path_of`, or where several are read `path_of_tested`, by
@@ -20,6 +21,7 @@ mod ends;
 mod launches;
 mod lows;
 mod names;
+mod near_cones;
 mod node_fans;
 mod offers;
 mod orders;

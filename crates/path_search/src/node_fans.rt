@@ -168,7 +168,7 @@ fn bounded(graph: &Graph)
 
 /// What a search in front of an end node asks for, bounded by arrivals. Fails for want of memory, and where
 /// the end node's level is `2^22` or more, above that of a sound design.
-fn end_fan<'a, A: Rows + Delayed>(
+pub(crate) fn end_fan<'a, A: Rows + Delayed>(
     alloc: Global,
     sources: &'a Sources<'a, A>,
     end: u32,

@@ -7,6 +7,7 @@ ghost use Rattle.timing_rules.specs.Reports.{endpoints};
 ghost use Rattle.timing_defs.specs.Netlist.{Node};
 ghost use Rattle.timing_rules.specs.Paths.{named, IsSlack, IsShown};
 ghost use Rattle.pin_graph.specs.Nodes.{node_at};
+ghost use Rattle.path_search.specs.NearCones.{AreNearNodes, IsNearCone};
 ghost use Rattle.path_search.specs.NodeSlacks.{IsEitherSlack};
 ghost use Rattle.arc_delays.specs.Delays.{AreDelays};
 ghost use Rattle.pin_graph.specs.RowTables.{AreRows};
@@ -14,14 +15,15 @@ ghost use Rattle.path_search.specs.Sources.{AreSources};
 ghost use Rattle.path_search.specs.Trees.{IsClockTree};
 ghost use Rattle.worst_walks.specs.Walks.{IsWorst};
 ghost use Rattle.path_search.specs.Ranks.{place_rank, places_before};
-ghost use Rattle.path_search.specs.PinCones.{AreEndNodes, IsPinCone, IsSearchFine, IsWalkPath};
+ghost use Rattle.path_search.specs.PinCones.{AreEndNodes, IsPinCone, IsPinPart, IsSearchFine};
 ghost use Rattle.path_search.specs.WalkPaths.{AreWalkPaths};
 ghost use Rattle.path_search.specs.WalkPlaces.{AreWalkPlaces};
 
-use crate::cones::{EndNodes, PinCone, end_nodes, pin_cone};
+use crate::cones::{EndNodes, PinCone, end_nodes};
+use crate::near_cones::{NearEnds, near_cone, near_ends};
 use crate::node_fans::either_slack;
 use crate::orders::ByName;
-use crate::shown::path_of;
+use crate::shown::path_in;
 use crate::sources::Sources;
 use arc_delays::Delayed;
 use netlist_store::Store;
@@ -142,6 +144,19 @@ fn pin_slack<A: Rows + Delayed>(
     Ok(in_fs(slack))
 }
 
+/// What a search of a part of a pin's cone asks for; the call does nothing.
+fn part_laws(store: &Store, graph: &Graph, kind: Kind, endpoint: &Name, search: &PinCone)
+    requires graph { graph.now.stored ≡ store.now }
+    requires search { IsPinPart graph.now kind endpoint.now search.now }
+    ensures { IsSearchFine store.now graph.now search.now }
+{
+    store.laws();
+    graph.laws();
+    let _ = kind;
+    let _ = endpoint;
+    let _ = search;
+}
+
 /// The worst walk of a cone, in the order of the names of pins.
 fn worst_in(
     alloc: Global,
@@ -152,12 +167,12 @@ fn worst_in(
     search: &PinCone,
 ) -> Result<Option<Walk>, Memory>
     requires graph { graph.now.stored ≡ store.now }
-    requires search { IsPinCone graph.now kind endpoint.now search.now }
+    requires search { IsPinPart graph.now kind endpoint.now search.now }
     ensures { IfOk result
         (IsWorst (place_rank store.now search.now.nodes) (places_before graph.now search.now.nodes)
         search.now.cone) }
 {
-    search_laws(store, graph, kind, endpoint, search);
+    part_laws(store, graph, kind, endpoint, search);
     let order = ByName {
         store,
         graph,
@@ -166,85 +181,63 @@ fn worst_in(
     worst_walk(alloc, &search.cone, &order)
 }
 
-/// That the path of a cone's worst walk is shown; the call does nothing.
-fn shown_law(
-    store: &Store,
-    graph: &Graph,
-    kind: Kind,
-    endpoint: &Name,
-    search: &PinCone,
-    worst: &Walk,
-    path: &Path,
-)
-    requires graph { graph.now.stored ≡ store.now }
-    requires search { IsPinCone graph.now kind endpoint.now search.now }
-    requires worst { IsWorst (place_rank store.now search.now.nodes)
-        (places_before graph.now search.now.nodes) search.now.cone (Some worst.now) }
-    requires path { IsWalkPath graph.now kind endpoint.now search.now worst.now path.now }
-    ensures { IsShown store.now.design kind endpoint.now (Some path.now) }
+/// The least slack that was found in fs, if any.
+fn least_of(found: &Option<NearEnds>) -> Option<i64>
+    ensures { result ≡ option_map (λ near. near.least) found.now }
 {
-    store.laws();
-    graph.laws();
-    let _ = kind;
-    let _ = endpoint;
-    let _ = search;
-    let _ = worst;
-    let _ = path;
+    match found {
+        Some(near) => Some(near.least),
+        None => None,
+    }
 }
 
-/// That no path is shown where a cone has no walk; the call does nothing.
-fn none_law(store: &Store, graph: &Graph, kind: Kind, endpoint: &Name, search: &PinCone)
-    requires graph { graph.now.stored ≡ store.now }
-    requires search { IsPinCone graph.now kind endpoint.now search.now }
-    requires none { IsWorst (place_rank store.now search.now.nodes)
-        (places_before graph.now search.now.nodes) search.now.cone None }
-    ensures { IsShown store.now.design kind endpoint.now None }
-{
-    store.laws();
-    graph.laws();
-    let _ = kind;
-    let _ = endpoint;
-    let _ = search;
-}
-
-/// The path that is shown of a cone's worst walk.
+/// The worst path to an endpoint by its least slack and the cone of the walks that have it.
 fn shown_in<A: Rows + Delayed>(
     alloc: Global,
     sources: &Sources<'_, A>,
     endpoint: &Name,
+    least: i64,
     search: &PinCone,
-) -> Result<Option<Path>, Memory>
+) -> Result<Path, Memory>
     requires sources { AreSources sources.now.store.now sources.now.graph.now
         (A.rows sources.now.arrivals.now) (A.delays sources.now.arrivals.now) sources.now.tree.now }
-    requires search { IsPinCone sources.now.graph.now sources.now.kind endpoint.now search.now }
-    ensures { IfOk result (IsShown sources.now.store.now.design sources.now.kind endpoint.now) }
+    requires slack { IsSlack sources.now.store.now.design sources.now.kind endpoint.now
+        (Some least) }
+    requires search { IsNearCone sources.now.graph.now sources.now.kind endpoint.now least
+        search.now }
+    ensures { IfOk result
+        (λ path. IsShown sources.now.store.now.design sources.now.kind endpoint.now (Some path)) }
 {
-    match worst_in(
-        alloc,
-        sources.store,
-        sources.graph,
-        sources.kind,
-        endpoint,
-        search,
-    )? {
-        None => {
-            none_law(sources.store, sources.graph, sources.kind, endpoint, search);
-            Ok(None)
-        }
-        Some(walk) => {
-            let path = path_of(alloc, sources, endpoint, search, &walk)?;
-            shown_law(
-                sources.store,
-                sources.graph,
-                sources.kind,
-                endpoint,
-                search,
-                &walk,
-                &path,
-            );
-            Ok(Some(path))
-        }
+    let store = sources.store;
+    let graph = sources.graph;
+    store.laws();
+    graph.laws();
+    let worst = worst_in(alloc, store, graph, sources.kind, endpoint, search)?;
+    match worst {
+        None => unreachable!(),
+        Some(walk) => path_in(alloc, sources, endpoint, search, &walk),
     }
+}
+
+/// The worst path to an endpoint by its least slack and the nodes of the walks that have it.
+fn shown_near<A: Rows + Delayed>(
+    alloc: Global,
+    sources: &Sources<'_, A>,
+    endpoint: &Name,
+    ends: EndNodes,
+    near: &NearEnds,
+) -> Result<Path, Memory>
+    requires sources { AreSources sources.now.store.now sources.now.graph.now
+        (A.rows sources.now.arrivals.now) (A.delays sources.now.arrivals.now) sources.now.tree.now }
+    requires ends { AreEndNodes sources.now.store.now endpoint.now ends }
+    requires near { AreNearNodes sources.now.graph.now sources.now.kind ends near.now }
+    requires slack { IsSlack sources.now.store.now.design sources.now.kind endpoint.now
+        (Some near.now.least) }
+    ensures { IfOk result
+        (λ path. IsShown sources.now.store.now.design sources.now.kind endpoint.now (Some path)) }
+{
+    let search = near_cone(alloc, sources, endpoint, ends, near)?;
+    shown_in(alloc, sources, endpoint, near.least, &search)
 }
 
 /// The slack of an endpoint for a kind of tests, in fs: the least over all paths to it that are tested;
@@ -326,8 +319,9 @@ pub fn worst_slacks<A: Rows + Delayed>(
 
 /// The worst path to an endpoint for a kind of tests: of least slack over all paths to it that are
 /// tested, and of those the first by its nodes; none where there is no such path. Times, slack and credit
-/// are in fs. Takes the time of the arcs of the endpoint's fan-in, of sorting its nodes and of its launches
-/// times the tests of the endpoint, and a list of the nodes of a path for each launch of least slack. The one error is want of memory.
+/// are in fs. Takes the time of the search for the least slack, and of the nodes of the walks that have it:
+/// of the arcs into these, of sorting them and of the launches among them times the tests of the endpoint, and
+/// a list of the nodes of a path for each launch of least slack. The one error is want of memory.
 pub fn worst_path<A: Rows + Delayed>(
     alloc: Global,
     store: &Store,
@@ -353,6 +347,14 @@ pub fn worst_path<A: Rows + Delayed>(
         tree,
         kind,
     };
-    let search = pin_cone(alloc, &sources, endpoint)?;
-    shown_in(alloc, &sources, endpoint, &search)
+    let ends = end_nodes(store, graph, endpoint);
+    let found = near_ends(alloc, &sources, ends)?;
+    slack_law(store, graph, kind, endpoint, ends, least_of(&found));
+    match found {
+        None => Ok(None),
+        Some(near) => {
+            let path = shown_near(alloc, &sources, endpoint, ends, &near)?;
+            Ok(Some(path))
+        }
+    }
 }

@@ -9,7 +9,7 @@ ghost use Rattle.worst_walks.specs.Walks.{most_nodes, count_of, delay_between, l
 ghost use Rattle.path_search.specs.Launches.{signed};
 ghost use Rattle.path_search.specs.Sources.{AreSources};
 ghost use Rattle.path_search.specs.Tested.{AreTested};
-ghost use Rattle.path_search.specs.PinCones.{capture_edge, capture_part, launch_part, name_part, name_told, place_name, time_part, time_numbered, IsNodePlace, IsWalkOn, AreEndsFine, AreEndsOf, AreNodesOf, IsWalkFine, IsWalkPath, IsPinCone};
+ghost use Rattle.path_search.specs.PinCones.{capture_edge, capture_part, launch_part, name_part, name_told, place_name, time_part, time_numbered, IsNodePlace, IsWalkOn, AreEndsFine, AreEndsOf, AreNodesOf, IsWalkFine, IsWalkPath, IsPinCone, IsPinPart};
 ghost use Rattle.path_search.specs.Counts.{counted_edge, IsCountedAt};
 ghost use Rattle.path_search.specs.Ranks.{climb};
 ghost use Rattle.path_search.specs.WalkTimes.{time_next, times_after};
@@ -326,7 +326,7 @@ fn walk_laws(
     walk: &Walk,
 )
     requires graph { graph.now.stored ≡ store.now }
-    requires search { IsPinCone graph.now kind endpoint.now search.now }
+    requires search { IsPinPart graph.now kind endpoint.now search.now }
     requires walk { IsWalk search.now.cone walk.now }
     ensures { IsWalkFine store.now search.now walk.now }
 {
@@ -349,7 +349,7 @@ fn end_laws(
     ends: Ends,
 )
     requires graph { graph.now.stored ≡ store.now }
-    requires search { IsPinCone graph.now kind endpoint.now search.now }
+    requires search { IsPinPart graph.now kind endpoint.now search.now }
     requires walk { IsWalk search.now.cone walk.now }
     requires ends { AreEndsOf search.now walk.now ends }
     ensures { AreEndsFine store.now graph.now kind ends }
@@ -378,7 +378,7 @@ fn path_law(
     path: &Path,
 )
     requires graph { graph.now.stored ≡ store.now }
-    requires search { IsPinCone graph.now kind endpoint.now search.now }
+    requires search { IsPinPart graph.now kind endpoint.now search.now }
     requires walk { IsWalk search.now.cone walk.now }
     requires ends { AreEndsOf search.now walk.now ends }
     requires counted { IsCountedAt store.now kind ends.launch ends.end ends.offer counted.now }
@@ -416,7 +416,7 @@ fn path_by<A: Rows + Delayed>(
 ) -> Result<Path, Memory>
     requires sources { AreSources sources.now.store.now sources.now.graph.now
         (A.rows sources.now.arrivals.now) (A.delays sources.now.arrivals.now) sources.now.tree.now }
-    requires search { IsPinCone sources.now.graph.now sources.now.kind endpoint.now search.now }
+    requires search { IsPinPart sources.now.graph.now sources.now.kind endpoint.now search.now }
     requires walk { IsWalk search.now.cone walk.now }
     requires ends { AreEndsOf search.now walk.now ends }
     requires counted { IsCountedAt sources.now.store.now sources.now.kind ends.launch ends.end
@@ -439,6 +439,31 @@ fn path_by<A: Rows + Delayed>(
     Ok(path)
 }
 
+/// The path of a walk of a part of an endpoint's cone, by the test that counts.
+pub(crate) fn path_in<A: Rows + Delayed>(
+    alloc: Global,
+    sources: &Sources<'_, A>,
+    endpoint: &Name,
+    search: &PinCone,
+    walk: &Walk,
+) -> Result<Path, Memory>
+    requires sources { AreSources sources.now.store.now sources.now.graph.now
+        (A.rows sources.now.arrivals.now) (A.delays sources.now.arrivals.now) sources.now.tree.now }
+    requires search { IsPinPart sources.now.graph.now sources.now.kind endpoint.now search.now }
+    requires walk { IsWalk search.now.cone walk.now }
+    ensures { IfOk result
+        (IsWalkPath sources.now.graph.now sources.now.kind endpoint.now search.now walk.now) }
+{
+    let store = sources.store;
+    let graph = sources.graph;
+    let kind = sources.kind;
+    walk_laws(store, graph, kind, endpoint, search, walk);
+    let ends = ends_of(search, walk);
+    end_laws(store, graph, kind, endpoint, search, walk, ends);
+    let counted = test_that_counts(alloc, sources, ends.launch, ends.end, ends.offer)?;
+    path_by(alloc, sources, endpoint, search, walk, ends, &counted)
+}
+
 /// The path of a walk of an endpoint's cone, by the test that counts. Times, slack and credit are in fs.
 /// Takes a step for each node of the path, each arc into a node of the walk and each test of the endpoint.
 /// The one error is want of memory.
@@ -456,14 +481,7 @@ pub fn path_of<A: Rows + Delayed>(
     ensures { IfOk result
         (IsWalkPath sources.now.graph.now sources.now.kind endpoint.now search.now walk.now) }
 {
-    let store = sources.store;
-    let graph = sources.graph;
-    let kind = sources.kind;
-    walk_laws(store, graph, kind, endpoint, search, walk);
-    let ends = ends_of(search, walk);
-    end_laws(store, graph, kind, endpoint, search, walk, ends);
-    let counted = test_that_counts(alloc, sources, ends.launch, ends.end, ends.offer)?;
-    path_by(alloc, sources, endpoint, search, walk, ends, &counted)
+    path_in(alloc, sources, endpoint, search, walk)
 }
 
 /// The path of a walk of an endpoint's cone, as `path_of` has it, by the endpoint's tests, which are found

@@ -1,6 +1,0 @@
-use Rattle.path_search.proofs.SearchForms.{none_as}
-use Rattle.path_search.proofs.searching.none_law.Goals as goal
-
-pub returns : goal.returns
-returns c =
-    none_as c.args.graph.now c.args.store.now c.requires.graph c.laws.ensures.numbered c.laws.ensures.linked c.laws-2.ensures c.args.kind c.args.endpoint.now c.args.search.now c.requires.search c.requires.none
