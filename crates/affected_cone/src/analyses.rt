@@ -100,9 +100,9 @@ impl Analysis {
     /// not lead to is shared with this analysis: slews and arrivals are evaluated where the ECO touched
     /// something or those before are others, required times where something after them is other, slacks
     /// where walks lead from what it touched, the clock tree where the ECO reaches a node of the clock network or
-    /// changes the network. Each evaluation of a node's arrivals or required times is a
-    /// step: at least as many as nodes that the ECO affects forward, at most as many as these and those
-    /// that it affects backward. Workers and faults as `full` has them.
+    /// changes the network. Each evaluation of a node's arrivals or required times is a step: as many as
+    /// nodes that the ECO affects forward and those that it affects backward, each once; where the update is
+    /// refused, at most as many. Workers and faults as `full` has them.
     pub fn update<H: Threads + Sync, G: Gate, L>(
         &self,
         rt: &H,
@@ -129,6 +129,12 @@ impl Analysis {
             (record { insts = touched.now.insts; nets = touched.now.nets }) + backward_count
             self.now.stored.design store.now.design
             (record { insts = touched.now.insts; nets = touched.now.nets }) }
+        ensures exact { OnOk result
+            (steps.new
+            ≡ steps.old + forward_count self.now.stored.design store.now.design
+            (record { insts = touched.now.insts; nets = touched.now.nets }) + backward_count
+            self.now.stored.design store.now.design
+            (record { insts = touched.now.insts; nets = touched.now.nets })) }
         ensures refused { IfErr result (IsRangeFault store.now.design) }
     {
         store.laws();

@@ -141,22 +141,17 @@ fn required_after<H: Threads + Sync, G: Gate, L>(
     ensures least { steps.old ≤ steps.new }
     ensures steps { steps.new ≤ steps.old + backward_count base.now.graph.now.stored.design
         store.now.design (touch_of touched.now) }
+    ensures exact { OnOk result
+        (steps.new
+        ≡ steps.old + backward_count base.now.graph.now.stored.design store.now.design
+        (touch_of touched.now)) }
     ensures refused { IfErr result (IsRangeFault store.now.design) }
 {
     let changed = changed(alloc, base, graph, touched, arrivals, reach)?;
+    let seeds = reach.seeds.as_slice();
+    let moved = changed.as_slice();
     let required = base.required.update(
-        rt,
-        alloc,
-        base.graph,
-        store,
-        graph,
-        touched,
-        arrivals,
-        reach.seeds.as_slice(),
-        changed.as_slice(),
-        workers,
-        gate,
-        steps,
+        rt, alloc, base.graph, store, graph, touched, arrivals, seeds, moved, workers, gate, steps,
     );
     drop(changed);
     required
@@ -329,6 +324,10 @@ fn with_arrivals<H: Threads + Sync, G: Gate, L>(
     ensures least { steps.old ≤ steps.new }
     ensures steps { steps.new ≤ steps.old + backward_count base.now.graph.now.stored.design
         store.now.design (touch_of touched.now) }
+    ensures exact { OnOk result
+        (steps.new
+        ≡ steps.old + backward_count base.now.graph.now.stored.design store.now.design
+        (touch_of touched.now)) }
     ensures refused { IfErr result (IsRangeFault store.now.design) }
 {
     match required_after(
@@ -375,6 +374,11 @@ fn find_behind<H: Threads + Sync, G: Gate, L>(
     ensures steps { steps.new ≤ steps.old + forward_count base.now.graph.now.stored.design
         store.now.design (touch_of touched.now) + backward_count base.now.graph.now.stored.design
         store.now.design (touch_of touched.now) }
+    ensures exact { OnOk result
+        (steps.new
+        ≡ steps.old + forward_count base.now.graph.now.stored.design store.now.design
+        (touch_of touched.now) + backward_count base.now.graph.now.stored.design store.now.design
+        (touch_of touched.now)) }
     ensures refused { IfErr result (IsRangeFault store.now.design) }
 {
     let seeds = reach.seeds.as_slice();
@@ -412,6 +416,11 @@ pub(crate) fn find_after<H: Threads + Sync, G: Gate, L>(
     ensures steps { steps.new ≤ steps.old + forward_count base.now.graph.now.stored.design
         store.now.design (touch_of touched.now) + backward_count base.now.graph.now.stored.design
         store.now.design (touch_of touched.now) }
+    ensures exact { OnOk result
+        (steps.new
+        ≡ steps.old + forward_count base.now.graph.now.stored.design store.now.design
+        (touch_of touched.now) + backward_count base.now.graph.now.stored.design store.now.design
+        (touch_of touched.now)) }
     ensures refused { IfErr result (IsRangeFault store.now.design) }
 {
     let reach = reach_of(alloc, base.graph, graph, touched)?;

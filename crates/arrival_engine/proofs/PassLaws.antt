@@ -36,6 +36,7 @@ use Rattle.arc_delays.specs.declared.tables.ArcDelay.{ArcDelay}
 use Rattle.arc_delays.specs.Delays.{AreInto, AreAllInto, AreWithin}
 use Rattle.arc_delays.proofs.RangeLaws.{within}
 use Rattle.arrival_engine.specs.declared.nodes.NodeAnswer.{NodeAnswer}
+use Rattle.arrival_engine.specs.declared.passes.Counted.{Counted}
 use Rattle.arrival_engine.specs.declared.tables.Arrivals.{Arrivals}
 use Rattle.arrival_engine.specs.Analysed.{IsNodeRow, IsNodeFault, IsDone, AreReady, AreDoneBelow, AreDelayedBelow, AreOfLevel, IsNodeAnswer, IsAnswer, IsLevelAnswer, IsPlan, AreTables}
 use Rattle.arrival_engine.specs.Leveled.{nodes_of, AreLevels}
@@ -217,7 +218,7 @@ module _ (g : Graphed) (level : ℕ) where
         lower n other under = elim (cases_lt n level) [ inl l ↦ l | inr m ↦ absurd (other (omega (arith, m, under))) ]
 
     -- the next node and its answer
-    module _ (at n : ℕ) (answer : Result NodeAnswer Fault) (answers rest : List (Result NodeAnswer Fault)) (e : answers ≡ answer ∷ rest) (low : at < length nodes)
+    module _ {L : Type 0} (at n : ℕ) (answer : Counted L) (answers rest : List (Counted L)) (e : answers ≡ answer ∷ rest) (low : at < length nodes)
         (here : n ≡ get_or nodes at n) (m : IsMap (IsLevelAnswer g level) (drop at nodes) answers) where
       pub next_node : (n < node_bound g.stored) × (level_at g n ≡ level)
       next_node = of.sound n (at, low, sym here)
@@ -228,16 +229,16 @@ module _ (g : Graphed) (level : ℕ) where
       next_both : IsMap (IsLevelAnswer g level) (n ∷ drop (at + 1) nodes) (answer ∷ rest)
       next_both =
           subst (λ (xs : List ℕ). IsMap (IsLevelAnswer g level) xs (answer ∷ rest)) next_left
-          (subst (λ (rs : List (Result NodeAnswer Fault)). IsMap (IsLevelAnswer g level) (drop at nodes) rs) e m)
+          (subst (λ (rs : List (Counted L)). IsMap (IsLevelAnswer g level) (drop at nodes) rs) e m)
 
-      next_answer : IsAnswer g n answer
-      next_answer = next_both.0 next_node.0 next_node.1
+      next_answer : IsAnswer g n answer.answer
+      next_answer = (next_both.0 next_node.0 next_node.1).0
 
       -- a fault is that of an origin
-      pub next_fails : (f : Fault) → answer ≡ Err f → IsRangeFault g.stored.design f
+      pub next_fails : (f : Fault) → answer.answer ≡ Err f → IsRangeFault g.stored.design f
       next_fails f err = subst (λ (r : Result NodeAnswer Fault). IsAnswer g n r) err next_answer
 
-      pub next_put : (told : NodeAnswer) → answer ≡ Ok told → (rows rows' : List NodeRow) (delays delays' : List (List ArcDelay))
+      pub next_put : (told : NodeAnswer) → answer.answer ≡ Ok told → (rows rows' : List NodeRow) (delays delays' : List (List ArcDelay))
           → rows' ≡ slice_set rows n told.row → delays' ≡ slice_set delays n told.delays → AreDoneBut (drop at nodes) rows delays
           → IsMap (IsLevelAnswer g level) (drop (at + 1) nodes) rest × AreDoneBut (drop (at + 1) nodes) rows' delays'
       next_put told ok rows rows' delays delays' put_row put_delays had = (
@@ -318,6 +319,22 @@ full_told g s same num linked rows levels are done nets =
       all_rows g n l rows (length levels) done are.low,
       all_fine g n l rows (length levels) done are.low (subst (λ (x : Stored). (net : ℕ) → is_wide_net x net ≡ false) (sym same) nets),
     )
+
+-- and each node is ready
+pub full_ready : (g : Graphed) (s : Stored) → g.stored ≡ s → IsNumbered s → IsLinked s.design → IsGraph g → (rows : List NodeRow) (levels : List (List ℕ))
+    → AreLevels g levels → AreDoneBelow g rows (length levels) → (k : ℕ) → k < node_bound g.stored → AreReady g rows k
+full_ready g s same num linked is rows levels are done k low = record {
+  before = λ arc c.
+      (let a = ((is.ins k low).sound arc c).0 in
+      let n : IsNumbered g.stored = subst (λ (x : Stored). IsNumbered x) (sym same) num in
+      let l : IsLinked g.stored.design = subst (λ (x : Stored). IsLinked x.design) (sym same) linked in
+      let under = node_below g.stored a.from arc.from (has_node g.stored n l arc.from a.from a.from_number) in
+      done.done arc.from under (are.low arc.from under));
+}
+
+pub ready_of : (g : Graphed) (s : Stored) → g.stored ≡ s → (rows : List NodeRow) → ((k : ℕ) → k < node_bound g.stored → AreReady g rows k)
+    → (k : ℕ) → k < node_bound s → AreReady g rows k
+ready_of g s same rows all k low = all k (subst (λ (x : Stored). k < node_bound x) (sym same) low)
 
 -- no quantity of a row or of an arc leaves its limit
 pub full_within : (g : Graphed) (s : Stored) → g.stored ≡ s → IsNumbered s → IsLinked s.design → IsGraph g → (wires : Wires) → AreWires s wires

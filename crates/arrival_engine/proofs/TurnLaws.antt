@@ -1,6 +1,6 @@
 -- The loops of a turn of an update: what is told of nodes, what they mark, and what is put.
 
-use Rattle.std.proofs.Common.{◌≡◌, ℕ, suc, ◌+◌, ◌<◌, Bool, true, false, ◌||◌, List, [], ◌∷◌, ◌++◌, map, take, drop, length, get_or, ℤ, Option, None, Some, Result, Ok, Err, refl, sym, ap, subst, ◌∙◌, arith}
+use Rattle.std.proofs.Common.{◌≡◌, ℕ, suc, ◌+◌, ◌<◌, ◌≤◌, Bool, true, false, ◌||◌, List, [], ◌∷◌, ◌++◌, map, take, drop, length, get_or, ℤ, Option, None, Some, Result, Ok, Err, refl, sym, ap, subst, ◌∙◌, arith}
 use Rattle.std.specs.Prelude.{All, OnOk, nat_eq, ◌&&◌, slice_get, slice_set}
 use Rattle.std.specs.List.{list_any}
 use Rattle.std.specs.Ordering.{int_eq}
@@ -22,12 +22,13 @@ use Rattle.pin_graph.specs.Nodes.{node_bound}
 use Rattle.pin_graph.specs.Graphs.{Graphed, level_at}
 use Rattle.pin_graph.specs.RowTables.{row_numbered, IsRangeFault}
 use Rattle.arrival_engine.specs.declared.nodes.NodeAnswer.{NodeAnswer}
+use Rattle.arrival_engine.specs.declared.passes.Counted.{Counted}
 use Rattle.arrival_engine.specs.Analysed.{IsNodeAnswer, IsAnswer, IsLevelAnswer}
 use Rattle.arrival_engine.specs.Updated.{same_delay, rows_told}
 
--- the first answer that is left is told
-module _ (g : Graphed) (level : ℕ) (nodes : List ℕ) (all : All (λ n. (n < node_bound g.stored) × (level_at g n ≡ level)) nodes)
-    (found : List NodeAnswer) (items rest : List (Result NodeAnswer Fault)) (answer : Result NodeAnswer Fault)
+-- the first answer that is left is told, and counts one step
+module _ {L : Type 0} (g : Graphed) (level : ℕ) (nodes : List ℕ) (all : All (λ n. (n < node_bound g.stored) × (level_at g n ≡ level)) nodes)
+    (found : List NodeAnswer) (items rest : List (Counted L)) (answer : Counted L)
     (many : length found + length items ≡ length nodes) (left : IsMap (IsLevelAnswer g level) (drop (length found) nodes) items)
     (done : IsMap (IsNodeAnswer g) (take (length found) nodes) found) (e : items ≡ answer ∷ rest) where
   low : length found < length nodes
@@ -39,16 +40,20 @@ module _ (g : Graphed) (level : ℕ) (nodes : List ℕ) (all : All (λ n. (n < n
   both : IsMap (IsLevelAnswer g level) (get_or nodes (length found) 0 ∷ drop (length found + 1) nodes) (answer ∷ rest)
   both =
       subst (λ (xs : List ℕ). IsMap (IsLevelAnswer g level) xs (answer ∷ rest)) (drop_more nodes (length found) 0 low)
-      (subst (λ (rs : List (Result NodeAnswer Fault)). IsMap (IsLevelAnswer g level) (drop (length found) nodes) rs) e left)
+      (subst (λ (rs : List (Counted L)). IsMap (IsLevelAnswer g level) (drop (length found) nodes) rs) e left)
 
-  here : IsAnswer g (get_or nodes (length found) 0) answer
+  here : IsAnswer g (get_or nodes (length found) 0) answer.answer × (answer.steps ≡ 1)
   here = let at = all (length found) 0 low in both.0 at.0 at.1
 
-  pub told_fails : (f : Fault) → answer ≡ Err f → IsRangeFault g.stored.design f
-  told_fails f err = subst (λ (r : Result NodeAnswer Fault). IsAnswer g (get_or nodes (length found) 0) r) err here
+  pub told_fails : (f : Fault) → answer.answer ≡ Err f → IsRangeFault g.stored.design f
+  told_fails f err = subst (λ (r : Result NodeAnswer Fault). IsAnswer g (get_or nodes (length found) 0) r) err here.0
 
-  module _ (a : NodeAnswer) (ok : answer ≡ Ok a) (found' : List NodeAnswer) (pushed : found' ≡ found ++ a ∷ []) where
-    longer : length found' ≡ length found + 1
+  -- steps that counted those before it count it too
+  pub told_counts : (old steps steps' : ℕ) → steps ≡ old + length found → steps' ≡ steps + answer.steps → (steps' ≡ old + length found + 1) × (steps' ≤ old + length nodes)
+  told_counts old steps steps' was more = let one = here.1 in (omega (arith, was, more, one), omega (arith, was, more, one, low))
+
+  module _ (a : NodeAnswer) (ok : answer.answer ≡ Ok a) (found' : List NodeAnswer) (pushed : found' ≡ found ++ a ∷ []) where
+    pub longer : length found' ≡ length found + 1
     longer = ap length pushed ∙ one found
       where
         one : (xs : List NodeAnswer) → length (xs ++ a ∷ []) ≡ length xs + 1
@@ -66,7 +71,7 @@ module _ (g : Graphed) (level : ℕ) (nodes : List ℕ) (all : All (λ n. (n < n
         subst (λ (k : ℕ). IsMap (IsNodeAnswer g) (take k nodes) found') (sym longer)
         (map-more (IsNodeAnswer g) nodes (length found) (get_or nodes (length found) 0) found found' a low
         (get_or_default nodes (length found) 0 (get_or nodes (length found) 0) low) done
-        (subst (λ (r : Result NodeAnswer Fault). IsAnswer g (get_or nodes (length found) 0) r) ok here) pushed)
+        (subst (λ (r : Result NodeAnswer Fault). IsAnswer g (get_or nodes (length found) 0) r) ok here.0) pushed)
 
 -- answers that are told are as many as the nodes, and their rows those of the store
 pub told_rows : (g : Graphed) (nodes : List ℕ) (answers : List NodeAnswer) → IsMap (IsNodeAnswer g) nodes answers → rows_told answers ≡ map (row_numbered g.stored) nodes

@@ -29,6 +29,7 @@ use Rattle.pin_graph.specs.RowTables.{row_numbered, IsRangeFault}
 use Rattle.arc_delays.specs.declared.tables.ArcDelay.{ArcDelay}
 use Rattle.arc_delays.specs.Delays.{AreInto}
 use Rattle.arrival_engine.specs.declared.nodes.NodeAnswer.{NodeAnswer}
+use Rattle.arrival_engine.specs.declared.passes.Counted.{Counted}
 use Rattle.arrival_engine.specs.declared.tables.Arrivals.{Arrivals}
 
 -- the tables of an analysis are those of the store, and no quantity of a net leaves its limit
@@ -112,9 +113,9 @@ abbrev pub IsAnswer : Graphed → ℕ → Result NodeAnswer Fault → Type 0
 IsAnswer g node (Ok told) = IsNodeAnswer g node told
 IsAnswer g node (Err fault) = IsRangeFault g.stored.design fault
 
--- what is answered for a number of a level; nothing is asked of other numbers
-abbrev pub IsLevelAnswer : Graphed → ℕ → ℕ → Result NodeAnswer Fault → Type 0
-IsLevelAnswer g level node answer = node < node_bound g.stored → level_at g node ≡ level → IsAnswer g node answer
+-- what is answered for a number of a level, and one step that it counts; nothing is asked of other numbers
+abbrev pub IsLevelAnswer : {L : Type 0} → Graphed → ℕ → ℕ → Counted L → Type 0
+IsLevelAnswer g level node c = node < node_bound g.stored → level_at g node ≡ level → IsAnswer g node c.answer × (c.steps ≡ 1)
 
 -- the nodes of a level, and no others
 pub record AreOfLevel (g : Graphed) (level : ℕ) (items : List ℕ) : Type 0 where

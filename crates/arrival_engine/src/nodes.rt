@@ -119,15 +119,16 @@ fn sourced(
     Held::of(alloc, all)
 }
 
-/// The row of a node over the rows of the nodes before it, with the delays of the arcs into it, in time
-/// of its arcs; an empty row and no delays of a number that is of no node. `OutOfRange` at the node's pin
-/// where a quantity that the node brings leaves its limit.
-pub(crate) fn evaluated(
+/// The row of a node over the rows of the nodes before it, with the delays of the arcs into it, counted
+/// as one step, in time of its arcs; an empty row and no delays of a number that is of no node.
+/// `OutOfRange` at the node's pin where a quantity that the node brings leaves its limit.
+pub(crate) fn evaluated<L>(
     alloc: Global,
     setting: &Setting<'_>,
     graph: &Graph,
     rows: &CowTable<NodeRow>,
     node: u32,
+    steps: &mut Steps<L>,
 ) -> Result<NodeAnswer, Fault>
     requires plan { IsPlan setting.now graph.now }
     requires node { node < node_bound graph.now.stored }
@@ -135,7 +136,9 @@ pub(crate) fn evaluated(
     ensures row { IfOk result (λ found. IsNodeRow graph.now.stored node found.row) }
     ensures delays { IfOk result (λ found. AreInto graph.now node found.delays) }
     ensures err { IfErr result (IsNodeFault graph.now.stored node) }
+    ensures steps { steps.new ≡ steps.old + 1 }
 {
+    steps.tick();
     setting.store.laws();
     graph.laws();
     match place_of(graph, node) {
@@ -172,7 +175,7 @@ pub fn eval_node<L>(
     ensures err { IfErr result (IsNodeFault store.now node) }
     ensures steps { steps.new ≡ steps.old + 1 }
 {
-    steps.tick();
-    let found = evaluated(alloc, &rows.setting(store), graph, &rows.rows, node)?;
+    let setting = rows.setting(store);
+    let found = evaluated(alloc, &setting, graph, &rows.rows, node, steps)?;
     Ok(found.row)
 }

@@ -1,11 +1,12 @@
 //! The pass over the levels of a graph.
 
-ghost use Rattle.std.specs.Prelude.{ℕ, ◌≡◌, ◌+◌, ◌<◌, ◌≤◌, ◌^◌, ⊤, length, slice_set, IfOk, IfErr, OnOk};
+ghost use Rattle.std.specs.Prelude.{ℕ, ◌≡◌, ◌+◌, ◌<◌, ◌≤◌, ◌^◌, ⊤, All, length, slice_set, IfOk, IfErr, OnOk};
 ghost use Rattle.level_workers.specs.Mapped.{IsMap};
 ghost use Rattle.pin_graph.specs.Nodes.{node_bound};
+ghost use Rattle.pin_graph.specs.Graphs.{level_at};
 ghost use Rattle.pin_graph.specs.RowTables.{AreRows, AreRowsFine, IsRangeFault};
 ghost use Rattle.arc_delays.specs.Delays.{AreAllInto, AreWithin};
-ghost use Rattle.arrival_engine.specs.Analysed.{IsPlan, AreDoneBelow, AreDelayedBelow, AreOfLevel, IsLevelAnswer};
+ghost use Rattle.arrival_engine.specs.Analysed.{IsPlan, AreDoneBelow, AreDelayedBelow, AreOfLevel, AreReady, IsNodeAnswer, IsAnswer, IsLevelAnswer};
 ghost use Rattle.arrival_engine.specs.Leveled.{AreLevels};
 
 use crate::nodes::{NodeAnswer, empty_row, evaluated, no_answer};
@@ -16,7 +17,7 @@ use level_workers::{map_level, worth_threads};
 use node_rows::Setting;
 use pin_graph::Graph;
 use sta_outside::Gate;
-use sta_units::Memory;
+use sta_units::{Memory, Steps};
 use std::alloc::Global;
 use std::thread::Threads;
 use timing_defs::{Fault, Items, NodeRow};
@@ -28,19 +29,28 @@ pub(crate) struct Found {
     pub(crate) delays: ArcDelays,
 }
 
-/// The row of a node of a level and the delays of the arcs into it, over the rows of the lower ones.
-/// Nothing is asked of other numbers.
-fn level_answer(
+/// What is answered for a node of a level, with a count of its own.
+#[derive(Drop)]
+pub(crate) struct Counted<L> {
+    pub(crate) answer: Result<NodeAnswer, Fault>,
+    pub(crate) steps: Steps<L>,
+}
+
+/// The row of a node of a level and the delays of the arcs into it, over the rows of the lower ones,
+/// counted as one step. Nothing is asked of other numbers.
+fn level_answer<L>(
     alloc: Global,
     setting: &Setting<'_>,
     graph: &Graph,
     rows: &CowTable<NodeRow>,
     level: u32,
     node: u32,
+    steps: &mut Steps<L>,
 ) -> Result<NodeAnswer, Fault>
     requires plan { IsPlan setting.now graph.now }
     requires done { AreDoneBelow graph.now rows.now level }
-    ensures { IsLevelAnswer graph.now level node result }
+    ensures { node < node_bound graph.now.stored → level_at graph.now node ≡ level
+        → IsAnswer graph.now node result × (steps.new ≡ steps.old + 1) }
 {
     setting.store.laws();
     graph.laws();
@@ -50,11 +60,30 @@ fn level_answer(
     if graph.level(node) != level {
         return Ok(no_answer(alloc)?);
     }
-    evaluated(alloc, setting, graph, rows, node)
+    evaluated(alloc, setting, graph, rows, node, steps)
 }
 
-/// The answers for the nodes of a level, in their order, by several threads.
-pub(crate) fn level_answers<H: Threads + Sync, G: Gate>(
+/// The answer for a node of a level, with a count of its own.
+fn one_counted<L>(
+    alloc: Global,
+    setting: &Setting<'_>,
+    graph: &Graph,
+    rows: &CowTable<NodeRow>,
+    level: u32,
+    node: u32,
+) -> Counted<L>
+    requires plan { IsPlan setting.now graph.now }
+    requires done { AreDoneBelow graph.now rows.now level }
+    ensures { IsLevelAnswer graph.now level node result }
+{
+    let mut steps = Steps::none();
+    let answer = level_answer(alloc, setting, graph, rows, level, node, &mut steps);
+    Counted { answer, steps }
+}
+
+/// The answers for the nodes of a level, in their order, by several threads, each with a count of its
+/// own.
+fn all_counted<H: Threads + Sync, G: Gate, L>(
     rt: &H,
     alloc: Global,
     setting: &Setting<'_>,
@@ -64,19 +93,87 @@ pub(crate) fn level_answers<H: Threads + Sync, G: Gate>(
     level: u32,
     nodes: &[u32],
     gate: &G,
-) -> Result<Items<Result<NodeAnswer, Fault>>, Memory>
+) -> Result<Items<Counted<L>>, Memory>
     requires some { 1 ≤ workers }
     requires most { workers ≤ 32 }
     requires plan { IsPlan setting.now graph.now }
     requires done { AreDoneBelow graph.now rows.now level }
     ensures { IfOk result (IsMap (IsLevelAnswer graph.now level) nodes.now) }
 {
-    let evaluate = |node: &u32| -> Result<Result<NodeAnswer, Fault>, Memory>
+    let evaluate = |node: &u32| -> Result<Counted<L>, Memory>
         requires { IsPlan setting.now graph.now × AreDoneBelow graph.now rows.now level }
         ensures { IfOk result (IsLevelAnswer graph.entry.now level node.now) }
-    { Ok(level_answer(alloc, setting, graph, rows, level, *node)) };
+    { Ok(one_counted(alloc, setting, graph, rows, level, *node)) };
     let threads = worth_threads(nodes.len(), workers);
     map_level(rt, alloc, threads, level, nodes, &evaluate, gate)
+}
+
+/// The answers for the nodes of a level, in their order, and the steps that each counted; the first fault
+/// among them.
+fn told<L>(
+    alloc: Global,
+    graph: &Graph,
+    level: u32,
+    nodes: &[u32],
+    answers: Items<Counted<L>>,
+    steps: &mut Steps<L>,
+) -> Result<Items<NodeAnswer>, Fault>
+    requires nodes { All (λ n. (n < node_bound graph.now.stored) × (level_at graph.now n ≡ level))
+        nodes.now }
+    requires answers { IsMap (IsLevelAnswer graph.now level) nodes.now answers }
+    ensures told { IfOk result (IsMap (IsNodeAnswer graph.now) nodes.now) }
+    ensures err { IfErr result (IsRangeFault graph.now.stored.design) }
+    ensures steps { OnOk result (steps.new ≡ steps.old + length nodes.now) }
+    ensures least { steps.old ≤ steps.new }
+    ensures few { steps.new ≤ steps.old + length nodes.now }
+{
+    // The graph, the level and the nodes are asked for by the contract alone.
+    let _ = graph;
+    let _ = level;
+    let _ = nodes;
+    let mut found = Items::new(alloc);
+    for counted in answers.into_vec() {
+        let Counted {
+            answer,
+            steps: more,
+        } = counted;
+        steps.add(more);
+        match answer {
+            Ok(answer) => found.push(answer)?,
+            Err(refused) => return Err(refused),
+        }
+    }
+    Ok(found)
+}
+
+/// The answers for the nodes of a level, in their order, by several threads, each evaluation counted as a
+/// step; the first fault among them.
+pub(crate) fn level_answers<H: Threads + Sync, G: Gate, L>(
+    rt: &H,
+    alloc: Global,
+    setting: &Setting<'_>,
+    graph: &Graph,
+    rows: &CowTable<NodeRow>,
+    workers: u32,
+    level: u32,
+    nodes: &[u32],
+    gate: &G,
+    steps: &mut Steps<L>,
+) -> Result<Items<NodeAnswer>, Fault>
+    requires some { 1 ≤ workers }
+    requires most { workers ≤ 32 }
+    requires plan { IsPlan setting.now graph.now }
+    requires nodes { All (λ n. (n < node_bound graph.now.stored) × (level_at graph.now n ≡ level))
+        nodes.now }
+    requires done { AreDoneBelow graph.now rows.now level }
+    ensures told { IfOk result (IsMap (IsNodeAnswer graph.now) nodes.now) }
+    ensures err { IfErr result (IsRangeFault graph.now.stored.design) }
+    ensures steps { OnOk result (steps.new ≡ steps.old + length nodes.now) }
+    ensures least { steps.old ≤ steps.new }
+    ensures few { steps.new ≤ steps.old + length nodes.now }
+{
+    let answers = all_counted(rt, alloc, setting, graph, rows, workers, level, nodes, gate)?;
+    told(alloc, graph, level, nodes, answers, steps)
 }
 
 /// Moves what is answered for a node to its place.
@@ -97,13 +194,13 @@ fn put_answer(
 
 /// Moves the answers for the nodes of a level to their places, in turn; refuses with the first fault
 /// among them.
-fn put_answers(
+fn put_answers<L>(
     graph: &Graph,
     rows: &mut CowTable<NodeRow>,
     delays: &mut ArcDelays,
     level: u32,
     nodes: &[u32],
-    answers: Items<Result<NodeAnswer, Fault>>,
+    answers: Items<Counted<L>>,
 ) -> Result<(), Fault>
     requires nodes { AreOfLevel graph.now level nodes.now }
     requires answers { IsMap (IsLevelAnswer graph.now level) nodes.now answers }
@@ -117,7 +214,8 @@ fn put_answers(
     let _ = graph;
     let _ = level;
     let mut at = 0;
-    for answer in answers.into_vec() {
+    for counted in answers.into_vec() {
+        let Counted { answer, .. } = counted;
         match answer {
             Ok(answer) => put_answer(rows, delays, nodes[at], answer)?,
             Err(fault) => return Err(fault),
@@ -153,7 +251,9 @@ pub(crate) fn all_levels<H: Threads + Sync, G: Gate>(
     for (at, items) in levels.iter().enumerate() {
         let level = at as u32;
         let nodes = items.as_slice();
-        let answers = level_answers(rt, alloc, setting, graph, rows, workers, level, nodes, gate)?;
+        let answers = all_counted::<H, G, ()>(
+            rt, alloc, setting, graph, rows, workers, level, nodes, gate,
+        )?;
         put_answers(graph, rows, delays, level, nodes, answers)?;
     }
     Ok(())
@@ -172,6 +272,9 @@ pub(crate) fn full_rows<H: Threads + Sync, G: Gate>(
     requires most { workers ≤ 32 }
     requires plan { IsPlan setting.now graph.now }
     ensures rows { IfOk result (λ found. AreRows graph.now.stored found.rows) }
+    ensures ready { IfOk result
+        (λ found. (node : ℕ) → node < node_bound graph.now.stored
+        → AreReady graph.now found.rows node) }
     ensures delays { IfOk result (λ found. AreAllInto graph.now found.delays) }
     ensures fine { OnOk result (AreRowsFine graph.now.stored.design) }
     ensures within { OnOk result (AreWithin graph.now.stored.design) }

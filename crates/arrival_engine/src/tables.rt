@@ -6,8 +6,9 @@ ghost use Rattle.timing_rules.specs.Checks.{IsSound};
 ghost use Rattle.timing_rules.specs.Rows.{empty_row};
 ghost use Rattle.arc_delays.specs.Delays.{AreAllInto, AreDelays, AreWithin};
 ghost use Rattle.node_rows.specs.PortTables.{ArePorts};
+ghost use Rattle.pin_graph.specs.Nodes.{node_bound};
 ghost use Rattle.pin_graph.specs.RowTables.{AreRows, AreRowsFine, IsRangeFault};
-ghost use Rattle.arrival_engine.specs.Analysed.{AreTables, sized_rows};
+ghost use Rattle.arrival_engine.specs.Analysed.{AreTables, AreReady, sized_rows};
 ghost use Rattle.arrival_engine.specs.Planned.{ArePlanned};
 
 use crate::nodes::empty_row;
@@ -131,6 +132,9 @@ fn rows_over<H: Threads + Sync, G: Gate>(
     requires most { workers ≤ 32 }
     requires plan { ArePlanned store.now wires.now ports.now }
     ensures rows { IfOk result (λ found. AreRows store.now found.rows) }
+    ensures ready { IfOk result
+        (λ found. (node : ℕ) → node < node_bound graph.now.stored
+        → AreReady graph.now found.rows node) }
     ensures delays { IfOk result (λ found. AreAllInto graph.now found.delays) }
     ensures fine { OnOk result (AreRowsFine store.now.design) }
     ensures within { OnOk result (AreWithin store.now.design) }
@@ -160,6 +164,8 @@ fn with_tables<H: Threads + Sync, G: Gate>(
     requires most { workers ≤ 32 }
     requires plan { ArePlanned store.now (arc_value wires) (arc_value ports) }
     ensures rows { IfOk result (λ a. AreRows store.now a.rows) }
+    ensures ready { IfOk result
+        (λ a. (node : ℕ) → node < node_bound graph.now.stored → AreReady graph.now a.rows node) }
     ensures tables { IfOk result (AreTables store.now) }
     ensures delays { IfOk result (λ a. AreDelays store.now (arc_value a.delays)) }
     ensures fine { OnOk result (AreRowsFine store.now.design) }
@@ -194,6 +200,8 @@ impl Arrivals {
         requires some { 1 ≤ workers }
         requires most { workers ≤ 32 }
         ensures rows { IfOk result (λ a. AreRows store.now a.rows) }
+        ensures ready { IfOk result
+            (λ a. (node : ℕ) → node < node_bound store.now → AreReady graph.now a.rows node) }
         ensures tables { IfOk result (AreTables store.now) }
         ensures delays { IfOk result (λ a. AreDelays store.now (arc_value a.delays)) }
         ensures fine { OnOk result (AreRowsFine store.now.design) }

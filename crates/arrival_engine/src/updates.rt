@@ -10,7 +10,6 @@ ghost use Rattle.timing_rules.specs.Checks.{IsSound};
 ghost use Rattle.timing_rules.specs.Rows.{empty_row};
 ghost use Rattle.netlist_store.specs.Applying.{IsEditOf};
 ghost use Rattle.netlist_store.specs.Numbering.{is_number};
-ghost use Rattle.level_workers.specs.Mapped.{IsMap};
 ghost use Rattle.level_cone.specs.Waiting.{waits, room};
 ghost use Rattle.level_cone.specs.Cone.{put_all, stands_in};
 ghost use Rattle.pin_graph.specs.Nodes.{node_bound, pin_under};
@@ -18,7 +17,7 @@ ghost use Rattle.pin_graph.specs.Graphs.{level_at};
 ghost use Rattle.pin_graph.specs.Seeds.{AreSeeds};
 ghost use Rattle.pin_graph.specs.RowTables.{row_numbered, AreRows, AreRowsFine, IsRangeFault};
 ghost use Rattle.arc_delays.specs.Delays.{AreDelays};
-ghost use Rattle.arrival_engine.specs.Analysed.{AreTables, AreDoneBelow, IsPlan, IsNodeAnswer, IsLevelAnswer};
+ghost use Rattle.arrival_engine.specs.Analysed.{AreTables, AreDoneBelow, IsPlan};
 ghost use Rattle.arrival_engine.specs.Planned.{ArePlanned};
 ghost use Rattle.arrival_engine.specs.Updated.{AreArrivals, AreBegun, AreRenewed, IsLevelPut, heads_of, is_moved, same_delay, rows_told, delays_told};
 
@@ -157,34 +156,6 @@ fn wait_after_all(
     Ok(())
 }
 
-/// The answers for the nodes of a level, in their order; the first fault among them.
-fn told(
-    alloc: Global,
-    graph: &Graph,
-    level: u32,
-    nodes: &[u32],
-    answers: Items<Result<NodeAnswer, Fault>>,
-) -> Result<Items<NodeAnswer>, Fault>
-    requires nodes { All (λ n. (n < node_bound graph.now.stored) × (level_at graph.now n ≡ level))
-        nodes.now }
-    requires answers { IsMap (IsLevelAnswer graph.now level) nodes.now answers }
-    ensures told { IfOk result (IsMap (IsNodeAnswer graph.now) nodes.now) }
-    ensures err { IfErr result (IsRangeFault graph.now.stored.design) }
-{
-    // The graph, the level and the nodes are asked for by the contract alone.
-    let _ = graph;
-    let _ = level;
-    let _ = nodes;
-    let mut found = Items::new(alloc);
-    for answer in answers.into_vec() {
-        match answer {
-            Ok(answer) => found.push(answer)?,
-            Err(fault) => return Err(fault),
-        }
-    }
-    Ok(found)
-}
-
 /// Writes the row of a node, where it is another than the one that is there.
 fn put_row(rows: &mut CowTable<NodeRow>, node: u32, row: NodeRow) -> Result<(), Memory>
     requires { node < length rows.old }
@@ -261,16 +232,6 @@ fn put_each(tables: &mut Renewed, nodes: &[u32], answers: Items<NodeAnswer>) -> 
     Ok(())
 }
 
-/// Counts a step for each of some nodes.
-fn count_steps<L>(steps: &mut Steps<L>, nodes: &[u32])
-    ensures { steps.new ≡ steps.old + length nodes.now }
-{
-    for node in nodes {
-        let _ = node;
-        steps.tick();
-    }
-}
-
 /// Evaluates the nodes of a level, each counted as a step, and lets the nodes behind those whose row
 /// differs from that of the base wait.
 fn renew_level<H: Threads + Sync, G: Gate, L>(
@@ -303,13 +264,14 @@ fn renew_level<H: Threads + Sync, G: Gate, L>(
         (waits waiting.old k n || list_any
         (λ m. is_moved base.now.stored tables.old.rows m (row_numbered graph.now.stored m) &&
         stands_in (level_at graph.now) (heads_of graph.now m) k n) turn.now.nodes)) }
-    ensures steps { steps.new ≡ steps.old + length turn.now.nodes }
+    ensures steps { OnOk result (steps.new ≡ steps.old + length turn.now.nodes) }
+    ensures least { steps.old ≤ steps.new }
+    ensures few { steps.new ≤ steps.old + length turn.now.nodes }
     ensures err { IfErr result (IsRangeFault graph.now.stored.design) }
 {
     setting.store.laws();
     graph.laws();
     let nodes = turn.nodes.as_slice();
-    count_steps(steps, nodes);
     let answers = level_answers(
         rt,
         alloc,
@@ -320,8 +282,8 @@ fn renew_level<H: Threads + Sync, G: Gate, L>(
         turn.level,
         nodes,
         gate,
+        steps,
     )?;
-    let answers = told(alloc, graph, turn.level, nodes, answers)?;
     wait_after_all(
         base,
         graph,

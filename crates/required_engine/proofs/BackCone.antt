@@ -320,3 +320,14 @@ module _ (b g : Graphed) (touch : Touch) (made : IsEditOf b.stored touch g.store
             by : (o : Option Node) → node_named d (named to) ≡ o → back_differs d d2 to ≡ true
             by None f = ap (λ o. option_map_or (λ before. not (same_back (back_row d before) (back_row d2 to))) o true) f
             by (Some h) f = sym (other_told m to h told f) ∙ some
+
+    -- so these are the same
+    pub affected_is : (n : ℕ) → n < node_bound g.stored → affected c n ≡ of_node g.stored (is_backward d d2 touch) n
+    affected_is n low = elim (cases_Bool (affected c n)) [
+      | inl e ↦ e ∙ sym (affected_backward n low e)
+      | inr e ↦ e ∙ sym (none_here (node_at g.stored n) refl e)
+    ]
+      where
+        none_here : (o : Option Node) → node_at g.stored n ≡ o → affected c n ≡ false → of_node g.stored (is_backward d d2 touch) n ≡ false
+        none_here None told e = ap (λ o. option_map_or (is_backward d d2 touch) o false) told
+        none_here (Some node) told e = ap (λ o. option_map_or (is_backward d d2 touch) o false) told ∙ quiet n low node told e

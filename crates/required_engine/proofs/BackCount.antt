@@ -1,4 +1,4 @@
--- The nodes that are evaluated are no more than the backward ones; and the rows with which the pass begins.
+-- The nodes that are evaluated are the backward ones; and the rows with which the pass begins.
 
 use Rattle.std.proofs.Common.{◌≡◌, ℕ, zero, suc, ◌+◌, ◌-◌, ◌*◌, ◌/◌, ◌<◌, ◌≤◌, ◌==◌, Bool, true, false, not, ◌&&◌, ◌||◌, List, [], ◌∷◌, ◌++◌, take, replicate, length, get_or, Option, None, Some, refl, sym, ap, subst, ◌∙◌, inl, inr, arith}
 use Rattle.std.specs.Prelude.{is_some, nat_eq, nat_lt, slice_set, option_map, option_and_then, if◌then◌else◌}
@@ -18,7 +18,7 @@ use Rattle.netlist_store.specs.Linked.{IsLinked}
 use Rattle.netlist_store.specs.Numbering.{Stored, IsNumbered, name_at, is_number}
 use Rattle.netlist_store.specs.Applying.{IsEditOf}
 use Rattle.level_cone.specs.Cone.{affected, affected_count}
-use Rattle.level_cone.proofs.Counts.{count_le, range_all}
+use Rattle.level_cone.proofs.Counts.{range_all}
 use Rattle.pin_graph.specs.Nodes.{node_at, node_bound, pin_under, tran_under}
 use Rattle.pin_graph.specs.Graphs.{Graphed, IsGraph, of_node}
 use Rattle.pin_graph.specs.RowTables.{AreBackRows, back_numbered}
@@ -27,24 +27,17 @@ use Rattle.pin_graph.proofs.NodeCounts.{nodes_counted}
 use Rattle.required_engine.specs.Worked.{sized_rows}
 use Rattle.required_engine.specs.Updated.{AreFirst, is_in, back_at, back_before, back_cone}
 use Rattle.required_engine.proofs.FirstLaws.{in_told, node_there}
-use Rattle.required_engine.proofs.BackCone.{now_linked, affected_backward}
+use Rattle.required_engine.proofs.BackCone.{now_linked, affected_is}
 
 module _ (b g : Graphed) (touch : Touch) (made : IsEditOf b.stored touch g.stored) (num : IsNumbered b.stored) (num2 : IsNumbered g.stored)
     (was_is : IsGraph b) (is : IsGraph g) (first : List ℕ) (firsts : AreFirst b.stored g.stored touch first) where
-  pub backward_few : affected_count (back_cone b.stored g first) ≤ backward_count b.stored.design g.stored.design touch
+  pub backward_all : affected_count (back_cone b.stored g first) ≡ backward_count b.stored.design g.stored.design touch
   unfolding backward_count
-  backward_few =
-      let same : count_by (affected (back_cone b.stored g first)) (range_with_len 0 (node_bound g.stored))
-      ≡ count_by (λ n. nat_lt n (node_bound g.stored) && affected (back_cone b.stored g first) n) (range_with_len 0 (node_bound g.stored)) =
-      count_by_agree (affected (back_cone b.stored g first)) (λ n. nat_lt n (node_bound g.stored) && affected (back_cone b.stored g first) n) (range_with_len 0 (node_bound g.stored))
-      (range_all (λ n. affected (back_cone b.stored g first) n ≡ (nat_lt n (node_bound g.stored) && affected (back_cone b.stored g first) n)) (node_bound g.stored)
-      (λ n low. ap (λ t. t && affected (back_cone b.stored g first) n) (sym (lt-ltb n (node_bound g.stored) low)))) in
-      let few = count_le (λ n. nat_lt n (node_bound g.stored) && affected (back_cone b.stored g first) n) (of_node g.stored (is_backward b.stored.design g.stored.design touch))
-      (λ n e.
-      let parts = and_parts (nat_lt n (node_bound g.stored)) (affected (back_cone b.stored g first) n) e in
-      affected_backward b g touch made num num2 was_is is first firsts n (ltb-true n (node_bound g.stored) parts.0) parts.1) (range_with_len 0 (node_bound g.stored)) in
-      let all = nodes_counted g.stored num2 (now_linked b g touch made num num2 was_is is) (is_backward b.stored.design g.stored.design touch) in
-      omega (arith, same, few, all)
+  backward_all =
+      count_by_agree (affected (back_cone b.stored g first)) (of_node g.stored (is_backward b.stored.design g.stored.design touch)) (range_with_len 0 (node_bound g.stored))
+      (range_all (λ n. affected (back_cone b.stored g first) n ≡ of_node g.stored (is_backward b.stored.design g.stored.design touch) n) (node_bound g.stored)
+      (λ n low. affected_is b g touch made num num2 was_is is first firsts n low))
+      ∙ sym (nodes_counted g.stored num2 (now_linked b g touch made num num2 was_is is) (is_backward b.stored.design g.stored.design touch))
 
 -- a row that is emptied
 pub cleared : (rows : List BackRow) (node : ℕ) (row : BackRow) → row ≡ empty_back → node < length rows

@@ -24,7 +24,7 @@ use Rattle.level_cone.specs.Cone.{Cone, IsCone, AreOuts, IsCut, IsPass, affected
 use Rattle.level_cone.proofs.ConeLaws.{waits_here}
 use Rattle.level_cone.proofs.Puts.{length-put_all, put_all_at}
 use Rattle.level_cone.proofs.Turns.{cut_start, cut_skip, cut_here, cut_more_at, turn_from, turn_told}
-use Rattle.level_cone.proofs.Passes.{pass_part, pass_rows, pass_smaller}
+use Rattle.level_cone.proofs.Passes.{pass_part, pass_rows, pass_ticks, pass_smaller}
 use Rattle.pin_graph.specs.declared.arcs.GraphArc.{GraphArc}
 use Rattle.pin_graph.specs.Nodes.{node_at, node_bound}
 use Rattle.pin_graph.specs.Graphs.{Graphed, IsGraph, fan_at, level_at, from_of}
@@ -307,3 +307,9 @@ module _ (b g : Graphed) (touch : Touch) (made : IsEditOf b.stored touch g.store
       let few = pass_within c (back_at rows) (waits keys) going.ticks going.pass in
       let told = going.told in
       omega (arith, few, told)
+
+  pub steps_are : (rows : List BackRow) (keys : List ℕ) (start steps : ℕ) → IsBackPass b.stored g first rows keys start steps → IsIdle keys → steps ≡ start + affected_count c
+  steps_are rows keys start steps going idle =
+      let all = pass_ticks c laws (back_at rows) keys going.ticks going.pass idle in
+      let told = going.told in
+      omega (arith, all, told)

@@ -296,3 +296,16 @@ full_told g s same num linked rows done =
 pub near_told : (g : Graphed) (s : Stored) → g.stored ≡ s → IsNumbered s → IsLinked s.design → IsGraph g → (rows : List BackRow) → AreDoneFrom g rows 0 → AreBacksWithin rows
 near_told g s same num linked is rows done =
     rows_near g (subst (λ (x : Stored). IsNumbered x) (sym same) num) (subst (λ (x : Stored). IsLinked x.design) (sym same) linked) is rows done
+
+-- and each node is ready
+pub full_ready : (g : Graphed) (s : Stored) → g.stored ≡ s → IsNumbered s → IsLinked s.design → IsGraph g → (rows : List BackRow) → AreDoneFrom g rows 0
+    → (k : ℕ) → k < node_bound s → AreReady g rows k
+full_ready g s same num linked is rows done k low = record {
+  after = λ arc c.
+      (let n : IsNumbered g.stored = subst (λ (x : Stored). IsNumbered x) (sym same) num in
+      let l : IsLinked g.stored.design = subst (λ (x : Stored). IsLinked x.design) (sym same) linked in
+      let own : k < node_bound g.stored = subst (λ (x : Stored). k < node_bound x) (sym same) low in
+      let a = ((is.outs k own).sound arc c).0 in
+      let under = node_below g.stored a.to arc.to (has_node g.stored n l arc.to a.to a.to_number) in
+      done.done arc.to under (omega arith));
+}

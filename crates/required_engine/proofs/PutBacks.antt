@@ -1,9 +1,9 @@
 -- Answers for nodes of a level that are written to their rows: the definition's rows, of fine nodes.
 
-use Rattle.std.proofs.Common.{◌≡◌, ℕ, ◌-◌, ◌<◌, Bool, true, List, [], ◌∷◌, map, All, length, get_or, Some, Result, Ok, Err, refl, sym, ap, subst, ◌∙◌, inl, inr, arith}
+use Rattle.std.proofs.Common.{◌≡◌, ℕ, ◌+◌, ◌-◌, ◌<◌, ◌≤◌, Bool, true, List, [], ◌∷◌, map, All, drop, length, get_or, Some, Result, Ok, Err, refl, sym, ap, subst, ◌∙◌, inl, inr, arith}
 use Rattle.std.specs.Prelude.{Contains, slice_get, slice_set, IsOk, if◌then◌else◌, nat_le}
 use Rattle.std.proofs.lemmas.Bool.{false≢true}
-use Rattle.std.proofs.lemmas.List.{set-get_or}
+use Rattle.std.proofs.lemmas.List.{drop_more, set-get_or}
 use Rattle.std.proofs.lemmas.Option.{get_or_from_slice_get}
 use Rattle.std.proofs.lemmas.List.Elements.{All-nil, All-cons, All-head, All-tail}
 use Rattle.timing_defs.specs.declared.faults.Fault.{Fault}
@@ -18,7 +18,8 @@ use Rattle.pin_graph.specs.Nodes.{node_bound}
 use Rattle.pin_graph.specs.Graphs.{Graphed, IsGraph, fan_at}
 use Rattle.pin_graph.specs.RowTables.{back_numbered, IsRangeFault}
 use Rattle.timing_defs.proofs.Members.{none_in, in_cases}
-use Rattle.required_engine.specs.Worked.{IsAnswerAt}
+use Rattle.required_engine.specs.declared.turns.Counted.{Counted}
+use Rattle.required_engine.specs.Worked.{IsAnswerAt, IsCountedAt, answers_of}
 use Rattle.required_engine.specs.Updated.{IsFineAt, IsAtLevel}
 use Rattle.required_engine.proofs.BackCone.{froms_low}
 
@@ -63,6 +64,31 @@ module _ (g : Graphed) (level : ℕ) where
         subst (λ (x : Result BackRow Fault). IsAnswerAt g level n x) e m.0 own.0 own.1
     | inr d ↦ range_told nodes rs (All-tail (IsAtLevel g level) n nodes at) m.1 f d
   ]
+
+-- what is counted of nodes of a level is answered for them, and each counts one step
+pub answers_told : {L : Type 0} (g : Graphed) (level : ℕ) (nodes : List ℕ) (found : List (Counted L)) → IsMap (IsCountedAt g level) nodes found
+    → IsMap (IsAnswerAt g level) nodes (answers_of found)
+answers_told g level [] [] m = m
+answers_told g level [] (c ∷ found) m = absurd m
+answers_told g level (n ∷ nodes) [] m = absurd m
+answers_told g level (n ∷ nodes) (c ∷ found) m = (λ low here. (m.0 low here).0, answers_told g level nodes found m.1)
+
+module _ {L : Type 0} (g : Graphed) (level : ℕ) (nodes : List ℕ) (all : All (IsAtLevel g level) nodes) (at : ℕ) (items rest : List (Counted L)) (one : Counted L)
+    (low : at < length nodes) (left : IsMap (IsCountedAt g level) (drop at nodes) items) (e : items ≡ one ∷ rest) where
+  both_left : IsMap (IsCountedAt g level) (get_or nodes at 0 ∷ drop (at + 1) nodes) (one ∷ rest)
+  both_left =
+      subst (λ (xs : List ℕ). IsMap (IsCountedAt g level) xs (one ∷ rest)) (drop_more nodes at 0 low)
+      (subst (λ (cs : List (Counted L)). IsMap (IsCountedAt g level) (drop at nodes) cs) e left)
+
+  pub counted_left : IsMap (IsCountedAt g level) (drop (at + 1) nodes) rest
+  counted_left = both_left.1
+
+  -- steps that counted those before it count it too
+  pub counts_one : (old steps steps' : ℕ) → steps ≡ old + at → steps' ≡ steps + one.steps → (steps' ≡ old + at + 1) × (steps' ≤ old + length nodes)
+  counts_one old steps steps' was more =
+      let here = all at 0 low in
+      let step = (both_left.0 here.0 here.1).1 in
+      (omega (arith, was, more, step), omega (arith, was, more, step, low))
 
 pub froms_there : (g : Graphed) (s : Stored) → g.stored ≡ s → IsNumbered s → IsLinked s.design → IsGraph g
     → (n : ℕ) → n < node_bound g.stored → All (λ (arc : GraphArc). arc.from < node_bound g.stored) (fan_at g.ins n)

@@ -1,7 +1,7 @@
 -- An analysis of required times: the rows of nodes by their numbers, over the slews and arrivals of all
 -- nodes (OpenTimer; TAU 2015 contest; own rule of range).
 
-use Rattle.std.specs.Prelude.{ℕ, ◌≡◌, ◌<◌, ◌≤◌, ◌-◌, ◌++◌, ⊤, Bool, true, false, if◌then◌else◌, List, take, replicate, length, slice_get, Contains, Option, Some, None, option_map, Result, Ok, Err, ◌&&◌}
+use Rattle.std.specs.Prelude.{ℕ, ◌≡◌, ◌<◌, ◌≤◌, ◌-◌, ◌++◌, ⊤, Bool, true, false, if◌then◌else◌, List, map, take, replicate, length, slice_get, Contains, Option, Some, None, option_map, Result, Ok, Err, ◌&&◌}
 use Rattle.std.specs.List.{list_all, list_any}
 use Rattle.std.specs.Option.{option_map_or}
 use Rattle.sta_units.specs.Numbers.{is_within}
@@ -27,6 +27,7 @@ use Rattle.pin_graph.specs.RowTables.{AreRows, AreRowsFine, row_numbered, back_n
 use Rattle.arc_delays.specs.declared.tables.ArcDelay.{ArcDelay}
 use Rattle.arc_delays.specs.Delays.{AreDelays}
 use Rattle.required_engine.specs.declared.nodes.AskedNode.{AskedNode}
+use Rattle.required_engine.specs.declared.turns.Counted.{Counted}
 use Rattle.required_engine.specs.declared.unfit.Unfit.{Unfit}
 use Rattle.required_engine.specs.declared.unfit.Unfit.TheVariants.{Range, Memory}
 
@@ -102,6 +103,14 @@ IsAnswer s node (Err fault) = IsRangeFault s.design fault
 -- what is answered for a number, where it is of a level
 abbrev pub IsAnswerAt : Graphed → ℕ → ℕ → Result BackRow Fault → Type 0
 IsAnswerAt g level k r = k < node_bound g.stored → level_at g k ≡ level → IsAnswer g.stored k r
+
+-- the same, and one step that it counts
+abbrev pub IsCountedAt : {L : Type 0} → Graphed → ℕ → ℕ → Counted L → Type 0
+IsCountedAt g level k c = k < node_bound g.stored → level_at g k ≡ level → IsAnswer g.stored k c.answer × (c.steps ≡ 1)
+
+-- what is answered, without the counts
+abbrev pub answers_of : {L : Type 0} → List (Counted L) → List (Result BackRow Fault)
+answers_of found = map (λ c. c.answer) found
 
 -- the nodes of a level, and no others
 pub record AreOfLevel (g : Graphed) (level : ℕ) (items : List ℕ) : Type 0 where

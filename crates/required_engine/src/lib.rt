@@ -20,6 +20,7 @@ mod passes;
 mod renewing;
 mod tables;
 mod times;
+mod turns;
 mod unfit;
 mod updating;
 

@@ -226,17 +226,18 @@ fn node_back<A: Rows + Delayed>(
     tested_back(alloc, store, graph, delays, rows, &asked, pin, &[], &[])
 }
 
-/// The required times of a node over those of the nodes after it; none of a number that is of no node.
-/// `OutOfRange` at the node's pin where a setup or hold time or a required time of it, in fs, leaves its
-/// limit. Each launch edge takes time of the node's tests, or of the arcs into the nodes after it and of
-/// the launch edges there; an endpoint's tests are found once for each kind.
-pub(crate) fn evaluated<A: Rows + Delayed>(
+/// The required times of a node over those of the nodes after it, counted as one step; none of a number
+/// that is of no node. `OutOfRange` at the node's pin where a setup or hold time or a required time of
+/// it, in fs, leaves its limit. Each launch edge takes time of the node's tests, or of the arcs into the
+/// nodes after it and of the launch edges there; an endpoint's tests are found once for each kind.
+pub(crate) fn evaluated<A: Rows + Delayed, L>(
     alloc: Global,
     store: &Store,
     graph: &Graph,
     arrivals: &A,
     rows: &CowTable<BackRow>,
     node: u32,
+    steps: &mut Steps<L>,
 ) -> Result<BackRow, Fault>
     requires graph { graph.now.stored ≡ store.now }
     requires found { AreFound store.now (A.rows arrivals.now) (A.delays arrivals.now) }
@@ -244,7 +245,9 @@ pub(crate) fn evaluated<A: Rows + Delayed>(
     requires ready { AreReady graph.now rows.now node }
     ensures row { IfOk result (IsBackRow store.now node) }
     ensures err { IfErr result (IsBackFault store.now node) }
+    ensures steps { steps.new ≡ steps.old + 1 }
 {
+    steps.tick();
     match graph.pin_of(node) {
         None => Ok(empty_back(alloc)),
         Some(pin) => node_back(alloc, store, graph, arrivals, rows, node, pin),
@@ -275,6 +278,5 @@ pub fn eval_back<A: Rows + Delayed, L>(
     ensures err { IfErr result (IsBackFault store.now node) }
     ensures steps { steps.new ≡ steps.old + 1 }
 {
-    steps.tick();
-    evaluated(alloc, store, graph, arrivals, &rows.rows, node)
+    evaluated(alloc, store, graph, arrivals, &rows.rows, node, steps)
 }

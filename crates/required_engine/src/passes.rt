@@ -1,10 +1,11 @@
 //! The pass over the levels of a graph, the highest first.
 
-ghost use Rattle.std.specs.Prelude.{ℕ, ◌≡◌, ◌+◌, ◌≤◌, ◌^◌, length, IfOk, IfErr, OnOk};
+ghost use Rattle.std.specs.Prelude.{ℕ, ◌≡◌, ◌+◌, ◌<◌, ◌≤◌, ◌^◌, length, IfOk, IfErr, OnOk};
 ghost use Rattle.level_workers.specs.Mapped.{IsMap};
 ghost use Rattle.pin_graph.specs.Nodes.{node_bound};
+ghost use Rattle.pin_graph.specs.Graphs.{level_at};
 ghost use Rattle.pin_graph.specs.RowTables.{AreBackRows, AreBacksFine, IsRangeFault};
-ghost use Rattle.required_engine.specs.Worked.{AreBacksWithin, AreFound, AreDoneFrom, AreOfLevel, IsAnswerAt};
+ghost use Rattle.required_engine.specs.Worked.{AreBacksWithin, AreFound, AreDoneFrom, AreOfLevel, AreReady, IsAnswer, IsAnswerAt};
 ghost use Rattle.required_engine.specs.Leveled.{AreLevels};
 
 use crate::nodes::{empty_back, evaluated};
@@ -15,14 +16,42 @@ use level_workers::{map_level, worth_threads};
 use netlist_store::Store;
 use pin_graph::Graph;
 use sta_outside::Gate;
-use sta_units::Memory;
+use sta_units::{Memory, Steps};
 use std::alloc::Global;
 use std::thread::Threads;
 use timing_defs::{BackRow, Fault, Items, Rows};
 
-/// The required times of a node of a level, over those of the higher ones. Nothing is asked of other
-/// numbers.
-fn level_answer<A: Rows + Delayed>(
+/// The required times of a node of a level, over those of the higher ones, counted as one step. Nothing is
+/// asked of other numbers.
+pub(crate) fn level_answer<A: Rows + Delayed, L>(
+    alloc: Global,
+    store: &Store,
+    graph: &Graph,
+    arrivals: &A,
+    rows: &CowTable<BackRow>,
+    level: u32,
+    node: u32,
+    steps: &mut Steps<L>,
+) -> Result<BackRow, Fault>
+    requires graph { graph.now.stored ≡ store.now }
+    requires found { AreFound store.now (A.rows arrivals.now) (A.delays arrivals.now) }
+    requires done { AreDoneFrom graph.now rows.now (level + 1) }
+    ensures { node < node_bound graph.now.stored → level_at graph.now node ≡ level
+        → IsAnswer graph.now.stored node result × (steps.new ≡ steps.old + 1) }
+{
+    store.laws();
+    graph.laws();
+    if node >= graph.count() {
+        return Ok(empty_back(alloc));
+    }
+    if graph.level(node) != level {
+        return Ok(empty_back(alloc));
+    }
+    evaluated(alloc, store, graph, arrivals, rows, node, steps)
+}
+
+/// The required times of a node of a level, over those of the higher ones.
+fn level_row<A: Rows + Delayed>(
     alloc: Global,
     store: &Store,
     graph: &Graph,
@@ -36,19 +65,12 @@ fn level_answer<A: Rows + Delayed>(
     requires done { AreDoneFrom graph.now rows.now (level + 1) }
     ensures { IsAnswerAt graph.now level node result }
 {
-    store.laws();
-    graph.laws();
-    if node >= graph.count() {
-        return Ok(empty_back(alloc));
-    }
-    if graph.level(node) != level {
-        return Ok(empty_back(alloc));
-    }
-    evaluated(alloc, store, graph, arrivals, rows, node)
+    let mut steps = Steps::<()>::none();
+    level_answer(alloc, store, graph, arrivals, rows, level, node, &mut steps)
 }
 
 /// The required times of the nodes of a level, in their order, by several threads.
-pub(crate) fn level_rows<H: Threads + Sync, A: Rows + Delayed + Sync, G: Gate>(
+fn level_rows<H: Threads + Sync, A: Rows + Delayed + Sync, G: Gate>(
     rt: &H,
     alloc: Global,
     store: &Store,
@@ -72,7 +94,7 @@ pub(crate) fn level_rows<H: Threads + Sync, A: Rows + Delayed + Sync, G: Gate>(
             × AreFound store.now (A.rows arrivals.now) (A.delays arrivals.now)
             × AreDoneFrom graph.now rows.now (level + 1) }
         ensures { IfOk result (IsAnswerAt graph.entry.now level node.now) }
-    { Ok(level_answer(alloc, store, graph, arrivals, rows, level, *node)) };
+    { Ok(level_row(alloc, store, graph, arrivals, rows, level, *node)) };
     let threads = worth_threads(nodes.len(), workers);
     map_level(rt, alloc, threads, level, nodes, &answer, gate)
 }
@@ -153,6 +175,8 @@ pub(crate) fn full_rows<H: Threads + Sync, A: Rows + Delayed + Sync, G: Gate>(
     requires graph { graph.now.stored ≡ store.now }
     requires found { AreFound store.now (A.rows arrivals.now) (A.delays arrivals.now) }
     ensures rows { IfOk result (AreBackRows store.now) }
+    ensures ready { IfOk result
+        (λ rows. (node : ℕ) → node < node_bound store.now → AreReady graph.now rows node) }
     ensures fine { OnOk result (AreBacksFine store.now.design) }
     ensures within { IfOk result AreBacksWithin }
     ensures err { IfErr result (IsRangeFault store.now.design) }

@@ -4,17 +4,16 @@ ghost use Rattle.std.specs.Prelude.{ℕ, ◌≡◌, ◌+◌, ◌<◌, ◌≤◌,
 ghost use Rattle.std.specs.Cmp.Lexicographic.{pointwise};
 ghost use Rattle.timing_rules.specs.Cones.{same_time, same_back};
 ghost use Rattle.netlist_store.specs.Applying.{IsEditOf};
-ghost use Rattle.level_workers.specs.Mapped.{IsMap};
 ghost use Rattle.level_cone.specs.Cone.{affected_count, put_all, stands_in};
 ghost use Rattle.level_cone.specs.Waiting.{waits};
 ghost use Rattle.pin_graph.specs.Nodes.{node_bound};
 ghost use Rattle.pin_graph.specs.Graphs.{fan_at};
 ghost use Rattle.pin_graph.specs.RowTables.{back_numbered, IsRangeFault};
-ghost use Rattle.required_engine.specs.Worked.{AreFound, AreDoneFrom, IsAnswerAt};
+ghost use Rattle.required_engine.specs.Worked.{AreFound, AreDoneFrom};
 ghost use Rattle.required_engine.specs.Updated.{IsBackBase, AreFirst, touch_of, from_top, top_level, back_at, back_before, back_cone, tails_stand, tails_of_changed, IsFineAt, IsAtLevel};
 
 use crate::nodes::empty_back;
-use crate::passes::level_rows;
+use crate::turns::take_turn;
 use arc_delays::Delayed;
 use cow_table::CowTable;
 use level_cone::LevelQueue;
@@ -24,7 +23,7 @@ use sta_outside::Gate;
 use sta_units::{Memory, Steps};
 use std::alloc::Global;
 use std::thread::Threads;
-use timing_defs::{BackRow, EdgeTime, Fault, Items, Rows};
+use timing_defs::{BackRow, EdgeTime, Fault, Rows};
 
 /// The place of a level in the order from the highest down; and the level of a place.
 fn from_top(level: u32) -> u32
@@ -153,7 +152,7 @@ fn wait_before_all(
 }
 
 /// Writes the row of a node, where it is another than the one that is there.
-fn put_row(rows: &mut CowTable<BackRow>, node: u32, row: BackRow) -> Result<(), Memory>
+pub(crate) fn put_row(rows: &mut CowTable<BackRow>, node: u32, row: BackRow) -> Result<(), Memory>
     requires { node < length rows.old }
     ensures { OnOk result (rows.new ≡ slice_set rows.old node row) }
 {
@@ -161,46 +160,6 @@ fn put_row(rows: &mut CowTable<BackRow>, node: u32, row: BackRow) -> Result<(), 
         return Ok(());
     }
     rows.set(node as usize, row)
-}
-
-/// Writes the answers for nodes of a level to their rows; refuses with the first fault among them.
-fn put_answers(
-    graph: &Graph,
-    rows: &mut CowTable<BackRow>,
-    level: u32,
-    nodes: &[u32],
-    found: Items<Result<BackRow, Fault>>,
-) -> Result<(), Fault>
-    requires nodes { All (IsAtLevel graph.now level) nodes.now }
-    requires found { IsMap (IsAnswerAt graph.now level) nodes.now found }
-    requires count { length rows.old ≡ node_bound graph.now.stored }
-    ensures rows { OnOk result
-        (rows.new ≡ put_all rows.old nodes.now (map (back_numbered graph.now.stored) nodes.now)) }
-    ensures fine { OnOk result (All (IsFineAt graph.now.stored) nodes.now) }
-    ensures err { IfErr result (IsRangeFault graph.now.stored.design) }
-{
-    // The graph and the level are asked for by the contract alone.
-    let _ = graph;
-    let _ = level;
-    let mut at = 0;
-    for answer in found.into_vec() {
-        match answer {
-            Ok(row) => put_row(rows, nodes[at], row)?,
-            Err(fault) => return Err(fault),
-        }
-        at += 1;
-    }
-    Ok(())
-}
-
-/// Counts a step for each of some nodes.
-fn count_steps<L>(steps: &mut Steps<L>, nodes: &[u32])
-    ensures { steps.new ≡ steps.old + length nodes.now }
-{
-    for node in nodes {
-        let _ = node;
-        steps.tick();
-    }
 }
 
 /// Evaluates nodes of a level, each counted as a step, over the rows of the higher levels, and lets
@@ -233,15 +192,15 @@ fn renew_level<H: Threads + Sync, A: Rows + Delayed + Sync, G: Gate, L>(
         ((k n : ℕ) → waits queue.new k n
         ≡ (waits queue.old k n || tails_of_changed graph.now before.now rows.new nodes.now k n)) }
     ensures err { IfErr result (IsRangeFault graph.now.stored.design) }
-    ensures steps { steps.new ≡ steps.old + length nodes.now }
+    ensures steps { OnOk result (steps.new ≡ steps.old + length nodes.now) }
+    ensures least { steps.old ≤ steps.new }
+    ensures few { steps.new ≤ steps.old + length nodes.now }
 {
     store.laws();
     graph.laws();
-    count_steps(steps, nodes);
-    let found = level_rows(
-        rt, alloc, store, graph, arrivals, rows, workers, level, nodes, gate,
+    take_turn(
+        rt, alloc, store, graph, arrivals, rows, workers, level, nodes, gate, steps,
     )?;
-    put_answers(graph, rows, level, nodes, found)?;
     wait_before_all(alloc, queue, graph, before, rows, nodes)?;
     Ok(())
 }
@@ -279,6 +238,8 @@ pub(crate) fn renew<H: Threads + Sync, A: Rows + Delayed + Sync, G: Gate, L>(
     ensures least { steps.old ≤ steps.new }
     ensures steps { steps.new ≤ steps.old + affected_count
         (back_cone base.now.stored graph.now first.now) }
+    ensures exact { OnOk result
+        (steps.new ≡ steps.old + affected_count (back_cone base.now.stored graph.now first.now)) }
 {
     // The ECO is asked for by the contract alone.
     let _ = touched;

@@ -2,9 +2,10 @@
 
 ghost use Rattle.std.specs.Prelude.{ℕ, ◌≡◌, ◌<◌, ◌≤◌, Some, length, slice_get, slice_set, IfOk, IfErr, OnOk, OnErr};
 ghost use Rattle.timing_rules.specs.Checks.{IsSound};
+ghost use Rattle.pin_graph.specs.Nodes.{node_bound};
 ghost use Rattle.pin_graph.specs.RowTables.{AreRows, AreRowsFine, AreBackRows, AreBacksFine, IsRangeFault};
 ghost use Rattle.arc_delays.specs.Delays.{AreDelays};
-ghost use Rattle.required_engine.specs.Worked.{sized_rows, AreBacksWithin};
+ghost use Rattle.required_engine.specs.Worked.{sized_rows, AreBacksWithin, AreReady};
 
 use crate::nodes::empty_back;
 use crate::passes::full_rows;
@@ -94,6 +95,9 @@ impl Required {
         requires fine { AreRowsFine store.now.design }
         requires delays { AreDelays store.now (A.delays arrivals.now) }
         ensures rows { IfOk result (λ required. AreBackRows store.now required.rows) }
+        ensures ready { IfOk result
+            (λ required. (node : ℕ) → node < node_bound store.now
+            → AreReady graph.now required.rows node) }
         ensures fine { OnOk result (AreBacksFine store.now.design) }
         ensures within { IfOk result (λ required. AreBacksWithin required.rows) }
         ensures err { IfErr result (IsRangeFault store.now.design) }

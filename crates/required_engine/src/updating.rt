@@ -121,6 +121,10 @@ fn updated_rows<H: Threads + Sync, A: Rows + Delayed + Sync, G: Gate, L>(
     ensures least { steps.old ≤ steps.new }
     ensures steps { steps.new ≤ steps.old + backward_count base.now.stored.design
         graph.now.stored.design (touch_of touched.now) }
+    ensures exact { OnOk result
+        (steps.new
+        ≡ steps.old + backward_count base.now.stored.design graph.now.stored.design
+        (touch_of touched.now)) }
 {
     store.laws();
     graph.laws();
@@ -181,6 +185,10 @@ impl Required {
         ensures least { steps.old ≤ steps.new }
         ensures steps { steps.new ≤ steps.old + backward_count base.now.stored.design
             store.now.design (touch_of touched.now) }
+        ensures exact { OnOk result
+            (steps.new
+            ≡ steps.old + backward_count base.now.stored.design store.now.design
+            (touch_of touched.now)) }
     {
         let before = &self.rows;
         let rows = updated_rows(

@@ -44,7 +44,7 @@ returns-in_err-renew_level-clause-few g c =
     let renewed = c.loop-waiting.invariant.3 edit in
     let few = goes_few c.args.base.now c.args.graph.now (record { insts = c.args.touched.now.insts; nets = c.args.touched.now.nets }) edit c.loop-waiting.tables.rows c.loop-waiting.tables.delays c.loop-waiting.waiting c.take_level.new.self c.loop-waiting.invariant.0 c.in-Some.turn.level c.in-Some.turn.nodes renewed turn in
     let was = c.loop-waiting.invariant.1 in
-    let more = c.in_err-renew_level.ensures.steps in
+    let more = c.in_err-renew_level.ensures.few in
     omega (arith, few, was, more)
 
 pub loop-waiting-smaller : goal.loop-waiting-smaller

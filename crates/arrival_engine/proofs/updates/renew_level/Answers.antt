@@ -15,7 +15,7 @@ wait_after_all-requires-clause-heads g c = λ k d within.
 
 pub wait_after_all-requires-clause-rows : goal.wait_after_all-requires-clause-rows
 wait_after_all-requires-clause-rows g c =
-    ap (λ (xs : List NodeAnswer). rows_told xs) c.as_slice.ensures ∙ told_rows c.args.graph.now c.as_slice-nodes.result.now c.in_ok-answers-2.answers c.in_ok-answers-2.ensures.told
+    ap (λ (xs : List NodeAnswer). rows_told xs) c.as_slice.ensures ∙ told_rows c.args.graph.now c.as_slice-nodes.result.now c.in_ok-answers.answers c.in_ok-answers.ensures.told
 
 pub put_each-requires-clause-answers : goal.put_each-requires-clause-answers
-put_each-requires-clause-answers g c = told_length c.args.graph.now c.as_slice-nodes.result.now c.in_ok-answers-2.answers c.in_ok-answers-2.ensures.told
+put_each-requires-clause-answers g c = told_length c.args.graph.now c.as_slice-nodes.result.now c.in_ok-answers.answers c.in_ok-answers.ensures.told

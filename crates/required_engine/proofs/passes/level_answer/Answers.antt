@@ -8,4 +8,5 @@ evaluated-requires-clause-ready g c =
     c.args.rows.now c.args.level c.args.node c.requires.done (search rules) (search rules)
 
 pub returns : goal.returns
-returns g c = λ low here. answer_there c.args.graph.now c.args.store.now c.requires.graph c.args.node c.evaluated.result c.evaluated.ensures.row c.evaluated.ensures.err
+returns g c = λ low here.
+    (answer_there c.args.graph.now c.args.store.now c.requires.graph c.args.node c.evaluated.result c.evaluated.ensures.row c.evaluated.ensures.err, c.evaluated.ensures.steps)

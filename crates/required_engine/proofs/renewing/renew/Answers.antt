@@ -1,8 +1,8 @@
-use Rattle.std.proofs.Common.{◌≡◌, ◌+◌, length, sym, subst, arith}
+use Rattle.std.proofs.Common.{◌+◌, ◌≤◌, length, sym, subst, arith}
 use Rattle.netlist_store.specs.Numbering.{Stored, IsNumbered}
 use Rattle.pin_graph.specs.RowTables.{AreRowsFine}
 use Rattle.required_engine.specs.Updated.{touch_of}
-use Rattle.required_engine.proofs.BackPass.{first_low, pass_begins, turn_done, turn_level, turn_within, turn_more, turn_smaller, pass_ends, steps_within}
+use Rattle.required_engine.proofs.BackPass.{first_low, pass_begins, turn_done, turn_level, turn_within, turn_more, turn_smaller, pass_ends, steps_within, steps_are}
 use Rattle.required_engine.proofs.renewing.renew.Goals as goal
 
 pub wait_all-requires : goal.wait_all-requires
@@ -43,7 +43,7 @@ returns-in_err-renew_level-clause-steps g c =
     c.laws-3.ensures c.laws-2.ensures c.args.before.now c.requires.was (subst (λ (x : Stored). AreRowsFine x.design) (sym c.requires.graph) c.requires.found.fine) c.args.first.now c.requires.first
     c.loop-queue.rows c.loop-queue.queue c.take_level.new.self c.args.steps.now c.loop-queue.steps c.in-Some.taken.level c.in-Some.taken.nodes c.loop-queue.invariant turn in
     let start = c.loop-queue.invariant.told in
-    let told : c.renew_level.new.steps ≡ c.loop-queue.steps + length c.in-Some.taken.nodes = rw c.as_slice-nodes.ensures at c.in_err-renew_level.ensures.steps in
+    let told : c.renew_level.new.steps ≤ c.loop-queue.steps + length c.in-Some.taken.nodes = rw c.as_slice-nodes.ensures at c.in_err-renew_level.ensures.few in
     omega (arith, few, start, told)
 
 pub loop-queue-smaller : goal.loop-queue-smaller
@@ -80,7 +80,13 @@ pub returns-in_err-taken-clause-least : goal.returns-in_err-taken-clause-least
 returns-in_err-taken-clause-least g c = omega (arith, c.loop-queue.invariant.told)
 
 pub returns-in_err-renew_level-clause-least : goal.returns-in_err-renew_level-clause-least
-returns-in_err-renew_level-clause-least g c = omega (arith, c.loop-queue.invariant.told, c.in_err-renew_level.ensures.steps)
+returns-in_err-renew_level-clause-least g c = omega (arith, c.loop-queue.invariant.told, c.in_err-renew_level.ensures.least)
 
 pub returns-clause-least : goal.returns-clause-least
 returns-clause-least g c = omega (arith, c.loop-queue.invariant.told)
+
+pub returns-clause-exact : goal.returns-clause-exact
+returns-clause-exact g c =
+    steps_are c.args.base.now c.args.graph.now (touch_of c.args.touched.now) c.requires.made (subst (λ (x : Stored). IsNumbered x) (sym c.requires.graph) c.laws.ensures.numbered)
+    c.laws-3.ensures c.laws-2.ensures c.args.before.now c.requires.was (subst (λ (x : Stored). AreRowsFine x.design) (sym c.requires.graph) c.requires.found.fine) c.args.first.now c.requires.first
+    c.loop-queue.rows c.loop-queue.queue c.args.steps.now c.loop-queue.steps c.loop-queue.invariant (rw c.in_default.is at c.in_ok-taken.ensures.none)

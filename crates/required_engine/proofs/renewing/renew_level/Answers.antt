@@ -6,7 +6,7 @@ use Rattle.required_engine.proofs.renewing.renew_level.Goals as goal
 
 pub wait_before_all-requires-clause-count : goal.wait_before_all-requires-clause-count
 wait_before_all-requires-clause-count g c =
-    ap length c.in_ok-put_answers.ensures.rows
+    ap length c.in_ok-take_turn.ensures.rows
     ∙ length-put_all c.args.rows.now c.args.nodes.now (map (back_numbered c.args.graph.now.stored) c.args.nodes.now)
     ∙ c.requires.done.count
 

@@ -2,7 +2,7 @@ use Rattle.std.proofs.Common.{ℕ, subst}
 use Rattle.level_workers.proofs.Joins.{ok_more}
 use Rattle.arrival_engine.specs.Analysed.{IsLevelAnswer}
 use Rattle.arrival_engine.proofs.PassLaws.{map_weaker}
-use Rattle.arrival_engine.proofs.passes.level_answers.Goals as goal
+use Rattle.arrival_engine.proofs.passes.all_counted.Goals as goal
 
 pub returns : goal.returns
 returns g c =
