@@ -1,3 +1,4 @@
 pub mod BestLaws
 pub mod TrialLaws
 pub mod SharedLaws
+pub mod BestIsGreatest

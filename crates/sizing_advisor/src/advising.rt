@@ -3,6 +3,7 @@
 ghost use Rattle.std.specs.Prelude.{◌≡◌, ◌-◌, ◌≤◌, map, IfOk, OnOk};
 ghost use Rattle.timing_rules.specs.Advice.{candidate_eco, IsAdvice};
 ghost use Rattle.timing_rules.specs.Cones.{AreCounted};
+ghost use Rattle.sizing_advisor.specs.Greatest.{IsGreatestAdvice};
 ghost use Rattle.sizing_advisor.specs.Trying.{IsBest};
 
 use crate::bases::Base;
@@ -86,6 +87,7 @@ fn best_of<'a, H: Threads + Sync, G: Gate, L>(
 /// `steps` counts the evaluations of nodes, summed over the candidates: of each whose resize is accepted at
 /// least the nodes that it affects forward, of each whose design is sound at most these and those that it
 /// affects backward, and else none.
+#[tactic(auto, using(crate::proofs::BestIsGreatest::greatest_told))]
 pub fn advise<H: Threads + Sync, G: Gate, L>(
     rt: &H,
     alloc: Global,
@@ -101,6 +103,7 @@ pub fn advise<H: Threads + Sync, G: Gate, L>(
     requires some { 1 ≤ workers }
     requires most { workers ≤ 32 }
     ensures advice { IfOk result (IsAdvice store.now.design kind candidates.now) }
+    ensures greatest { IfOk result (IsGreatestAdvice store.now.design kind candidates.now) }
     ensures rises { steps.old ≤ steps.new }
     ensures counted { OnOk result
         (AreCounted store.now.design (map candidate_eco candidates.now) (steps.new - steps.old)) }
