@@ -1,13 +1,13 @@
 """Shows that tests refuse bodies that the contracts let through, since those name no schedule: check_serial_body.py
 [--seconds N] [TITLE ..]
 
-The bodies: the sessions of a run follow each other, once the first script first, once the last; one thread evaluates a
-level, piece after piece; a session looks for its `await` when it has answered the command before. Tests of
-`shell_tests` and `base_tests` hold a thread at a point until another has come to one of its own. This tool copies the
-repository, and puts each body (those whose TITLE begins with the words that are named; default: all) into the copy. It
-builds and runs the tests without proof (`rt try`), each for at most N seconds (default 300). The status is 0 where the
-tests that are named for a body pass as they stand and fail with it; else 1. Others that fail are printed (`rt try` ends
-a test that takes many steps).
+The bodies: the sessions of a run follow each other, once the first script first, once the last; one thread evaluates
+a level, piece after piece; an engine asks for one thread for each level; a session looks for its `await` when it has
+answered the command before. Tests of `shell_tests` and `base_tests` hold a thread at a point until another has come
+to one of its own, or count who comes to a point. This tool copies the repository, and puts each body (those whose
+TITLE begins with the words that are named; default: all) into the copy. It builds and runs the tests without proof
+(`rt try`), each for at most N seconds (default 300). The status is 0 where the tests that are named for a body pass
+as they stand and fail with it; else 1. Others that fail are printed (`rt try` ends a test that takes many steps).
 """
 import argparse
 import pathlib
@@ -33,14 +33,15 @@ SERIAL = {
     "last script first": f"    let own = {OWN};\n    let mut all = {REST};\n    all.push_reserved(own);\n    all",
 }
 JOIN = ("let (more, found) = join(rt, theirs, ours);", "let found = ours();\n    let more = theirs();")
+WORTH = ("worth_threads(nodes.len(), workers)", "worth_threads(nodes.len(), 1)")
 FIRST_LOOK = (
     "newest = look(rt, who, board, seat, newest, gate)?;",
     "if 0 < at {\n            newest = look(rt, who, board, seat, newest, gate)?;\n        }",
 )
 OPEN = ("/// One look at the newest version in place of the one that is held.\nfn look<",
         "/// One look.\npub(crate) fn look<")
-AHEAD = ("                gate.at(Point::Answered {",
-         "                let held = crate::commands::look(rt, who, board, seat, held, gate)?;\n                "
+AHEAD = ("            gate.at(Point::Answered {",
+         "            let held = crate::commands::look(rt, who, board, seat, held, gate)?;\n            "
          "gate.at(Point::Answered {",)
 
 
@@ -62,6 +63,10 @@ def bodies():
     for title, body in SERIAL.items():
         yield title, {SESSIONS: with_body((TOP / SESSIONS).read_text(), body)}, "shell_tests", GATES
     yield "a level by one thread", {LEVELS: changed((TOP / LEVELS).read_text(), *JOIN)}, "base_tests", ["gates_pieces"]
+    for engine in ("arrival_engine", "required_engine"):
+        source = f"crates/{engine}/src/passes.rt"
+        yield (f"{engine} by one thread", {source: changed((TOP / source).read_text(), *WORTH)}, "shell_tests",
+               ["gates_shared_levels"])
     waits = changed(changed((TOP / COMMANDS).read_text(), *FIRST_LOOK), *OPEN)
     yield "looks ahead", {COMMANDS: waits, STEPS: changed((TOP / STEPS).read_text(),
                                                           *AHEAD)}, "shell_tests", ["gates_looks"]

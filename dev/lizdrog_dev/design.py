@@ -286,14 +286,19 @@ def scripts(netlist):
     return {"load": [], "first": reports[:1], "reports": reports, "eco1": reports + asked[:2], "eco10": reports + asked}
 
 
-def main():
-    if len(sys.argv) != 3 or "--help" in sys.argv:
-        sys.exit(__doc__.strip())
-    folder, cells = pathlib.Path(sys.argv[1]), int(sys.argv[2])
+def write(folder, cells):
+    """Writes the library, the netlist and the constraints of a design of so many cells; gives its netlist."""
     netlist, blocks = build(cells)
     ports = {"clk": "input", "operand": f"input [{INPUTS - 1}:0]", "result": f"output [{blocks - 1}:0]"}
     netlist.write(folder / "bench.v", ports)
     (folder / "bench.lib").write_text(HEAD + "".join(gate(name) for name in GATES) + register() + "}\n")
     (folder / "bench.sdc").write_text(constraints(blocks, 3300))
-    for name, lines in scripts(netlist).items():
+    return netlist
+
+
+def main():
+    if len(sys.argv) != 3 or "--help" in sys.argv:
+        sys.exit(__doc__.strip())
+    folder, cells = pathlib.Path(sys.argv[1]), int(sys.argv[2])
+    for name, lines in scripts(write(folder, cells)).items():
         (folder / f"{name}.eco").write_text("".join(line + "\n" for line in lines))

@@ -330,6 +330,18 @@ class Copies(unittest.TestCase):
         text = "/// One.\npub fn two(a: u64) -> u64\n    ensures { result ≡ a }\n{\n    a\n}\n\nfn short() {}\n"
         self.assertEqual(list(count_copies.functions(text)), [("two", ("fn two(a: u64) -> u64", "{", "a", "}"))])
 
+    def test_a_lemma_is_its_statement_and_its_clauses(self):
+        text = "-- why\npub same : (a : N) → a ≡ a\nsame a = refl\n\nmodule _ (b : N) where\n  one : b ≡ b\n  one = same b\n"
+        found = list(count_copies.lemmas(text + "\n  abbrev pub Two : Type\n  Two = N\n"))
+        same = ("same", True, ("same : (a : N) → a ≡ a", "same a = refl"))
+        self.assertEqual(found, [same, ("one", False, ("one : b ≡ b", "one = same b"))])
+
+    def test_the_crate_below_is_marked_whose_lemma_the_others_could_name(self):
+        uses = {"low": [], "high": ["low"], "beside": []}
+        self.assertEqual(count_copies.marked({"low": True, "high": False}, uses), ["low*", "high"])
+        self.assertEqual(count_copies.marked({"low": False, "high": True}, uses), ["low", "high"])
+        self.assertEqual(count_copies.marked({"low": True, "beside": False}, uses), ["low", "beside"])
+
     def test_help_does_not_count(self):
         status, out, _ = common.tool("count_copies", "--help")
         self.assertEqual(status, 0)

@@ -42,11 +42,6 @@ class Pages(unittest.TestCase):
         self.assertEqual(ran.stderr, "")
         return ran.stdout
 
-    def test_a_generated_run_twice_gives_one_line(self):
-        lines = [common.run(common.PROGRAM, "generate", "7", "4000", "400") for _ in range(2)]
-        self.assertEqual(lines[0][0], 0)
-        self.assertEqual(lines[0], lines[1])
-
     def test_first_page(self):
         """What a run prints; test_live_example.py looks at the prompt."""
         text = re.sub(r"(?m)^\.\./\.\./lizdrog (serve|connect) .*\n", "", (common.TOP / "README.md").read_text())

@@ -7,6 +7,7 @@ mod meetings;
 mod moving;
 mod preparing;
 mod reading;
+mod sharing;
 mod sixteen;
 
 use crate::documents::REGISTERS;
